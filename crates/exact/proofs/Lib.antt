@@ -1,0 +1,2 @@
+-- The laws, each file under its subject.
+pub mod Loop

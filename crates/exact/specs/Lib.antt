@@ -1,0 +1,4 @@
+-- The words that the crates' definitions are written in, and that the bounds need. No pictures here.
+pub mod Loop
+pub mod Double
+pub mod Single

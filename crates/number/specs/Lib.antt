@@ -1,0 +1,8 @@
+-- The definitions of the number tools, a file for each module of src/.
+pub mod Bytes
+pub mod Floor
+pub mod Magnitude
+pub mod Narrow
+pub mod Power
+pub mod Root
+pub mod Wrapping

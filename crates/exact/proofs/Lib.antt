@@ -1,2 +1,3 @@
 -- The laws, each file under its subject.
 pub mod Loop
+pub mod Value

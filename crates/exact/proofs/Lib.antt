@@ -1,3 +1,5 @@
 -- The laws, each file under its subject.
 pub mod Loop
+pub mod Scale
+pub mod Near
 pub mod Value

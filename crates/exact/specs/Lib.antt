@@ -2,3 +2,6 @@
 pub mod Loop
 pub mod Double
 pub mod Single
+pub mod Fraction
+pub mod Surface
+pub mod Blend

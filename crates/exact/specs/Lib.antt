@@ -5,3 +5,4 @@ pub mod Single
 pub mod Fraction
 pub mod Surface
 pub mod Blend
+pub mod Rounds

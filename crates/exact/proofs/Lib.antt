@@ -5,3 +5,5 @@ pub mod Near
 pub mod Value
 pub mod Ulp
 pub mod Signed
+pub mod Magnitude
+pub mod Rounding

@@ -1,0 +1,100 @@
+-- Sizes: a fraction at a scale with one part 0 is a sign and a size, and then |x| ≤ b, |x - y| ≤ e are comparisons of sizes.
+-- Provides: `at-same` (equal fractions stand alike at a scale); `Sized`, `sized-signed`, `sized-same`; `abs-at`, `at-abs-le` (|x| ≤ b, both ways),
+-- `abs-sized`, `abs-same`, `abs-more`; `sized-within`; `within-left`, `within-right`, and `within-zero` (equal fractions). Assumes nothing.
+use mathlib.Core.Path.{_≡_, refl, sym, ap, _∙_, subst}
+use mathlib.Core.List.{List, [], _∷_}
+use mathlib.Core.Logic.{_⊎_, inl, inr, ⊎-elim}
+use mathlib.Core.Bool.{Bool, true, false, cond}
+use Prim.Native.Nat.{ℕ, suc, _+_, _-_, _*_, _≤_, _<_}
+use native.Mathlib.Nat.{eq-of-mul-eq-mul-right, mul-comm, mul-pos}
+use native.Mathlib.Omega.{arith}
+use Rattle.exact.specs.Fraction.{Fraction, over, ratio, frac, _≤F_, _≈_, absF, Within}
+use Rattle.exact.specs.Rounds.{signed}
+use Rattle.exact.proofs.Scale.{At, at-le, le-at, at-eq, eq-at, at-ratio, at-more, over-pos, common}
+use Rattle.exact.proofs.Near.{at-abs, within-at, at-within}
+use Rattle.exact.proofs.Signed.{signed-at}
+
+-- ---- equal fractions stand alike
+pub at-same : {D : ℕ} {x y : Fraction} {p n : ℕ} → x ≈ y → At D x p n → At D y p n
+at-same {D} {x} {y} {p} {n} e X = record {
+  at = eq-of-mul-eq-mul-right (over x) (over-pos x) (y .plus * D + n * over y) (p * over y + y .minus * D)
+      (go (x .plus) (x .minus) (over x) (y .plus) (y .minus) (over y) D p n (e .eq) (X .at));
+}
+  where
+    go : (a b d c f e D p n : ℕ) → a * e + f * d ≡ c * d + b * e → a * D + n * d ≡ p * d + b * D → (c * D + n * e) * d ≡ (p * e + f * D) * d
+    go a b d c f e D p n h k =
+        let h' : (a * e + f * d) * D ≡ (c * d + b * e) * D = ap (λ (z : ℕ). z * D) h in
+        let k' : (a * D + n * d) * e ≡ (p * d + b * D) * e = ap (λ (z : ℕ). z * e) k in
+        omega arith
+
+-- ---- x is a / D, with the sign s
+abbrev pub Sized : ℕ → Fraction → Bool → ℕ → Type 0
+Sized D x s a = At D x (cond s 0 a) (cond s a 0)
+
+pub sized-signed : (s : Bool) (a c : ℕ) → 0 < c → Sized c (signed s a c) s a
+sized-signed true a c C = at-ratio 0 a c C
+sized-signed false a c C = at-ratio a 0 c C
+
+pub sized-same : (s : Bool) (a c : ℕ) {x : Fraction} → 0 < c → signed s a c ≈ x → Sized c x s a
+sized-same s a c C e = at-same e (sized-signed s a c C)
+
+pub sized-more : (s : Bool) (D a k : ℕ) {x : Fraction} → Sized D x s a → Sized (D * k) x s (a * k)
+sized-more true D a k {x} X = subst (λ (z : ℕ). At (D * k) x z (a * k)) (none k) (at-more D k X)
+  where
+    none : (k : ℕ) → 0 * k ≡ 0
+    none k = omega arith
+sized-more false D a k {x} X = subst (λ (z : ℕ). At (D * k) x (a * k) z) (none k) (at-more D k X)
+  where
+    none : (k : ℕ) → 0 * k ≡ 0
+    none k = omega arith
+
+-- ---- |x| ≤ b
+module _ (D : ℕ) (D0 : 0 < D) {x b : Fraction} {p n q m : ℕ} (X : At D x p n) (B : At D b q m) where
+  pub abs-at : absF x ≤F b → (p + m ≤ q + n) × (n + m ≤ q + p)
+  abs-at h = ⊎-elim
+      (λ (a : At D (absF x) p n × (n ≤ p)). let k = le-at D D0 (a .0) B h in let g = a .1 in (omega arith, omega arith))
+      (λ (a : At D (absF x) n p × (p ≤ n)). let k = le-at D D0 (a .0) B h in let g = a .1 in (omega arith, omega arith))
+      (at-abs x X)
+
+  pub at-abs-le : p + m ≤ q + n → n + m ≤ q + p → absF x ≤F b
+  at-abs-le h k = ⊎-elim
+      (λ (a : At D (absF x) p n × (n ≤ p)). at-le D D0 (a .0) B h)
+      (λ (a : At D (absF x) n p × (p ≤ n)). at-le D D0 (a .0) B k)
+      (at-abs x X)
+
+pub abs-sized : (D : ℕ) → 0 < D → (s : Bool) (a : ℕ) {x : Fraction} → Sized D x s a → At D (absF x) a 0
+abs-sized D D0 s a {x} X = ⊎-elim (λ (h : At D (absF x) (cond s 0 a) (cond s a 0) × (cond s a 0 ≤ cond s 0 a)). plus s (h .0) (h .1)) (λ (h : At D (absF x) (cond s a 0) (cond s 0 a) × (cond s 0 a ≤ cond s a 0)). minus s (h .0) (h .1)) (at-abs x X)
+  where
+    zero-here : {x : Fraction} → a ≤ 0 → At D x 0 a → At D x a 0
+    zero-here {x} h X = let z : a ≡ 0 = omega arith in subst (λ (w : ℕ). At D x w 0) (sym z) (subst (λ (w : ℕ). At D x 0 w) z X)
+
+    plus : (s : Bool) → At D (absF x) (cond s 0 a) (cond s a 0) → cond s a 0 ≤ cond s 0 a → At D (absF x) a 0
+    plus true X h = zero-here h X
+    plus false X h = X
+
+    minus : (s : Bool) → At D (absF x) (cond s a 0) (cond s 0 a) → cond s 0 a ≤ cond s a 0 → At D (absF x) a 0
+    minus true X h = X
+    minus false X h = zero-here h X
+
+module _ (x y b : Fraction) where
+  pub abs-same : x ≈ y → absF x ≤F b → absF y ≤F b
+  abs-same e h =
+      common (x ∷ b ∷ [])
+      (λ D D0 A. let k = abs-at D D0 (A .0 .2) (A .1 .0 .2) h in at-abs-le D D0 (at-same e (A .0 .2)) (A .1 .0 .2) (k .0) (k .1))
+
+-- ---- |x - y| ≤ e, for two of one sign
+pub sized-within : (D : ℕ) → 0 < D → (s : Bool) {x y e : Fraction} (a b r : ℕ) → Sized D x s a → Sized D y s b → At D e r 0 → a ≤ b + r → b ≤ a + r → Within x y e
+sized-within D D0 true a b r X Y E h k = at-within D D0 X Y E (omega arith) (omega arith)
+sized-within D D0 false a b r X Y E h k = at-within D D0 X Y E (omega arith) (omega arith)
+
+-- ---- equal fractions are near the same ones
+module _ (x y z e : Fraction) where
+  pub within-left : x ≈ y → Within x z e → Within y z e
+  within-left q h =
+      common (x ∷ z ∷ e ∷ [])
+      (λ D D0 A. let k = within-at D D0 (A .0 .2) (A .1 .0 .2) (A .1 .1 .0 .2) h in at-within D D0 (at-same q (A .0 .2)) (A .1 .0 .2) (A .1 .1 .0 .2) (k .0) (k .1))
+
+  pub within-right : x ≈ y → Within z x e → Within z y e
+  within-right q h =
+      common (x ∷ z ∷ e ∷ [])
+      (λ D D0 A. let k = within-at D D0 (A .1 .0 .2) (A .0 .2) (A .1 .1 .0 .2) h in at-within D D0 (A .1 .0 .2) (at-same q (A .0 .2)) (A .1 .1 .0 .2) (k .0) (k .1))

@@ -7,3 +7,4 @@ pub mod Ulp
 pub mod Signed
 pub mod Magnitude
 pub mod Rounding
+pub mod Rounds

@@ -87,6 +87,13 @@ pub sized-within : (D : ℕ) → 0 < D → (s : Bool) {x y e : Fraction} (a b r 
 sized-within D D0 true a b r X Y E h k = at-within D D0 X Y E (omega arith) (omega arith)
 sized-within D D0 false a b r X Y E h k = at-within D D0 X Y E (omega arith) (omega arith)
 
+-- x is g / L and y is a / c, the error r / (L c E)
+pub near-sized : (s : Bool) (L g c a E r : ℕ) {x y e : Fraction} → 0 < L → 0 < c → 0 < E → Sized L x s g → Sized c y s a → At (L * c * E) e r 0
+    → g * c * E ≤ a * L * E + r → a * L * E ≤ g * c * E + r → Within x y e
+near-sized s L g c a E r {x} {y} L0 C E0 X Y e h k =
+    sized-within (L * c * E) (mul-pos (mul-pos L0 C) E0) s (g * c * E) (a * L * E) r (sized-more s (L * c) (g * c) E (sized-more s L g c X))
+    (sized-more s (L * c) (a * L) E (subst (λ (z : ℕ). Sized z y s (a * L)) (mul-comm c L) (sized-more s c a L Y))) e h k
+
 -- ---- equal fractions are near the same ones
 module _ (x y z e : Fraction) where
   pub within-left : x ≈ y → Within x z e → Within y z e

@@ -8,3 +8,4 @@ pub mod Signed
 pub mod Magnitude
 pub mod Rounding
 pub mod Rounds
+pub mod Monotone

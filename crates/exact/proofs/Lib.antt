@@ -9,3 +9,4 @@ pub mod Magnitude
 pub mod Rounding
 pub mod Rounds
 pub mod Monotone
+pub mod Quotient

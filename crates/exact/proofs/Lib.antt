@@ -10,3 +10,4 @@ pub mod Rounding
 pub mod Rounds
 pub mod Monotone
 pub mod Quotient
+pub mod Operations

@@ -1,6 +1,6 @@
--- Sizes: a fraction at a scale with one part 0 is a sign and a size, and then |x| ≤ b, |x - y| ≤ e are comparisons of sizes.
--- Provides: `at-same` (equal fractions stand alike at a scale); `Sized`, `sized-signed`, `sized-same`; `abs-at`, `at-abs-le` (|x| ≤ b, both ways),
--- `abs-sized`, `abs-same`, `abs-more`; `sized-within`; `within-left`, `within-right`, and `within-zero` (equal fractions). Assumes nothing.
+-- Sizes: a fraction at a scale with one part 0 is a sign and a size, and then |x| ≤ b and, for one sign, |x - y| ≤ e are comparisons of sizes.
+-- Provides: `at-same` (equal fractions stand alike at a scale); `Sized`, `sized-signed`, `sized-same`, `sized-more`; `abs-sized`, `abs-alike`;
+-- `sized-within`, `near-sized`. Assumes nothing.
 use mathlib.Core.Path.{_≡_, refl, sym, ap, _∙_, subst}
 use mathlib.Core.List.{List, [], _∷_}
 use mathlib.Core.Logic.{_⊎_, inl, inr, ⊎-elim}
@@ -48,20 +48,7 @@ sized-more false D a k {x} X = subst (λ (z : ℕ). At (D * k) x (a * k) z) (non
     none : (k : ℕ) → 0 * k ≡ 0
     none k = omega arith
 
--- ---- |x| ≤ b
-module _ (D : ℕ) (D0 : 0 < D) {x b : Fraction} {p n q m : ℕ} (X : At D x p n) (B : At D b q m) where
-  pub abs-at : absF x ≤F b → (p + m ≤ q + n) × (n + m ≤ q + p)
-  abs-at h = ⊎-elim
-      (λ (a : At D (absF x) p n × (n ≤ p)). let k = le-at D D0 (a .0) B h in let g = a .1 in (omega arith, omega arith))
-      (λ (a : At D (absF x) n p × (p ≤ n)). let k = le-at D D0 (a .0) B h in let g = a .1 in (omega arith, omega arith))
-      (at-abs x X)
-
-  pub at-abs-le : p + m ≤ q + n → n + m ≤ q + p → absF x ≤F b
-  at-abs-le h k = ⊎-elim
-      (λ (a : At D (absF x) p n × (n ≤ p)). at-le D D0 (a .0) B h)
-      (λ (a : At D (absF x) n p × (p ≤ n)). at-le D D0 (a .0) B k)
-      (at-abs x X)
-
+-- ---- |x|
 pub abs-sized : (D : ℕ) → 0 < D → (s : Bool) (a : ℕ) {x : Fraction} → Sized D x s a → At D (absF x) a 0
 abs-sized D D0 s a {x} X = ⊎-elim (λ (h : At D (absF x) (cond s 0 a) (cond s a 0) × (cond s a 0 ≤ cond s 0 a)). plus s (h .0) (h .1)) (λ (h : At D (absF x) (cond s a 0) (cond s 0 a) × (cond s 0 a ≤ cond s a 0)). minus s (h .0) (h .1)) (at-abs x X)
   where
@@ -76,11 +63,14 @@ abs-sized D D0 s a {x} X = ⊎-elim (λ (h : At D (absF x) (cond s 0 a) (cond s 
     minus true X h = X
     minus false X h = zero-here h X
 
-module _ (x y b : Fraction) where
-  pub abs-same : x ≈ y → absF x ≤F b → absF y ≤F b
-  abs-same e h =
-      common (x ∷ b ∷ [])
-      (λ D D0 A. let k = abs-at D D0 (A .0 .2) (A .1 .0 .2) h in at-abs-le D D0 (at-same e (A .0 .2)) (A .1 .0 .2) (k .0) (k .1))
+pub abs-alike : (x y : Fraction) → x ≈ y → absF x ≤F absF y
+abs-alike x y e = common (x ∷ []) (λ D D0 A. go D D0 (at-abs x (A .0 .2)) (at-abs y (at-same e (A .0 .2))))
+  where
+    go : (D : ℕ) → 0 < D → {p n : ℕ} → (At D (absF x) p n × (n ≤ p)) ⊎ (At D (absF x) n p × (p ≤ n)) → (At D (absF y) p n × (n ≤ p)) ⊎ (At D (absF y) n p × (p ≤ n)) → absF x ≤F absF y
+    go D D0 (inl a) (inl b) = at-le D D0 (a .0) (b .0) (omega arith)
+    go D D0 (inl a) (inr b) = let h = a .1 in let k = b .1 in at-le D D0 (a .0) (b .0) (omega arith)
+    go D D0 (inr a) (inl b) = let h = a .1 in let k = b .1 in at-le D D0 (a .0) (b .0) (omega arith)
+    go D D0 (inr a) (inr b) = at-le D D0 (a .0) (b .0) (omega arith)
 
 -- ---- |x - y| ≤ e, for two of one sign
 pub sized-within : (D : ℕ) → 0 < D → (s : Bool) {x y e : Fraction} (a b r : ℕ) → Sized D x s a → Sized D y s b → At D e r 0 → a ≤ b + r → b ≤ a + r → Within x y e
@@ -93,15 +83,3 @@ pub near-sized : (s : Bool) (L g c a E r : ℕ) {x y e : Fraction} → 0 < L →
 near-sized s L g c a E r {x} {y} L0 C E0 X Y e h k =
     sized-within (L * c * E) (mul-pos (mul-pos L0 C) E0) s (g * c * E) (a * L * E) r (sized-more s (L * c) (g * c) E (sized-more s L g c X))
     (sized-more s (L * c) (a * L) E (subst (λ (z : ℕ). Sized z y s (a * L)) (mul-comm c L) (sized-more s c a L Y))) e h k
-
--- ---- equal fractions are near the same ones
-module _ (x y z e : Fraction) where
-  pub within-left : x ≈ y → Within x z e → Within y z e
-  within-left q h =
-      common (x ∷ z ∷ e ∷ [])
-      (λ D D0 A. let k = within-at D D0 (A .0 .2) (A .1 .0 .2) (A .1 .1 .0 .2) h in at-within D D0 (at-same q (A .0 .2)) (A .1 .0 .2) (A .1 .1 .0 .2) (k .0) (k .1))
-
-  pub within-right : x ≈ y → Within z x e → Within z y e
-  within-right q h =
-      common (x ∷ z ∷ e ∷ [])
-      (λ D D0 A. let k = within-at D D0 (A .1 .0 .2) (A .0 .2) (A .1 .1 .0 .2) h in at-within D D0 (A .1 .0 .2) (at-same q (A .0 .2)) (A .1 .1 .0 .2) (k .0) (k .1))

@@ -21,7 +21,7 @@ use Rattle.exact.proofs.Scale.{At, at-le, le-at, at-ratio}
 use Rattle.exact.proofs.Near.{le-refl, eq-le, eq-sym, eq-trans, le-antisym}
 use Rattle.exact.proofs.Ulp.{grid-mono, grid-zero}
 use Rattle.exact.proofs.Signed.{Lower, Level, le-signed, eq-signed}
-use Rattle.exact.proofs.Magnitude.{Sized, sized-same, sized-more, abs-sized, abs-same}
+use Rattle.exact.proofs.Magnitude.{Sized, sized-same, sized-more, abs-sized, abs-alike}
 use Rattle.exact.proofs.Rounding.{round-under, round-finite, round-sized, round-fixed, round-own}
 use Rattle.exact.proofs.Rounds.{rounds-self, prec-pos}
 
@@ -169,7 +169,7 @@ module _ {f : Format} {r : Float} {X : Fraction} (R : Rounds f r X) (y : Float) 
   pub rounds-exact : X ≈ value y → T (finite r) × (value r ≈ value y)
   rounds-exact e =
       let own = rounds-own f y p u in
-      let t = rounds-finite R own u (abs-same (value y) X (absF (value y)) (eq-sym X (value y) e) (le-refl (absF (value y)) (value y))) in
+      let t = rounds-finite R own u (abs-alike X (value y) e) in
       (t, rounds-value R own t u e)
 
 zero-fits : (f : Format) → T (fits f (fin false 0 (pos 0)))

@@ -5,7 +5,7 @@
 use mathlib.Core.Path.{_≡_, refl, sym, ap, _∙_, subst}
 use mathlib.Core.Bool.{Bool, true, false, not, _&&_, Bool·beq, cond}
 use Prim.Native.Nat.{ℕ, zero, suc, _+_, _-_, _*_, _^_, _≤_, _<_}
-use native.Mathlib.Nat.{mul-comm, mul-pos, le-of-lt, lt-irrefl, zero-mul}
+use native.Mathlib.Nat.{mul-comm, mul-pos, lt-irrefl, zero-mul, sub-zero}
 use native.Mathlib.Omega.{arith}
 use lib.IntN.{ℤ}
 use lib.Dec.{T, ltb, eqb, ltb→lt, nltb→le, eqb→eq}
@@ -18,7 +18,7 @@ use Rattle.exact.proofs.Scale.{At, lt-at, at-eq, at-ratio, at-add, at-m
 use Rattle.exact.proofs.Near.{eq-le, add-same}
 use Rattle.exact.proofs.Signed.{neg-value, neg-finite}
 use Rattle.exact.proofs.Magnitude.{Sized, sized-signed, sized-more, abs-sized}
-use Rattle.exact.proofs.Quotient.{at-div-pos, at-div-neg}
+use Rattle.exact.proofs.Quotient.{at-div, at-div-neg}
 use Rattle.exact.proofs.Rounds.{rounds-along, rounds-close}
 
 -- ---- what `round` is handed, against the exact result at its scale
@@ -48,6 +48,13 @@ sum-rounds f false a true b c C {x} {y} X Y = go (ltb a b) (ltb→lt a b) (nltb�
 own : (s : Bool) (m : ℕ) (e : ℤ) → Sized (down e) (value (fin s m e)) s (m * up e)
 own s m e = sized-signed s (m * up e) (down e) (down-pos e)
 
+-- both at the scale of both denominators
+left : (s : Bool) (m : ℕ) (e d : ℤ) → Sized (down e * down d) (value (fin s m e)) s (m * up e * down d)
+left s m e d = sized-more s (down e) (m * up e) (down d) (own s m e)
+
+right : (t : Bool) (n : ℕ) (d e : ℤ) → Sized (down e * down d) (value (fin t n d)) t (n * up d * down e)
+right t n d e = subst (λ (z : ℕ). Sized z (value (fin t n d)) t (n * up d * down e)) (mul-comm (down d) (down e)) (left t n d e)
+
 pub add-rounds : (f : Format) (x y : Float) → T (finite x) → T (finite y) → Rounds f (add f x y) (value x +F value y)
 unfolding add
 add-rounds f nan y p q = absurd p
@@ -55,8 +62,7 @@ add-rounds f (inf s) y p q = absurd p
 add-rounds f (fin s m e) nan p q = absurd q
 add-rounds f (fin s m e) (inf t) p q = absurd q
 add-rounds f (fin s m e) (fin t n d) p q =
-    sum-rounds f s (m * up e * down d) t (n * up d * down e) (down e * down d) (mul-pos (down-pos e) (down-pos d)) (sized-more s (down e) (m * up e) (down d) (own s m e))
-    (subst (λ (z : ℕ). Sized z (value (fin t n d)) t (n * up d * down e)) (mul-comm (down d) (down e)) (sized-more t (down d) (n * up d) (down e) (own t n d)))
+    sum-rounds f s (m * up e * down d) t (n * up d * down e) (down e * down d) (mul-pos (down-pos e) (down-pos d)) (left s m e d) (right t n d e)
 
 pub sub-rounds : (f : Format) (x y : Float) → T (finite x) → T (finite y) → Rounds f (sub f x y) (value x -F value y)
 unfolding sub _-F_
@@ -79,22 +85,17 @@ mul-rounds f (fin s m e) (inf t) p q = absurd q
 mul-rounds f (fin s m e) (fin t n d) p q = product-rounds f s (m * up e) (down e) t (n * up d) (down d) (down-pos e) (down-pos d) (own s m e) (own t n d)
 
 -- ---- the quotient
-scaled : (b c : ℕ) → c * (b - 0) ≡ b * c
-scaled b c = ap (λ (z : ℕ). c * z) (same b) ∙ mul-comm c b
+quotient-rounds : (f : Format) (s : Bool) (a : ℕ) (t : Bool) (b D : ℕ) → 0 < b → {x y : Fraction} → Sized D x s a → Sized D y t b → Rounds f (round f (unlike s t) a b) (x /F y)
+quotient-rounds f s a t b D B {x} {y} X Y = go s t X Y
   where
-    same : (b : ℕ) → b - 0 ≡ b
-    same b = omega arith
+    whole : (p n : ℕ) → At (b - 0) (x /F y) p n → At b (x /F y) p n
+    whole p n Z = subst (λ (z : ℕ). At z (x /F y) p n) (sub-zero b) Z
 
-quotient-rounds : (f : Format) (s : Bool) (a c : ℕ) (t : Bool) (b d : ℕ) → 0 < c → 0 < b → (x y : Fraction) → Sized c x s a → Sized d y t b
-    → Rounds f (round f (unlike s t) (a * d) (b * c)) (x /F y)
-quotient-rounds f true a c true b d C B x y X Y =
-    of-round f false (a * d) (b * c) (mul-pos B C) (a * d) (0 * d) (subst (λ (z : ℕ). At z (x /F y) (a * d) (0 * d)) (scaled b c) (at-div-neg x y X Y B)) (omega arith)
-quotient-rounds f false a c true b d C B x y X Y =
-    of-round f true (a * d) (b * c) (mul-pos B C) (0 * d) (a * d) (subst (λ (z : ℕ). At z (x /F y) (0 * d) (a * d)) (scaled b c) (at-div-neg x y X Y B)) (omega arith)
-quotient-rounds f true a c false b d C B x y X Y =
-    of-round f true (a * d) (b * c) (mul-pos B C) (0 * d) (a * d) (subst (λ (z : ℕ). At z (x /F y) (0 * d) (a * d)) (scaled b c) (at-div-pos x y X Y B)) (omega arith)
-quotient-rounds f false a c false b d C B x y X Y =
-    of-round f false (a * d) (b * c) (mul-pos B C) (a * d) (0 * d) (subst (λ (z : ℕ). At z (x /F y) (a * d) (0 * d)) (scaled b c) (at-div-pos x y X Y B)) (omega arith)
+    go : (s t : Bool) → Sized D x s a → Sized D y t b → Rounds f (round f (unlike s t) a b) (x /F y)
+    go true true X Y = of-round f false a b B a 0 (whole a 0 (at-div-neg X Y B)) refl
+    go false true X Y = of-round f true a b B 0 a (whole 0 a (at-div-neg X Y B)) refl
+    go true false X Y = of-round f true a b B 0 a (whole 0 a (at-div X Y B)) refl
+    go false false X Y = of-round f false a b B a 0 (whole a 0 (at-div X Y B)) refl
 
 -- a divisor that is not 0 has digits
 digits : (t : Bool) (n : ℕ) (d : ℤ) → frac 0 1 <F absF (value (fin t n d)) → 0 < n * up d
@@ -124,7 +125,8 @@ div-rounds f (fin s m e) (fin t n d) p q h = go (eqb n 0) (eqb→eq n 0)
 
     go : (z : Bool) → (T z → n ≡ 0) → Rounds f (cond z (cond (eqb m 0) nan (inf (unlike s t))) (round f (unlike s t) (m * up e * down d) (n * up d * down e))) (value (fin s m e) /F value (fin t n d))
     go true k = absurd (lt-irrefl 0 (subst (λ (z : ℕ). 0 < z) (ap (λ (z : ℕ). z * up d) (k tt) ∙ zero-mul (up d)) B))
-    go false k = quotient-rounds f s (m * up e) (down e) t (n * up d) (down d) (down-pos e) B (value (fin s m e)) (value (fin t n d)) (own s m e) (own t n d)
+    go false k =
+        quotient-rounds f s (m * up e * down d) t (n * up d * down e) (down e * down d) (mul-pos B (down-pos e)) (left s m e d) (right t n d e)
 
 -- ---- an operation whose exact result is at most 2 ^ K units in size
 module _ (f : Format) (x y : Float) (p : T (finite x)) (q : T (finite y)) (K : ℕ) (top : K ≤ low f + emax f) where

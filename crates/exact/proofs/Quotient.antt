@@ -1,5 +1,5 @@
--- A quotient of fractions at a scale: x / y is (p - n) E / (D (q - m)) where x is (p - n) / D and y is (q - m) / E, with the signs turned for
--- a y below 0. Provides: `at-move` (from one scale to another), `at-div-pos`, `at-div-neg`. Assumes nothing.
+-- A quotient of fractions at a scale: x / y is (p - n) / (q - m) where x is (p - n) / D and y is (q - m) / D, with the signs turned for a y
+-- below 0. Provides: `at-move` (from one scale to another), `at-div`, `at-div-neg`. Assumes nothing.
 use mathlib.Core.Path.{_≡_, sym, ap, _∙_, subst}
 use mathlib.Core.Bool.{Bool, true, false, not, cond}
 use Prim.Native.Nat.{ℕ, suc, _+_, _-_, _*_, _≤_, _<_}
@@ -46,49 +46,53 @@ apart c f d E q m h k e =
 spare : (a b : ℕ) → b < a → 0 < a - b
 spare a b h = omega arith
 
--- the two cross products of x / y
-crossed : (a b d D p n e E v w : ℕ) → a * D + n * d ≡ p * d + b * D → w * E ≡ v * e → a * e * (D * v) + n * E * (d * w) ≡ p * E * (d * w) + b * e * (D * v)
-crossed a b d D p n e E v w h k =
-    let h' : (a * D + n * d) * (v * e) ≡ (p * d + b * D) * (v * e) = times (v * e) h in
-    let k' : w * E * (n * d) ≡ v * e * (n * d) = times (n * d) k in
-    let k'' : w * E * (p * d) ≡ v * e * (p * d) = times (p * d) k in
+-- the two cross products of x / y, with v = q - m and w the divisor's own numerator
+crossed : (a b d D p n e v w : ℕ) → a * D + n * d ≡ p * d + b * D → w * D ≡ v * e → a * e * v + n * (d * w) ≡ p * (d * w) + b * e * v
+crossed a b d D p n e v w h k =
+    let h' : (a * D + n * d) * w ≡ (p * d + b * D) * w = times w h in
+    let k' : w * D * a ≡ v * e * a = times a k in
+    let k'' : w * D * b ≡ v * e * b = times b k in
     omega arith
 
 turned : (a b d D p n : ℕ) → a * D + n * d ≡ p * d + b * D → b * D + p * d ≡ n * d + a * D
 turned a b d D p n h = omega arith
 
-module _ {D E : ℕ} (x y : Fraction) {p n q m : ℕ} (X : At D x p n) (Y : At E y q m) where
-  pub at-div-pos : m < q → At (D * (q - m)) (x /F y) (p * E) (n * E)
+module _ {D : ℕ} {x y : Fraction} {p n q m : ℕ} (X : At D x p n) (Y : At D y q m) where
+  abbrev By : Bool → Fraction
+  By t = cond t (ratio (x .plus * over y) (x .minus * over y) (over x * (y .plus - y .minus))) (ratio (x .minus * over y) (x .plus * over y) (over x * (y .minus - y .plus)))
+
+  pub at-div : m < q → At (q - m) (x /F y) p n
   unfolding _/F_
-  at-div-pos h = go (ltb (y .minus) (y .plus)) (nltb→le (y .minus) (y .plus))
+  at-div h = go (ltb (y .minus) (y .plus)) (nltb→le (y .minus) (y .plus))
     where
       l : y .minus < y .plus
-      l = above (y .plus) (y .minus) (over y) E q m (over-pos y) (Y .at) h
+      l = above (y .plus) (y .minus) (over y) D q m (over-pos y) (Y .at) h
 
-      go : (t : Bool) → (T (not t) → y .plus ≤ y .minus)
-          → At (D * (q - m)) (cond t (ratio (x .plus * over y) (x .minus * over y) (over x * (y .plus - y .minus))) (ratio (x .minus * over y) (x .plus * over y) (over x * (y .minus - y .plus)))) (p * E) (n * E)
+      go : (t : Bool) → (T (not t) → y .plus ≤ y .minus) → At (q - m) (By t) p n
       go true k =
           let w = over x * (y .plus - y .minus) in
           let w0 : 0 < w = mul-pos (over-pos x) (spare (y .plus) (y .minus) l) in
-          at-move w (D * (q - m)) (x .plus * over y) (x .minus * over y) (p * E) (n * E) w0
-          (crossed (x .plus) (x .minus) (over x) D p n (over y) E (q - m) (y .plus - y .minus) (X .at) (apart (y .plus) (y .minus) (over y) E q m l h (Y .at)))
+          at-move w (q - m) (x .plus * over y) (x .minus * over y) p n w0
+          (crossed (x .plus) (x .minus) (over x) D p n (over y) (q - m) (y .plus - y .minus) (X .at) (apart (y .plus) (y .minus) (over y) D q m l h (Y .at)))
           (at-ratio (x .plus * over y) (x .minus * over y) w w0)
       go false k = absurd (not-le-of-lt l (k tt))
 
-  pub at-div-neg : q < m → At (D * (m - q)) (x /F y) (n * E) (p * E)
+  pub at-div-neg : q < m → At (m - q) (x /F y) n p
   unfolding _/F_
   at-div-neg h = go (ltb (y .minus) (y .plus)) (ltb→lt (y .minus) (y .plus))
     where
-      l : y .plus < y .minus
-      l = above (y .minus) (y .plus) (over y) E m q (over-pos y) (turned (y .plus) (y .minus) (over y) E q m (Y .at)) h
+      Y' : y .minus * D + q * over y ≡ m * over y + y .plus * D
+      Y' = turned (y .plus) (y .minus) (over y) D q m (Y .at)
 
-      go : (t : Bool) → (T t → y .minus < y .plus)
-          → At (D * (m - q)) (cond t (ratio (x .plus * over y) (x .minus * over y) (over x * (y .plus - y .minus))) (ratio (x .minus * over y) (x .plus * over y) (over x * (y .minus - y .plus)))) (n * E) (p * E)
+      l : y .plus < y .minus
+      l = above (y .minus) (y .plus) (over y) D m q (over-pos y) Y' h
+
+      go : (t : Bool) → (T t → y .minus < y .plus) → At (m - q) (By t) n p
       go true k = absurd (not-le-of-lt (k tt) (le-of-lt l))
       go false k =
           let w = over x * (y .minus - y .plus) in
           let w0 : 0 < w = mul-pos (over-pos x) (spare (y .minus) (y .plus) l) in
-          at-move w (D * (m - q)) (x .minus * over y) (x .plus * over y) (n * E) (p * E) w0
-          (crossed (x .minus) (x .plus) (over x) D n p (over y) E (m - q) (y .minus - y .plus) (turned (x .plus) (x .minus) (over x) D p n (X .at))
-          (apart (y .minus) (y .plus) (over y) E m q l h (turned (y .plus) (y .minus) (over y) E q m (Y .at))))
+          at-move w (m - q) (x .minus * over y) (x .plus * over y) n p w0
+          (crossed (x .minus) (x .plus) (over x) D n p (over y) (m - q) (y .minus - y .plus) (turned (x .plus) (x .minus) (over x) D p n (X .at))
+          (apart (y .minus) (y .plus) (over y) D m q l h Y'))
           (at-ratio (x .minus * over y) (x .plus * over y) w w0)

@@ -17,7 +17,7 @@ use Rattle.exact.specs.Rounds.{signed, Rounds, Close, power, half-ulp}
 use Rattle.exact.proofs.Scale.{At, at-le, le-at, at-ratio, at-add, at-mul, at-more}
 use Rattle.exact.proofs.Near.{eq-trans}
 use Rattle.exact.proofs.Ulp.{grid-under, grid-sharp, grid-relative, grid-normal}
-use Rattle.exact.proofs.Magnitude.{Sized, sized-same, sized-more, abs-at, abs-sized, near-sized}
+use Rattle.exact.proofs.Magnitude.{Sized, sized-same, sized-more, abs-sized, near-sized}
 use Rattle.exact.proofs.Rounding.{round-finite, round-sized}
 
 pub rounds-self : (f : Format) (s : Bool) (a c : ℕ) → 0 < c → Rounds f (round f s a c) (signed s a c)

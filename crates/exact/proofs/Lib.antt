@@ -11,3 +11,4 @@ pub mod Rounds
 pub mod Monotone
 pub mod Quotient
 pub mod Operations
+pub mod Bounds

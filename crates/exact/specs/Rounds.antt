@@ -2,9 +2,9 @@
 -- exact result so, and which a and c it wrote does not matter. Assumes nothing.
 use Prim.Native.Nat.{ℕ, _+_, _-_, _*_, _^_, _<_}
 use mathlib.Core.Path.{_≡_}
-use mathlib.Core.Bool.{Bool, cond}
-use lib.Dec.{T}
-use lib.Ieee.{Float, Format, prec, low, round}
+use mathlib.Core.Bool.{Bool, _&&_, cond}
+use lib.Dec.{T, leb, ltb, eqb}
+use lib.Ieee.{Float, Format, prec, emax, low, round}
 use lib.Ieee.Scale.{finite}
 use Rattle.exact.specs.Fraction.{Fraction, ratio, frac, value, _≤F_, _≈_, absF, Within}
 
@@ -33,3 +33,8 @@ power f K = frac (2 ^ K) (2 ^ low f)
 
 abbrev pub half-ulp : Format → ℕ → Fraction
 half-ulp f K = frac (2 ^ (K - prec f)) (2 ^ low f * 2)
+
+-- b / d is 2 ^ K units, and e / g is half an ulp below it at least: a test of closed numbers, for the machine to compute
+abbrev pub fine : Format → ℕ → ℕ → ℕ → ℕ → ℕ → Bool
+fine f K b d e g =
+    leb K (low f + emax f) && (ltb 0 d && (ltb 0 g && (eqb (b * 2 ^ low f) (2 ^ K * d) && leb (2 ^ (K - prec f) * g) (e * (2 ^ low f * 2)))))

@@ -1,2 +1,3 @@
 -- The laws, each file under its subject.
+pub mod Held
 pub mod Loop

@@ -1,0 +1,2 @@
+-- The laws of the number tools' definitions, each file under its subject.
+pub mod MagnitudeLaws

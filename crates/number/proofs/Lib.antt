@@ -1,2 +1,3 @@
 -- The laws of the number tools' definitions, each file under its subject.
+pub mod BytesLaws
 pub mod MagnitudeLaws

@@ -172,3 +172,39 @@ put-comm (suc k) l s at n j m h =
     later : (j + l ≤ at) ⊎ (at + suc k ≤ j) → (j + l ≤ at + 1) ⊎ (at + 1 + k ≤ j)
     later (inl h) = inl (omega arith)
     later (inr h) = inr (omega arith)
+
+-- ---- four bytes, as straight-line code reads and stores them
+
+pub number-four : (s : List ℕ) (at : ℕ) → getD s at 0 + 256 * (getD s (at + 1) 0 + 256 * (getD s (at + 2) 0 + 256 * getD s (at + 3) 0)) ≡ numberAt 4 s at
+unfolding numberAt
+number-four s at =
+    λ i.
+        getD s at 0 + 256 * (getD s (at + 1) 0 + 256 * (getD s (two at i) 0 + 256 * last (getD s (three at i) 0) i))
+  where
+    two : (at : ℕ) → at + 2 ≡ at + 1 + 1
+    two at = omega arith
+
+    three : (at : ℕ) → at + 3 ≡ at + 1 + 1 + 1
+    three at = omega arith
+
+    last : (n : ℕ) → n ≡ n + 256 * 0
+    last n = omega arith
+
+pub put-four : (s : List ℕ) (at n : ℕ) → n < 2 ^ 32
+    → set (set (set (set s at (n % 256)) (at + 1) (n / 256 % 256)) (at + 2) (n / 65536 % 256)) (at + 3) (n / 16777216) ≡ putNumber 4 s at n
+unfolding putNumber
+put-four s at n h =
+    λ i.
+        set (set (set (set s at (n % 256)) (at + 1) (n / 256 % 256)) (two at i) (third n i % 256)) (three at i) (fourth n h i)
+  where
+    two : (at : ℕ) → at + 2 ≡ at + 1 + 1
+    two at = omega arith
+
+    three : (at : ℕ) → at + 3 ≡ at + 1 + 1 + 1
+    three at = omega arith
+
+    third : (n : ℕ) → n / 65536 ≡ n / 256 / 256
+    third n = omega arith
+
+    fourth : (n : ℕ) → n < 2 ^ 32 → n / 16777216 ≡ n / 256 / 256 / 256 % 256
+    fourth n h = omega arith

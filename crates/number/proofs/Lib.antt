@@ -1,3 +1,4 @@
 -- The laws of the number tools' definitions, each file under its subject.
 pub mod BytesLaws
+pub mod FloatBits
 pub mod MagnitudeLaws

@@ -1,18 +1,19 @@
 -- The laws of `abs`: it is 0 - x up to zero and x above it, it changes nothing a second time, and what is known of x
 -- is known of it. By the cases of a value. Assumes nothing.
 use mathlib.Core.Path.{_≡_, refl, sym, ap, _∙_, subst}
-use mathlib.Core.Bool.{Bool, true, false, not, _&&_, _||_, false≢true, true≢false}
-use Prim.Native.Nat.{ℕ, zero, suc, _+_, _*_, _<_, _≤_}
-use native.Mathlib.Nat.{mul-pos, zero-lt-suc, zero-mul, mul-one}
+use mathlib.Core.Bool.{Bool, true, false, not, _&&_, _||_, cond, false≢true, true≢false}
+use Prim.Native.Nat.{ℕ, zero, suc, _+_, _-_, _*_, _/_, _%_, _<_}
+use native.Mathlib.Nat.{mul-pos, zero-lt-suc, zero-mul, mod-lt, mod-eq-of-lt, mod-mod-of-dvd, dvd-mul-right}
 use native.Mathlib.Omega.{arith}
 use lib.IntN.{ℤ, pos}
-use lib.Dec.{T, ltb, eqb}
-use lib.Ieee.{Float, nan, inf, fin, Format, binary32, binary64, up, down, round, neg, sum, add, sub, lt, le, eq, ne, fits, isNan, ofBits}
+use lib.Dec.{T, ltb, leb, eqb}
+use lib.Pow.{pow-pos}
+use lib.Ieee.{Float, nan, inf, fin, Format, binary32, binary64, up, down, round, neg, sum, add, sub, lt, le, eq, ne, fits, isNan, prec, low, odd, hid, ones, top, ofFields, ofBits}
 use lib.Ieee.Compare.{differs-from-itself, nan-differs}
 use lib.Ieee.Exact.{HasValue}
 use lib.Ieee.Fits.{up-pos, down-pos}
 use lib.Ieee.Scale.{finite}
-use borrow.Author.Tests.{lt-ltb, le-ltb, ne-eqb, eq-eqb}
+use borrow.Author.Tests.{lt-ltb, le-ltb, lt-leb, ne-eqb}
 use Rattle.exact.proofs.Held.{round-held, round-zero, zero-exp}
 use Rattle.number.specs.Magnitude.{abs}
 
@@ -112,3 +113,32 @@ unfolding isNan
 nan-test nan = nan-differs
 nan-test (inf s) = number (inf s) refl
 nan-test (fin s m e) = number (fin s m e) refl
+
+-- ---- the pattern with its sign's bit taken off
+
+odd-unsigned : (d : ℕ) (s : Bool) (q k l : ℕ) → abs (odd d s q k l) ≡ odd d false q k l
+unfolding abs odd
+odd-unsigned d s zero k l = refl
+odd-unsigned d s (suc q) k l = refl
+
+picked-unsigned : (a b s : Bool) (v w : Float) → abs v ≡ w → abs (cond a (cond b (inf s) nan) v) ≡ cond a (cond b (inf false) nan) w
+unfolding abs
+picked-unsigned true true s v w h = refl
+picked-unsigned true false s v w h = refl
+picked-unsigned false b s v w h = h
+
+fields-unsigned : (f : Format) (s : Bool) (x t : ℕ) → abs (ofFields f s x t) ≡ ofFields f false x t
+unfolding ofFields
+fields-unsigned f s zero t = odd-unsigned (prec f) s t 0 (low f)
+fields-unsigned f s (suc x) t =
+    picked-unsigned (eqb (suc x) (ones f)) (eqb t 0) s (odd (prec f) s (hid f + t) x (low f)) (odd (prec f) false (hid f + t) x (low f)) (odd-unsigned (prec f) s (hid f + t) x (low f))
+
+pub abs-bits : (f : Format) (n : ℕ) → abs (ofBits f n) ≡ ofBits f (n % top f)
+unfolding ofBits
+abs-bits f n =
+    fields-unsigned f (leb (top f) n) (n % top f / hid f) (n % hid f)
+    ∙ ap (λ (b : Bool). ofFields f b (n % top f / hid f) (n % hid f)) (sym (lt-leb (top f) (n % top f) (mod-lt n (top-pos f))))
+    ∙ (λ i. ofFields f (leb (top f) (n % top f)) (sym (mod-eq-of-lt (mod-lt n (top-pos f))) i / hid f) (sym (mod-mod-of-dvd (hid f) n (dvd-mul-right (hid f) (suc (ones f)))) i))
+  where
+    top-pos : (f : Format) → 0 < top f
+    top-pos f = mul-pos (pow-pos (prec f - 1)) (zero-lt-suc (ones f))

@@ -1,16 +1,23 @@
 // Numbers and floats in bytes, the lowest byte first, at any place of a slice. The compiler joins the byte accesses
 // into one load or store. Assumes nothing.
 ghost use mathlib.Core.Path.{_≡_};
-ghost use Prim.Native.Nat.{_+_, _≤_};
+ghost use Prim.Native.Nat.{_+_, _*_, _≤_};
 ghost use lib.ListN.{length};
 ghost use lib.Ieee.{binary32, binary64, ofBits, toBits};
 ghost use Rattle.number.specs.Bytes.{u32At, u64At, f32At, f64At, putU32, putU64, putF32, putF64, within};
+
+// Four bytes as a number, the lowest first.
+fn joined(b0: u8, b1: u8, b2: u8, b3: u8) -> u32
+    ensures { λ r. ⌜ r ≡ b0 + 256 * (b1 + 256 * (b2 + 256 * b3)) ⌝ }
+{
+    b0 as u32 + b1 as u32 * 256 + b2 as u32 * 65536 + b3 as u32 * 16777216
+}
 
 pub fn u32_at(s: &[u8], at: usize) -> u32
     requires { ⌜ at + 4 ≤ length (now s) ⌝ }
     ensures { λ r. ⌜ r ≡ u32At (now (s .entry)) at ⌝ }
 {
-    s[at] as u32 + s[at + 1] as u32 * 256 + s[at + 2] as u32 * 65536 + s[at + 3] as u32 * 16777216
+    joined(s[at], s[at + 1], s[at + 2], s[at + 3])
 }
 
 pub fn u64_at(s: &[u8], at: usize) -> u64

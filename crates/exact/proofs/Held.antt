@@ -74,8 +74,8 @@ own f s m e t =
     let j = p .0 in
     let over : suc m * up e * 2 ^ low f < 2 ^ suc (emax f) * down e * 2 ^ low f = mul-lt-mul-of-pos-right (h .1 .1) (pow-pos (low f)) in
     let room : 2 ^ suc (emax f) * down e * 2 ^ low f ≡ 2 ^ (low f + suc (emax f)) * down e =
-        mul-right-comm (2 ^ suc (emax f)) (down e) (2 ^ low f)
-        ∙ ap (λ (x : ℕ). x * down e) (mul-comm (2 ^ suc (emax f)) (2 ^ low f) ∙ sym (pow-add 2 (low f) (suc (emax f)))) in
+    mul-right-comm (2 ^ suc (emax f)) (down e) (2 ^ low f)
+    ∙ ap (λ (x : ℕ). x * down e) (mul-comm (2 ^ suc (emax f)) (2 ^ low f) ∙ sym (pow-add 2 (low f) (suc (emax f)))) in
     round-exact f s (suc m * up e) (down e) (suc m) j (down-pos e) (h .0)
     (lt-of-mul-lt-mul-right (down e) (subst (λ (x : ℕ). x < 2 ^ (low f + suc (emax f)) * down e) (p .1 (suc m)) (subst (λ (x : ℕ). suc m * up e * 2 ^ low f < x) room over)))
     (p .1 (suc m))

@@ -179,7 +179,7 @@ pub number-four : (s : List ℕ) (at : ℕ) → getD s at 0 + 256 * (getD s (at 
 unfolding numberAt
 number-four s at =
     λ i.
-        getD s at 0 + 256 * (getD s (at + 1) 0 + 256 * (getD s (two at i) 0 + 256 * last (getD s (three at i) 0) i))
+    getD s at 0 + 256 * (getD s (at + 1) 0 + 256 * (getD s (two at i) 0 + 256 * last (getD s (three at i) 0) i))
   where
     two : (at : ℕ) → at + 2 ≡ at + 1 + 1
     two at = omega arith
@@ -195,7 +195,7 @@ pub put-four : (s : List ℕ) (at n : ℕ) → n < 2 ^ 32
 unfolding putNumber
 put-four s at n h =
     λ i.
-        set (set (set (set s at (n % 256)) (at + 1) (n / 256 % 256)) (two at i) (third n i % 256)) (three at i) (fourth n h i)
+    set (set (set (set s at (n % 256)) (at + 1) (n / 256 % 256)) (two at i) (third n i % 256)) (three at i) (fourth n h i)
   where
     two : (at : ℕ) → at + 2 ≡ at + 1 + 1
     two at = omega arith
@@ -208,3 +208,11 @@ put-four s at n h =
 
     fourth : (n : ℕ) → n < 2 ^ 32 → n / 16777216 ≡ n / 256 / 256 / 256 % 256
     fourth n h = omega arith
+
+-- ---- eight bytes by halves
+
+pub number-eight : (s : List ℕ) (at : ℕ) → numberAt 4 s at + numberAt 4 s (at + 4) * 4294967296 ≡ numberAt 8 s at
+number-eight s at = ap (λ (n : ℕ). numberAt 4 s at + n) (mul-comm (numberAt 4 s (at + 4)) 4294967296) ∙ sym (number-join 4 4 s at)
+
+pub put-eight : (s : List ℕ) (at n : ℕ) → putNumber 4 (putNumber 4 s at (n % 4294967296)) (at + 4) (n / 4294967296) ≡ putNumber 8 s at n
+put-eight s at n = ap (λ (t : List ℕ). putNumber 4 t (at + 4) (n / 4294967296)) (put-low 4 s at n) ∙ sym (put-join 4 4 s at n)

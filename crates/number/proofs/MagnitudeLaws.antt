@@ -114,6 +114,47 @@ nan-test nan = nan-differs
 nan-test (inf s) = number (inf s) refl
 nan-test (fin s m e) = number (fin s m e) refl
 
+-- ---- what is known of x is known of its magnitude
+
+pub abs-abs : (x : Float) → abs (abs x) ≡ abs x
+unfolding abs
+abs-abs nan = refl
+abs-abs (inf s) = refl
+abs-abs (fin s m e) = refl
+
+pub abs-neg : (x : Float) → abs (neg x) ≡ abs x
+unfolding abs neg
+abs-neg nan = refl
+abs-neg (inf s) = refl
+abs-neg (fin s m e) = refl
+
+pub abs-value : (x : Float) (s : Bool) (a c : ℕ) → HasValue x s a c → HasValue (abs x) false a c
+unfolding abs
+abs-value nan s a c v = absurd v
+abs-value (inf t) s a c v = absurd v
+abs-value (fin t m e) s a c v = (refl, v .1)
+
+pub abs-finite : (x : Float) → finite (abs x) ≡ finite x
+unfolding abs
+abs-finite nan = refl
+abs-finite (inf s) = refl
+abs-finite (fin s m e) = refl
+
+pub abs-nan : (x : Float) → isNan (abs x) ≡ isNan x
+unfolding abs isNan
+abs-nan nan = refl
+abs-nan (inf s) = refl
+abs-nan (fin s m e) = refl
+
+-- at most a finite limit in magnitude: finite
+pub abs-limited : (x limit : Float) → T (finite limit) → T (le (abs x) limit) → T (finite x)
+unfolding abs le
+abs-limited nan limit l h = h
+abs-limited (inf s) nan l h = l
+abs-limited (inf s) (inf t) l h = l
+abs-limited (inf s) (fin t n d) l h = h
+abs-limited (fin s m e) limit l h = tt
+
 -- ---- the pattern with its sign's bit taken off
 
 odd-unsigned : (d : ℕ) (s : Bool) (q k l : ℕ) → abs (odd d s q k l) ≡ odd d false q k l

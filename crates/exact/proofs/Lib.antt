@@ -1,5 +1,7 @@
 -- The laws, each file under its subject.
+pub mod Held
 pub mod Loop
 pub mod Scale
 pub mod Near
 pub mod Value
+pub mod Pattern

@@ -1,0 +1,5 @@
+-- The laws of the number tools' definitions, each file under its subject.
+pub mod BytesLaws
+pub mod FloatBits
+pub mod FloatBytes
+pub mod MagnitudeLaws

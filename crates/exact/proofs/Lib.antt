@@ -1,3 +1,4 @@
 -- The laws, each file under its subject.
+pub mod Closest
 pub mod Loop
 pub mod Value

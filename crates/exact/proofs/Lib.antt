@@ -1,4 +1,5 @@
 -- The laws, each file under its subject.
 pub mod Closest
 pub mod Loop
+pub mod Patterns
 pub mod Value

@@ -2,4 +2,5 @@
 pub mod Closest
 pub mod Loop
 pub mod Patterns
+pub mod Rounded
 pub mod Value

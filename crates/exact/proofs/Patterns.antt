@@ -11,9 +11,9 @@ use mathlib.Core.Bool.{Bool, true, false, not, _&&_, cond}
 use lib.Dec.{T, leb, ltb, eqb, eqb-refl, eqb→eq, le→leb, lt→ltb, ltb→lt, nltb→le, not-T}
 use lib.Arith.{digits-div, digits-mod, lt→nleb, le→nltb}
 use lib.Pow.{pow-add, pow-pos, pow-mono, pow-lt, shl-lt}
-use lib.Ieee.{Float, nan, inf, fin, Format, binary32, binary64, prec, emax, low, odd, units, hid, ones, top, fits, ofFields, ofBits}
+use lib.Ieee.{Float, nan, inf, fin, Format, binary32, binary64, prec, emax, low, odd, units, hid, ones, top, fits, ofFields, ofBits, nanBits, toBits}
 use lib.Ieee.Fits.{two, reach, eq→eqb, odd-fits, cond-fits, inf-fits}
-use lib.Ieee.Bits.{is-true, is-false, cond-no, ofBits-fits}
+use lib.Ieee.Bits.{is-true, is-false, cond-no, ofBits-fits, toBits-ofBits, nanBits-is, nanBits-above}
 use lib.Ieee.Exact.{HasValue, odd-sign, units-val}
 use Rattle.exact.proofs.Value.{unique}
 
@@ -87,7 +87,7 @@ pattern-infinity f s =
 lead-at : (h x t : ℕ) → t < h → lead h ((x * h + t) / h) ((x * h + t) % h) ≡ lead h x t
 lead-at h x t l = ap (λ (y : ℕ). lead h y ((x * h + t) % h)) (digits-div x l) ∙ ap (λ (y : ℕ). lead h x y) (digits-mod x l)
 
-lt-or-le : (a b : ℕ) → (a < b) ⊎ (b ≤ a)
+pub lt-or-le : (a b : ℕ) → (a < b) ⊎ (b ≤ a)
 lt-or-le a b = go (ltb a b) (ltb→lt a b) (nltb→le a b)
   where
     go : (t : Bool) → (T t → a < b) → (T (not t) → b ≤ a) → (a < b) ⊎ (b ≤ a)
@@ -206,3 +206,27 @@ module _ (f : Format) (s : Bool) (q k : ℕ) (b : q ≤ 2 ^ prec f) (c : (k ≡ 
     | inl e ↦ units-infinity (le-of-eq (sym e)) ∙ sym (ap (λ (p : ℕ). ofBits f (cond s (top f) 0 + p)) e ∙ pattern-infinity f s)
     | inr l ↦ units-below l
   ]
+
+-- ---- a pattern up to the infinity's is no NaN's, and is what is written for the value that is read from it
+rest-of : (f : Format) (s : Bool) (p : ℕ) → p < top f → (cond s (top f) 0 + p) % top f ≡ p
+rest-of f true p h = add-mod-left (top f) p ∙ mod-eq-of-lt h
+rest-of f false p h = ap (λ (x : ℕ). x % top f) (zero-add p) ∙ mod-eq-of-lt h
+
+pub pattern-number : (f : Format) (s : Bool) (p : ℕ) → p ≤ ones f * hid f → T (not (nanBits f (cond s (top f) 0 + p)))
+pattern-number f s p h =
+    subst (λ (b : Bool). T (not b)) (sym (nanBits-above f (cond s (top f) 0 + p)))
+    (subst (λ (x : ℕ). T (not (ltb (ones f * hid f) x))) (sym (rest-of f s p (ones-top f p h))) (le→nltb (ones f * hid f) p h))
+
+pub pattern-back : (f : Format) (s : Bool) (p : ℕ) → p ≤ ones f * hid f → toBits f (ofBits f (cond s (top f) 0 + p)) ≡ cond s (top f) 0 + p
+pattern-back f s p h =
+    toBits-ofBits f (cond s (top f) 0 + p) (wide s (top f) p (ones-top f p h)) (subst (λ (b : Bool). T (not b)) (nanBits-is f (cond s (top f) 0 + p)) (pattern-number f s p h))
+  where
+    both : (t p : ℕ) → p < t → t + p < 2 * t
+    both t p h = omega arith
+
+    one : (t p : ℕ) → p < t → 0 + p < 2 * t
+    one t p h = omega arith
+
+    wide : (s : Bool) (t p : ℕ) → p < t → cond s t 0 + p < 2 * t
+    wide true t p h = both t p h
+    wide false t p h = one t p h

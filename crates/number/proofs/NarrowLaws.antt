@@ -6,16 +6,17 @@ use mathlib.Core.Logic.{_⊎_, inl, inr}
 use Prim.Native.Nat.{ℕ, zero, suc, _+_, _-_, _*_, _/_, _%_, _^_, _≤_, _<_, compare}
 use native.Mathlib.Nat.{le-trans, le-of-eq, le-refl, lt-of-lt-of-le, eq-or-lt-of-le, zero-add, mul-assoc, mul-comm, mul-right-comm, mul-lt-mul-of-pos-right, div-lt-iff-lt-mul}
 use native.Mathlib.Omega.{arith}
-use mathlib.Core.Bool.{Bool, true, false, cond}
-use lib.Dec.{T, lit≤, lit<}
+use mathlib.Core.Bool.{Bool, true, false, not, cond}
+use lib.Dec.{T, lit≤, nltb→le}
 use lib.Pow.{pow-add, pow-pos, pow-mono, shl-lt}
-use lib.Ieee.{Float, nan, inf, fin, binary32, binary64, up, down, round, top, fits, ofBits, toBits}
+use lib.Ieee.{Float, nan, inf, fin, binary32, binary64, up, down, round, top, fits, isNan, nanBits, ofBits, toBits}
 use lib.Ieee.Fits.{down-pos, nearest-le, round-fits, nan-fits, inf-fits}
+use lib.Ieee.Bits.{ofBits-toBits, toBits-lt, nanBits-is, nanBits-above}
 use lib.Ieee.Exact.{HasValue}
 use lib.Ieee.Nearest.{closest, nearest-ge}
 use lib.Ieee.Scale.{round-same}
 use Rattle.exact.proofs.Closest.{closest-none, closest-shift}
-use Rattle.exact.proofs.Patterns.{lead, worth, pattern-value, pattern-infinity}
+use Rattle.exact.proofs.Patterns.{lt-or-le, lead, worth, pattern-value, pattern-infinity, pattern-number}
 use Rattle.exact.proofs.Rounded.{rank, rank-same, rank-small, rank-normal, round-bits, round-bits-le, round-infinity, round-sign, infinity-bits}
 use Rattle.number.specs.Narrow.{narrow}
 
@@ -197,3 +198,33 @@ signed-bits s m h = elim (eq-or-lt-of-le h) [
       ∙ round-sign binary32 (worth binary64 m) (2 ^ 1074) s
       ∙ ap (λ (x : ℕ). ofBits binary32 (cond s (top binary32) 0 + x)) (sym (short-round m l))
 ]
+
+-- ---- an f64 that is a number, by its bits
+split : (b : ℕ) → b < 2 * 0x8000000000000000
+    → (s : Bool) × (b ≡ cond s 0x8000000000000000 0 + b % 0x8000000000000000) × (b / 0x8000000000000000 * 0x80000000 ≡ cond s 0x80000000 0)
+split b h = elim (lt-or-le b 0x8000000000000000) [ inl l ↦ (false, omega arith, omega arith) | inr g ↦ (true, omega arith, omega arith) ]
+
+module _ (x : Float) (number : T (not (isNan x))) (held : T (fits binary64 x)) where
+  bits-split : (s : Bool) × (toBits binary64 x ≡ cond s 0x8000000000000000 0 + toBits binary64 x % 0x8000000000000000) × (toBits binary64 x / 0x8000000000000000 * 0x80000000 ≡ cond s 0x80000000 0)
+  bits-split = split (toBits binary64 x) (toBits-lt binary64 x held)
+
+  pub number-bits : toBits binary64 x % 0x8000000000000000 ≤ 0x7ff0000000000000
+  number-bits =
+      nltb→le 0x7ff0000000000000 (toBits binary64 x % 0x8000000000000000)
+      (subst (λ (b : Bool). T (not b)) (ap isNan (sym (ofBits-toBits binary64 x held)) ∙ sym (nanBits-is binary64 (toBits binary64 x)) ∙ nanBits-above binary64 (toBits binary64 x)) number)
+
+  pub narrow-bits : ofBits binary32 (toBits binary64 x / 0x8000000000000000 * 0x80000000 + short (toBits binary64 x % 0x8000000000000000)) ≡ narrow x
+  narrow-bits =
+      let b = toBits binary64 x in
+      let z = bits-split in
+      ap (λ (y : ℕ). ofBits binary32 (y + short (b % 0x8000000000000000))) (z .2)
+      ∙ sym (signed-bits (z .0) (b % 0x8000000000000000) number-bits)
+      ∙ ap (λ (y : ℕ). narrow (ofBits binary64 y)) (sym (z .1))
+      ∙ ap narrow (ofBits-toBits binary64 x held)
+
+  pub narrow-no-nan : T (not (nanBits binary32 (toBits binary64 x / 0x8000000000000000 * 0x80000000 + short (toBits binary64 x % 0x8000000000000000))))
+  narrow-no-nan =
+      let b = toBits binary64 x in
+      let z = bits-split in
+      subst (λ (y : ℕ). T (not (nanBits binary32 (y + short (b % 0x8000000000000000))))) (sym (z .2))
+      (pattern-number binary32 (z .0) (short (b % 0x8000000000000000)) (bits-le (b % 0x8000000000000000) number-bits))

@@ -1,0 +1,81 @@
+-- The bits of a number are its sign's bit and a pattern, and narrowing goes from pattern to pattern under the same sign
+-- (`narrow-bits`). What differs from itself is a NaN, and so is 0 / 0. Assumes nothing.
+use mathlib.Core.Path.{_≡_, refl, sym, ap, _∙_, subst}
+use Prim.Native.Nat.{ℕ, _+_, _*_, _/_, _%_, _≤_, _<_}
+use native.Mathlib.Omega.{arith}
+use mathlib.Core.Bool.{true, false, not, true≢false}
+use lib.Dec.{T}
+use lib.Ieee.{Float, nan, inf, fin, binary32, binary64, div, ne, eq, odd, ofFields, ofBits, toBits, isNan, fits, nanBits}
+use lib.Ieee.Bits.{toBits-lt}
+use lib.Ieee.Compare.{differs-from-itself, nan-differs}
+use Rattle.number.specs.Narrow.{narrow}
+use Rattle.number.proofs.NarrowLaws.{bits-le, number-bits, narrow-bits, narrow-no-nan}
+use Rattle.number.proofs.narrow.narrow.Statement.{statement}
+use Rattle.number.proofs.narrow.narrow.Tie as tie
+use Rattle.number.proofs.narrow.narrow.Reads as reads
+use Rattle.number.proofs.narrow.narrow.Lts as lts
+use Rattle.number.proofs.narrow.magnitude.Reads as magnitude-reads
+
+no-nan : (x : Float) → ne x x ≡ false → T (not (isNan x))
+unfolding isNan
+no-nan nan h = absurd (true≢false (sym nan-differs ∙ h))
+no-nan (inf s) h = tt
+no-nan (fin s m e) h = tt
+
+zero-over-zero : div binary32 (ofBits binary32 0) (ofBits binary32 0) ≡ nan
+unfolding div odd ofFields ofBits
+zero-over-zero = refl
+
+narrow-nan : (x : Float) → x ≡ nan → narrow x ≡ nan
+unfolding narrow
+narrow-nan x e = ap narrow e
+
+returns : tie.Need-returns
+returns c = zero-over-zero ∙ sym (narrow-nan (c .before .args .x) (differs-from-itself (c .before .args .x) (subst T (sym (c .if1 .taken)) tt)))
+
+float-to-bits-bits : tie.Need-float-to-bits-bits
+float-to-bits-bits c = no-nan (c .before .args .x) (c .if1 .left)
+
+-- what is known of x once it is no NaN
+number : (c : tie.Else1) → T (not (isNan (c .before .args .x)))
+number c = no-nan (c .before .args .x) (c .if1 .left)
+
+held : (c : tie.Else1) → T (fits binary64 (c .before .args .x))
+held c = subst T (sym (c .before .good .0 .1)) tt
+
+magnitude-requires : tie.Need-magnitude-requires
+magnitude-requires c κs = number-bits (c .before .args .x) (number c) (held c)
+
+-- the sum has 32 bits
+small : (c : tie.After-magnitude) → toBits binary64 (c .before .before .args .x) / 0x8000000000000000 * 0x80000000 + c .magnitude .result < 0x100000000
+small c =
+    let x = c .before .before .args .x in
+    omega (arith, c .magnitude .ensures, toBits-lt binary64 x (held (c .before)), bits-le (toBits binary64 x % 0x8000000000000000) (number-bits x (number (c .before)) (held (c .before))))
+
+mul-result : tie.Need-mul-result
+mul-result c = omega (arith, small c)
+
+add-result : tie.Need-add-result
+add-result c = omega (arith, small c)
+
+cast-result : tie.Need-cast-result
+cast-result c = omega (arith, small c)
+
+float-from-bits-result : tie.Need-float-from-bits-result
+float-from-bits-result c = rw (c .magnitude .ensures) (narrow-no-nan (c .before .before .args .x) (number (c .before)) (held (c .before)))
+
+returns-2 : tie.Need-returns-2
+returns-2 c = rw (c .magnitude .ensures) (narrow-bits (c .before .before .args .x) (number (c .before)) (held (c .before)))
+
+pub narrow-spec : {M : Type 1} → statement M
+narrow-spec =
+    tie.close
+    (tie.spec
+    returns
+    float-to-bits-bits
+    magnitude-requires
+    mul-result
+    add-result
+    cast-result
+    float-from-bits-result
+    returns-2)

@@ -1,0 +1,22 @@
+use mathlib.Core.Path.{_≡_, refl, sym, ap, _∙_}
+use Prim.Native.Nat.{ℕ, _+_, _-_, _≤_, _<_}
+use native.Mathlib.Omega.{arith}
+use Rattle.number.proofs.NarrowLaws.{ordinary-bits, ordinary-least}
+use borrow.Author.Needs.{needs}
+use Rattle.number.proofs.narrow.ordinary.Statement.{statement}
+use Rattle.number.proofs.narrow.ordinary.Tie as tie
+use Rattle.number.proofs.narrow.ordinary.Reads as reads
+use Rattle.number.proofs.narrow.ordinary.Lts as lts
+use Rattle.number.proofs.narrow.closest.Reads as closest-reads
+
+closest-requires : tie.Need-closest-requires
+closest-requires c κs = search needs
+
+sub-result : tie.Need-sub-result
+sub-result c = omega (arith, c .closest .ensures, ordinary-least (c .before .args .m) (c .before .pre .0))
+
+returns : tie.Need-returns
+returns c = ap (λ (x : ℕ). x - 0x1c0000000) (c .closest .ensures) ∙ sym (ordinary-bits (c .before .args .m) (c .before .pre .0) (c .before .pre .1))
+
+pub ordinary-spec : {M : Type 1} → statement M
+ordinary-spec = tie.close (tie.spec closest-requires sub-result returns)

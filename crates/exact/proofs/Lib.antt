@@ -1,5 +1,6 @@
 -- The laws, each file under its subject.
 pub mod Closest
+pub mod Held
 pub mod Loop
 pub mod Patterns
 pub mod Rounded

@@ -1,2 +1,3 @@
--- The laws of the number tools that other crates cite, a file for each module of src/.
+-- The laws of the number tools, a file for each subject. Other crates cite the `..Laws`.
+pub mod NarrowBits
 pub mod NarrowLaws

@@ -9,7 +9,8 @@ use lib.Ieee.{Float, nan, inf, fin, binary32, binary64, div, ne, eq, odd, ofFiel
 use lib.Ieee.Bits.{toBits-lt}
 use lib.Ieee.Compare.{differs-from-itself, nan-differs}
 use Rattle.number.specs.Narrow.{narrow}
-use Rattle.number.proofs.NarrowLaws.{bits-le, number-bits, narrow-bits, narrow-no-nan}
+use Rattle.number.proofs.NarrowBits.{bits-le, number-bits, narrow-bits, narrow-no-nan}
+use Rattle.number.proofs.NarrowLaws.{narrow-nan}
 use Rattle.number.proofs.narrow.narrow.Statement.{statement}
 use Rattle.number.proofs.narrow.narrow.Tie as tie
 use Rattle.number.proofs.narrow.narrow.Reads as reads
@@ -26,12 +27,8 @@ zero-over-zero : div binary32 (ofBits binary32 0) (ofBits binary32 0) ≡ nan
 unfolding div odd ofFields ofBits
 zero-over-zero = refl
 
-narrow-nan : (x : Float) → x ≡ nan → narrow x ≡ nan
-unfolding narrow
-narrow-nan x e = ap narrow e
-
 returns : tie.Need-returns
-returns c = zero-over-zero ∙ sym (narrow-nan (c .before .args .x) (differs-from-itself (c .before .args .x) (subst T (sym (c .if1 .taken)) tt)))
+returns c = zero-over-zero ∙ sym (ap narrow (differs-from-itself (c .before .args .x) (subst T (sym (c .if1 .taken)) tt)) ∙ narrow-nan)
 
 float-to-bits-bits : tie.Need-float-to-bits-bits
 float-to-bits-bits c = no-nan (c .before .args .x) (c .if1 .left)

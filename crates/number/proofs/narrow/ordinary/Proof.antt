@@ -1,7 +1,7 @@
 use mathlib.Core.Path.{_≡_, refl, sym, ap, _∙_}
 use Prim.Native.Nat.{ℕ, _+_, _-_, _≤_, _<_}
 use native.Mathlib.Omega.{arith}
-use Rattle.number.proofs.NarrowLaws.{ordinary-bits, ordinary-least}
+use Rattle.number.proofs.NarrowBits.{ordinary-bits, ordinary-least}
 use borrow.Author.Needs.{needs}
 use Rattle.number.proofs.narrow.ordinary.Statement.{statement}
 use Rattle.number.proofs.narrow.ordinary.Tie as tie

@@ -4,7 +4,7 @@ use native.Mathlib.Nat.{lt-irrefl, one-mul, pow-suc, mul-mod-left}
 use lib.Pow.{pow-pos, pow-mono, shl-exact}
 use lib.Ieee.Nearest.{closest}
 use native.Mathlib.Omega.{arith}
-use Rattle.number.proofs.NarrowLaws.{zero-bits, subnormal-bits}
+use Rattle.number.proofs.NarrowBits.{zero-bits, subnormal-bits}
 use borrow.Author.Needs.{needs}
 use Rattle.number.proofs.narrow.subnormal.Statement.{statement}
 use Rattle.number.proofs.narrow.subnormal.Tie as tie

@@ -4,4 +4,5 @@ pub mod Held
 pub mod Loop
 pub mod Patterns
 pub mod Rounded
+pub mod UnitPatterns
 pub mod Value

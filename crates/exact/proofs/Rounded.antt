@@ -2,17 +2,18 @@
 -- infinity's. So it depends on the fraction's value alone, and the sign is one bit on top of it. Assumes nothing.
 use mathlib.Core.Path.{_≡_, refl, sym, ap, _∙_, subst}
 use mathlib.Core.Logic.{_⊎_, inl, inr}
-use Prim.Native.Nat.{ℕ, suc, _+_, _-_, _*_, _/_, _%_, _^_, _≤_, _<_, compare}
+use Prim.Native.Nat.{ℕ, _+_, _-_, _*_, _/_, _%_, _^_, _≤_, _<_, compare}
 use native.Mathlib.Nat.{le-trans, le-of-eq, le-of-lt, eq-zero-or-pos, zero-add, zero-mul, mul-one, mul-assoc, mul-right-comm, mul-pos, mul-le-mul-right, mul-lt-mul-of-pos-right, lt-of-lt-of-le, lt-of-le-of-lt, lt-of-not-le, lt-irrefl, div-lt-iff-lt-mul, div-div-eq-div-mul, le-div-iff-mul-le}
 use native.Mathlib.Omega.{arith}
 use mathlib.Core.Bool.{Bool, false, cond}
 use lib.Pow.{pow-add, pow-pos, pow-mono}
-use lib.Ieee.{Float, inf, Format, prec, low, size, nearest, units, round, hid, ones, top, ofBits, toBits}
+use lib.Ieee.{Float, inf, Format, prec, low, size, round, hid, ones, top, ofBits, toBits}
 use lib.Ieee.Digits.{size-lt, size-le, size-reaches}
 use lib.Ieee.Fits.{two, two-le-pos, nearest-le, kept-lt, round-is}
 use lib.Ieee.Nearest.{closest, closest-same, div-same, nearest-ge}
 use lib.Ieee.Order.{drop, kept}
-use Rattle.exact.proofs.Patterns.{lt-or-le, units-infinity, units-pattern, pattern-infinity, pattern-back}
+use Rattle.exact.proofs.Patterns.{pattern-infinity, pattern-back}
+use Rattle.exact.proofs.UnitPatterns.{lt-or-le, units-infinity, units-pattern}
 
 -- ---- what is kept has at most p digits, or is carried to the least number of one digit more; where digits are dropped, it has p at least
 kept-le : (p n den : ℕ) → kept p n den ≤ 2 ^ p

@@ -1,3 +1,4 @@
 -- The laws of the number tools, a file for each subject. Other crates cite the `..Laws`.
 pub mod NarrowBits
 pub mod NarrowLaws
+pub mod NarrowRanges

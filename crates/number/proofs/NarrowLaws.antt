@@ -1,7 +1,7 @@
 -- What callers may use of `narrow`: it sees the value alone, its result is an f32, an f32 goes through unchanged, the order of values
 -- that are not negative is kept, and 0 to 1 stays there. Each is a law of `round`. Assumes nothing.
 use mathlib.Core.Path.{_≡_, refl, sym, ap, _∙_, subst}
-use Prim.Native.Nat.{ℕ, _+_, _*_, _^_, _≤_, _<_}
+use Prim.Native.Nat.{ℕ, _*_, _^_, _≤_, _<_}
 use native.Mathlib.Nat.{le-trans, le-of-eq, mul-comm, mul-le-mul-right}
 use mathlib.Core.Bool.{Bool, false}
 use lib.Dec.{T, lit<}

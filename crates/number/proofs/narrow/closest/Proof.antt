@@ -1,12 +1,9 @@
-use mathlib.Core.Path.{_≡_, refl, sym, ap, _∙_}
-use Prim.Native.Nat.{ℕ, _+_, _-_, _≤_, _<_}
-use native.Mathlib.Omega.{arith}
+-- The quotient in the code is the nearest whole number (`closest-quotient`). Assumes nothing.
+use mathlib.Core.Path.{sym}
 use Rattle.exact.proofs.Closest.{closest-quotient}
 use borrow.Author.Needs.{needs}
 use Rattle.number.proofs.narrow.closest.Statement.{statement}
 use Rattle.number.proofs.narrow.closest.Tie as tie
-use Rattle.number.proofs.narrow.closest.Reads as reads
-use Rattle.number.proofs.narrow.closest.Lts as lts
 
 sub-result : tie.Need-sub-result
 sub-result c = search needs

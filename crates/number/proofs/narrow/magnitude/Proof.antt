@@ -1,5 +1,5 @@
-use mathlib.Core.Path.{_≡_, refl, sym, ap, _∙_}
-use Prim.Native.Nat.{ℕ, _+_, _-_, _≤_, _<_}
+-- Each range by its own function; from 2 ^ 128 on it is the infinity (`over-bits`). Assumes nothing.
+use mathlib.Core.Path.{sym}
 use native.Mathlib.Omega.{arith}
 use Rattle.number.proofs.NarrowBits.{over-bits}
 use borrow.Author.Needs.{needs}
@@ -7,10 +7,6 @@ use borrow.Author.Tests.{ltb-false}
 use mathlib.Core.Logic.{⊎-elim}
 use Rattle.number.proofs.narrow.magnitude.Statement.{statement}
 use Rattle.number.proofs.narrow.magnitude.Tie as tie
-use Rattle.number.proofs.narrow.magnitude.Reads as reads
-use Rattle.number.proofs.narrow.magnitude.Lts as lts
-use Rattle.number.proofs.narrow.ordinary.Reads as ordinary-reads
-use Rattle.number.proofs.narrow.subnormal.Reads as subnormal-reads
 
 ordinary-requires : tie.Need-ordinary-requires
 ordinary-requires c κs = search needs

@@ -1,11 +1,11 @@
 -- The bits of a number are its sign's bit and a pattern, and narrowing goes from pattern to pattern under the same sign
 -- (`narrow-bits`). What differs from itself is a NaN, and so is 0 / 0. Assumes nothing.
 use mathlib.Core.Path.{_≡_, refl, sym, ap, _∙_, subst}
-use Prim.Native.Nat.{ℕ, _+_, _*_, _/_, _%_, _≤_, _<_}
+use Prim.Native.Nat.{_+_, _*_, _/_, _%_, _<_}
 use native.Mathlib.Omega.{arith}
-use mathlib.Core.Bool.{true, false, not, true≢false}
+use mathlib.Core.Bool.{false, not, true≢false}
 use lib.Dec.{T}
-use lib.Ieee.{Float, nan, inf, fin, binary32, binary64, div, ne, eq, odd, ofFields, ofBits, toBits, isNan, fits, nanBits}
+use lib.Ieee.{Float, nan, inf, fin, binary32, binary64, div, ne, odd, ofFields, ofBits, toBits, isNan, fits}
 use lib.Ieee.Bits.{toBits-lt}
 use lib.Ieee.Compare.{differs-from-itself, nan-differs}
 use Rattle.number.specs.Narrow.{narrow}
@@ -13,9 +13,6 @@ use Rattle.number.proofs.NarrowBits.{bits-le, number-bits, narrow-bits,
 use Rattle.number.proofs.NarrowLaws.{narrow-nan}
 use Rattle.number.proofs.narrow.narrow.Statement.{statement}
 use Rattle.number.proofs.narrow.narrow.Tie as tie
-use Rattle.number.proofs.narrow.narrow.Reads as reads
-use Rattle.number.proofs.narrow.narrow.Lts as lts
-use Rattle.number.proofs.narrow.magnitude.Reads as magnitude-reads
 
 no-nan : (x : Float) → ne x x ≡ false → T (not (isNan x))
 unfolding isNan

@@ -1,13 +1,12 @@
-use mathlib.Core.Path.{_≡_, refl, sym, ap, _∙_}
-use Prim.Native.Nat.{ℕ, _+_, _-_, _≤_, _<_}
+-- Rounding 29 digits off the whole pattern rounds them off the significand, and 896 fewer in the field is the other bias
+-- (`ordinary-bits`). Assumes nothing.
+use mathlib.Core.Path.{sym, ap, _∙_}
+use Prim.Native.Nat.{ℕ, _-_}
 use native.Mathlib.Omega.{arith}
 use Rattle.number.proofs.NarrowBits.{ordinary-bits, ordinary-least}
 use borrow.Author.Needs.{needs}
 use Rattle.number.proofs.narrow.ordinary.Statement.{statement}
 use Rattle.number.proofs.narrow.ordinary.Tie as tie
-use Rattle.number.proofs.narrow.ordinary.Reads as reads
-use Rattle.number.proofs.narrow.ordinary.Lts as lts
-use Rattle.number.proofs.narrow.closest.Reads as closest-reads
 
 closest-requires : tie.Need-closest-requires
 closest-requires c κs = search needs

@@ -1,3 +1,5 @@
+-- In units of 2 ^ -149 the value is the significand over a power of two (`subnormal-bits`), or less than half (`zero-bits`).
+-- The rest is that the shift makes that power. Assumes nothing.
 use mathlib.Core.Path.{_≡_, sym, ap, _∙_, subst}
 use Prim.Native.Nat.{ℕ, zero, suc, _+_, _-_, _*_, _/_, _%_, _^_, _≤_, _<_}
 use native.Mathlib.Nat.{lt-irrefl, one-mul, pow-suc, mul-mod-left}
@@ -8,9 +10,6 @@ use Rattle.number.proofs.NarrowBits.{zero-bits, subnormal-bits}
 use borrow.Author.Needs.{needs}
 use Rattle.number.proofs.narrow.subnormal.Statement.{statement}
 use Rattle.number.proofs.narrow.subnormal.Tie as tie
-use Rattle.number.proofs.narrow.subnormal.Reads as reads
-use Rattle.number.proofs.narrow.subnormal.Lts as lts
-use Rattle.number.proofs.narrow.closest.Reads as closest-reads
 
 even-pow : (i : ℕ) → 0 < i → 2 ^ i % 2 ≡ 0
 even-pow zero h = absurd (lt-irrefl 0 h)

@@ -2,6 +2,7 @@
 pub mod Closest
 pub mod Held
 pub mod Loop
+pub mod Overflow
 pub mod Patterns
 pub mod Rounded
 pub mod UnitPatterns

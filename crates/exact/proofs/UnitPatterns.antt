@@ -1,20 +1,21 @@
 -- k * hid + q is the pattern of q * 2 ^ k units, whatever q and k are, as long as q has all its digits or k is 0. A q that was
 -- carried to one digit more moves into the next exponent's field by itself, and the pattern after the last finite one is
 -- the infinity's. Assumes nothing.
-use mathlib.Core.Path.{_≡_, refl, sym, ap, _∙_, subst}
+use mathlib.Core.Path.{_≡_, sym, ap, _∙_, subst}
 use mathlib.Core.Logic.{_⊎_, inl, inr}
-use Prim.Native.Nat.{ℕ, zero, suc, _+_, _-_, _*_, _/_, _%_, _^_, _≤_, _<_}
-use native.Mathlib.Nat.{le-refl, le-trans, le-of-eq, le-of-suc-le-suc, lt-of-lt-of-le, lt-of-le-of-lt, eq-or-lt-of-le, add-sub-of-le, mul-one, mul-assoc, mul-comm, mul-le-mul-right, mul-le-mul-left, le-of-mul-le-mul-right, zero-mul, mod-lt, div-lt-iff-lt-mul, pow-succ', lt-of-mul-lt-mul-right}
+use Prim.Native.Nat.{ℕ, suc, _+_, _-_, _*_, _/_, _%_, _^_, _≤_, _<_}
+use native.Mathlib.Nat.{le-refl, le-trans, le-of-eq, lt-of-le-of-lt, eq-or-lt-of-le, add-sub-of-le, mul-one, mul-assoc, mod-lt, div-lt-iff-lt-mul, pow-succ'}
 use native.Mathlib.Omega.{arith}
 use mathlib.Core.Bool.{Bool, true, false, not, cond}
 use lib.Dec.{T, ltb, ltb→lt, nltb→le}
 use lib.Arith.{digits-div, digits-mod, le→nltb}
-use lib.Pow.{pow-pos, pow-mono, pow-lt, shl-lt}
-use lib.Ieee.{inf, Format, binary32, binary64, prec, emax, low, odd, units, hid, ones, top, fits, ofBits}
-use lib.Ieee.Fits.{two, reach, odd-fits, cond-fits, inf-fits}
+use lib.Pow.{pow-pos, pow-lt}
+use lib.Ieee.{inf, Format, prec, emax, low, odd, units, hid, ones, top, fits, ofBits}
+use lib.Ieee.Fits.{two, odd-fits, cond-fits, inf-fits}
 use lib.Ieee.Bits.{cond-no, ofBits-fits}
 use lib.Ieee.Exact.{HasValue, units-val}
 use Rattle.exact.proofs.Value.{unique}
+use Rattle.exact.proofs.Overflow.{twice-hid, lead-under, past, over}
 use Rattle.exact.proofs.Patterns.{hid-pos, lead, worth, pattern-value, pattern-infinity}
 
 -- ---- k * hid + q is q * 2 ^ k units
@@ -59,54 +60,6 @@ module _ (h : ℕ) (H : 0 < h) (q k : ℕ) where
   lead-units : q ≤ 2 * h → (k ≡ 0) ⊎ (h ≤ q) → lead h ((k * h + q) / h) ((k * h + q) % h) ≡ q * 2 ^ k
   lead-units b (inl z) = elim (lt-or-le q h) [ inl l ↦ few l z | inr g ↦ full g b ]
   lead-units b (inr g) = full g b
-
--- ---- below the infinity's pattern no value overflows, from it on every one does
-room : (p e x : ℕ) → 2 ≤ p → suc x < 2 * e + 1 → p + x ≤ e + p - 2 + suc e
-room p e x a b = omega arith
-
-room-low : (p e : ℕ) → 2 ≤ p → p ≤ suc e → p - 1 ≤ e + p - 2 + suc e
-room-low p e a b = omega arith
-
-twice-hid : (f : Format) → 2 ^ prec f ≡ 2 * hid f
-twice-hid binary32 = refl
-twice-hid binary64 = refl
-
-lead-under : (f : Format) (x t : ℕ) → x < ones f → t < hid f → lead (hid f) x t < 2 ^ (low f + suc (emax f))
-lead-under f zero t X H = lt-of-lt-of-le H (pow-mono (room-low (prec f) (emax f) (two f) (reach f)))
-lead-under f (suc x) t X H =
-    lt-of-lt-of-le (shl-lt (prec f) x (with-lead (hid f) t (2 ^ prec f) (twice-hid f) H)) (pow-mono (room (prec f) (emax f) x (two f) X))
-  where
-    with-lead : (h t w : ℕ) → w ≡ 2 * h → t < h → h + t < w
-    with-lead h t w e l = omega arith
-
-past : (f : Format) → 2 ^ (low f + suc (emax f)) ≡ hid f * 2 ^ (2 * emax f)
-past binary32 = refl
-past binary64 = refl
-
-far : (o k q h : ℕ) → 0 < h → (o + 1) * h ≤ k * h + q → q < 2 * h → o ≤ k
-far o k q h H a b = le-of-suc-le-suc (lt-of-mul-lt-mul-right h (step o k q h a b))
-  where
-    step : (o k q h : ℕ) → (o + 1) * h ≤ k * h + q → q < 2 * h → o * h < suc k * h
-    step o k q h a b = omega arith
-
-over : (h o q k : ℕ) → 0 < h → q ≤ 2 * h → (k ≡ 0) ⊎ (h ≤ q) → (o + 1) * h ≤ k * h + q → h * 2 ^ o ≤ q * 2 ^ k
-over h o q k H b c g = elim (eq-or-lt-of-le b) [
-  | inl e ↦ le-trans (mul-le-mul-left h (pow-mono (le-of-mul-le-mul-right (two-more o k q h e g) H))) (le-of-eq (twice e))
-  | inr l ↦ le-trans (mul-le-mul-right (2 ^ o) (filled c)) (mul-le-mul-left q (pow-mono (far o k q h H g l)))
-]
-  where
-    two-more : (o k q h : ℕ) → q ≡ 2 * h → (o + 1) * h ≤ k * h + q → o * h ≤ suc k * h
-    two-more o k q h e g = omega arith
-
-    twice : q ≡ 2 * h → h * 2 ^ suc k ≡ q * 2 ^ k
-    twice e = ap (λ (x : ℕ). h * x) (pow-succ' 2 k) ∙ sym (mul-assoc h 2 (2 ^ k)) ∙ ap (λ (x : ℕ). x * 2 ^ k) (mul-comm h 2 ∙ sym e)
-
-    alone : (o h q j : ℕ) → j ≡ 0 → (o + 1) * h ≤ j + q → h ≤ q
-    alone o h q j z g = omega arith
-
-    filled : (k ≡ 0) ⊎ (h ≤ q) → h ≤ q
-    filled (inl z) = alone o h q (k * h) (ap (λ (x : ℕ). x * h) z ∙ zero-mul h) g
-    filled (inr g) = g
 
 -- ---- the laws
 units-in : (f : Format) (s : Bool) (q k : ℕ) → q ≤ 2 ^ prec f → q * 2 ^ k < 2 ^ (low f + suc (emax f)) → T (fits f (units f s q k))

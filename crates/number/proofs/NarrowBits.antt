@@ -15,7 +15,8 @@ use Rattle.exact.proofs.Patterns.{worth, pattern-infinity, pattern-number}
 use Rattle.exact.proofs.Rounded.{round-bits-le, round-sign}
 use Rattle.number.specs.Narrow.{narrow}
 use Rattle.number.proofs.NarrowLaws.{narrow-infinity}
-use Rattle.number.proofs.NarrowRanges.{short, significand, narrow-pattern, short-round, short-infinity, normal-short, past-short, low-short, tiny-short}
+use Rattle.number.proofs.NarrowNormal.{short, significand, narrow-pattern, short-round, short-infinity, normal-short, past-short}
+use Rattle.number.proofs.NarrowLow.{low-short}
 
 -- ---- the three ranges, in the code's terms
 field-of : (m : ℕ) → 0x3810000000000000 ≤ m → m / 0x10000000000000 ≡ 897 + (m / 0x10000000000000 - 897)
@@ -36,9 +37,6 @@ over-bits m a b = elim (eq-or-lt-of-le b) [
 pub subnormal-bits : (m : ℕ) → m < 0x3810000000000000 → 873 ≤ m / 0x10000000000000
     → short m ≡ closest (significand m) (2 ^ (926 - m / 0x10000000000000))
 subnormal-bits m a b = low-short m (m / 0x10000000000000 - 1) (926 - m / 0x10000000000000) (omega arith) (omega arith) (omega arith) (omega arith)
-
-pub zero-bits : (m : ℕ) → m / 0x10000000000000 < 873 → short m ≡ 0
-zero-bits m h = tiny-short m h
 
 pub bits-le : (m : ℕ) → m ≤ 0x7ff0000000000000 → short m ≤ 0x7f800000
 bits-le m h = elim (eq-or-lt-of-le h) [

@@ -6,7 +6,8 @@ use native.Mathlib.Nat.{lt-irrefl, one-mul, pow-suc, mul-mod-left}
 use lib.Pow.{pow-pos, pow-mono, shl-exact}
 use lib.Ieee.Nearest.{closest}
 use native.Mathlib.Omega.{arith}
-use Rattle.number.proofs.NarrowBits.{zero-bits, subnormal-bits}
+use Rattle.number.proofs.NarrowBits.{subnormal-bits}
+use Rattle.number.proofs.NarrowLow.{zero-bits}
 use borrow.Author.Needs.{needs}
 use Rattle.number.proofs.narrow.subnormal.Statement.{statement}
 use Rattle.number.proofs.narrow.subnormal.Tie as tie

@@ -1,19 +1,18 @@
 -- Narrowing from pattern to pattern. An f64 with the pattern m has the value `worth m` in units of 2 ^ -1074, so the narrowed one
 -- is that fraction rounded, and the pattern of a rounded fraction is known (`rank`): by the significand and how many of
--- its digits are dropped. Three ranges: normal, subnormal and less than half a unit. Assumes nothing.
+-- its digits are dropped. Here from 2 ^ -126 on, where 24 digits are kept. Assumes nothing.
 use mathlib.Core.Path.{_≡_, refl, sym, ap, _∙_}
-use Prim.Native.Nat.{ℕ, zero, suc, _+_, _-_, _*_, _/_, _%_, _^_, _≤_, _<_, compare}
-use native.Mathlib.Nat.{le-trans, le-of-eq, lt-of-lt-of-le, zero-add, mul-assoc, mul-comm, mul-right-comm, mul-lt-mul-of-pos-right, div-lt-iff-lt-mul}
+use Prim.Native.Nat.{ℕ, suc, _+_, _-_, _*_, _/_, _%_, _^_, _≤_, _<_, compare}
+use native.Mathlib.Nat.{le-trans, le-of-eq, zero-add, mul-assoc, mul-comm, mul-right-comm}
 use native.Mathlib.Omega.{arith}
 use mathlib.Core.Bool.{Bool, false, cond}
-use lib.Dec.{lit≤}
-use lib.Pow.{pow-add, pow-pos, pow-mono, shl-lt}
+use lib.Pow.{pow-add, pow-pos}
 use lib.Ieee.{Float, binary32, binary64, round, top, ofBits, toBits}
 use lib.Ieee.Fits.{nearest-le}
 use lib.Ieee.Nearest.{closest, nearest-ge}
-use Rattle.exact.proofs.Closest.{closest-none, closest-shift}
+use Rattle.exact.proofs.Closest.{closest-shift}
 use Rattle.exact.proofs.Patterns.{lead, worth, pattern-value, pattern-infinity}
-use Rattle.exact.proofs.Rounded.{rank, rank-same, rank-small, rank-normal, round-bits, round-infinity, infinity-bits}
+use Rattle.exact.proofs.Rounded.{rank, rank-same, rank-normal, round-bits, round-infinity, infinity-bits}
 use Rattle.number.specs.Narrow.{narrow}
 use Rattle.number.proofs.NarrowLaws.{narrow-value, narrow-infinity}
 
@@ -30,11 +29,11 @@ short-round m h = ap (λ (p : ℕ). toBits binary32 (narrow (ofBits binary64 p))
 pub short-infinity : short 0x7ff0000000000000 ≡ 0x7f800000
 short-infinity = ap (λ (v : Float). toBits binary32 (narrow v)) (pattern-infinity binary64 false) ∙ ap (toBits binary32) (narrow-infinity false) ∙ infinity-bits binary32
 
--- ---- the three ranges. With the significand q the value is q * 2 ^ x for the field x + 1
+-- ---- with the significand q the value is q * 2 ^ x for the field x + 1
 abbrev pub significand : ℕ → ℕ
 significand m = 0x10000000000000 + m % 0x10000000000000
 
-lead-field : (h x t y : ℕ) → y ≡ suc x → lead h y t ≡ (h + t) * 2 ^ x
+pub lead-field : (h x t y : ℕ) → y ≡ suc x → lead h y t ≡ (h + t) * 2 ^ x
 lead-field h x t y e = ap (λ (z : ℕ). lead h z t) e
 
 -- from 2 ^ -126 on: q * 2 ^ j / 2 ^ 29 units, with 24 digits kept of q
@@ -43,8 +42,8 @@ scale-up q a b c d x e =
     mul-assoc (q * (a * x)) b c ∙ mul-assoc q (a * x) (b * c) ∙ ap (λ (z : ℕ). q * z) (mul-right-comm a x (b * c) ∙ ap (λ (z : ℕ). z * x) (sym (mul-assoc a b c) ∙ e) ∙ mul-comm d x) ∙ sym (mul-assoc q x d)
 
 module _ (m j : ℕ) (field : m / 0x10000000000000 ≡ 897 + j) where
-  normal-worth : worth binary64 m ≡ (significand m) * (2 ^ 896 * 2 ^ j)
-  normal-worth = lead-field 0x10000000000000 (896 + j) (m % 0x10000000000000) (m / 0x10000000000000) (omega arith) ∙ ap (λ (x : ℕ). (significand m) * x) (pow-add 2 896 j)
+  normal-worth : worth binary64 m ≡ significand m * (2 ^ 896 * 2 ^ j)
+  normal-worth = lead-field 0x10000000000000 (896 + j) (m % 0x10000000000000) (m / 0x10000000000000) (omega arith) ∙ ap (λ (x : ℕ). significand m * x) (pow-add 2 896 j)
 
   normal-rank : rank 24 (worth binary64 m * 2 ^ 149) (2 ^ 1074) ≡ j * 0x800000 + closest (significand m) 0x20000000
   normal-rank =
@@ -94,52 +93,3 @@ module _ (m j : ℕ) (field : m / 0x10000000000000 ≡ 897 + j) where
     where
       too-far : (j c : ℕ) → 254 ≤ j → 0x800000 ≤ c → 0x7f800000 ≤ j * 0x800000 + c
       too-far j c h k = omega arith
-
--- below 2 ^ -126: q / 2 ^ i units, of which no digit is dropped
-module _ (m x i : ℕ) (field : m / 0x10000000000000 ≡ suc x) (shift : x + i ≡ 925) (most : 30 ≤ i) where
-  low-fraction : worth binary64 m * 2 ^ 149 * 2 ^ i ≡ (significand m) * 2 ^ 1074
-  low-fraction =
-      let q = significand m in
-      ap (λ (w : ℕ). w * 2 ^ 149 * 2 ^ i) (lead-field 0x10000000000000 x (m % 0x10000000000000) (m / 0x10000000000000) field)
-      ∙ ap (λ (z : ℕ). z * 2 ^ i) (mul-assoc q (2 ^ x) (2 ^ 149))
-      ∙ mul-assoc q (2 ^ x * 2 ^ 149) (2 ^ i)
-      ∙ ap (λ (z : ℕ). q * z) (ap (λ (z : ℕ). z * 2 ^ i) (sym (pow-add 2 x 149)) ∙ sym (pow-add 2 (x + 149) i) ∙ ap (λ (z : ℕ). 2 ^ z) (sum x i shift))
-    where
-      sum : (x i : ℕ) → x + i ≡ 925 → x + 149 + i ≡ 1074
-      sum x i e = omega arith
-
-  low-under : significand m < 2 ^ 24 * 2 ^ i
-  low-under = lt-of-lt-of-le (omega arith) (le-trans (pow-mono (wide i most)) (le-of-eq (pow-add 2 24 i)))
-    where
-      wide : (i : ℕ) → 30 ≤ i → 53 ≤ 24 + i
-      wide i h = omega arith
-
-  low-rank : rank 24 (worth binary64 m * 2 ^ 149) (2 ^ 1074) ≡ closest (significand m) (2 ^ i)
-  low-rank =
-      let q = significand m in
-      rank-same 24 (worth binary64 m * 2 ^ 149) (2 ^ 1074) q (2 ^ i) (pow-pos 1074) (pow-pos i) low-fraction ∙ rank-small 24 q (2 ^ i) (pow-pos i) low-under
-
-  pub low-short : m < 0x7ff0000000000000 → short m ≡ closest (significand m) (2 ^ i)
-  low-short h =
-      let q = significand m in
-      short-round m h
-      ∙ round-bits binary32 (worth binary64 m) (2 ^ 1074)
-      (le-trans (le-of-eq low-rank) (le-trans (nearest-le (q / 2 ^ i) (compare (q % 2 ^ i * 2) (2 ^ i))) (le-trans (div-lt-iff-lt-mul (pow-pos i) .1 low-under) (lit≤ tt))))
-      ∙ low-rank
-
--- below 2 ^ -150: less than half a unit
-tiny-lead : (y t : ℕ) → y < 873 → t < 2 ^ 52 → lead (2 ^ 52) y t < 2 ^ 924
-tiny-lead zero t Y H = lt-of-lt-of-le H (lit≤ tt)
-tiny-lead (suc x) t Y H = lt-of-lt-of-le (shl-lt 53 x (omega arith)) (pow-mono {i = 53 + x} {j = 924} (omega arith))
-
-pub tiny-short : (m : ℕ) → m / 0x10000000000000 < 873 → short m ≡ 0
-tiny-short m h =
-    let w = worth binary64 m in
-    let n = w * 2 ^ 149 in
-    let d = 2 ^ 1074 in
-    let less : n * 2 < d = lt-of-lt-of-le (mul-lt-mul-of-pos-right (shl-lt 924 149 (tiny-lead (m / 0x10000000000000) (m % 0x10000000000000) h (omega arith))) (omega arith)) (lit≤ tt) in
-    let r : rank 24 n d ≡ 0 = rank-small 24 n d (pow-pos 1074) (under n d less) ∙ closest-none n d less in
-    short-round m (omega arith) ∙ round-bits binary32 w d (le-trans (le-of-eq r) (lit≤ tt)) ∙ r
-  where
-    under : (n d : ℕ) → n * 2 < d → n < 0x1000000 * d
-    under n d h = omega arith

@@ -37,14 +37,14 @@ number c = no-nan (c .before .args .x) (c .if1 .left)
 held : (c : tie.Else1) → T (fits binary64 (c .before .args .x))
 held c = subst T (sym (c .before .good .0 .1)) tt
 
-magnitude-requires : tie.Need-magnitude-requires
-magnitude-requires c κs = number-bits (c .before .args .x) (number c) (held c)
+pattern-requires : tie.Need-pattern-requires
+pattern-requires c κs = number-bits (c .before .args .x) (number c) (held c)
 
 -- the sum has 32 bits
-small : (c : tie.After-magnitude) → toBits binary64 (c .before .before .args .x) / 0x8000000000000000 * 0x80000000 + c .magnitude .result < 0x100000000
+small : (c : tie.After-pattern) → toBits binary64 (c .before .before .args .x) / 0x8000000000000000 * 0x80000000 + c .pattern .result < 0x100000000
 small c =
     let x = c .before .before .args .x in
-    omega (arith, c .magnitude .ensures, toBits-lt binary64 x (held (c .before)), bits-le (toBits binary64 x % 0x8000000000000000) (number-bits x (number (c .before)) (held (c .before))))
+    omega (arith, c .pattern .ensures, toBits-lt binary64 x (held (c .before)), bits-le (toBits binary64 x % 0x8000000000000000) (number-bits x (number (c .before)) (held (c .before))))
 
 mul-result : tie.Need-mul-result
 mul-result c = omega (arith, small c)
@@ -56,10 +56,10 @@ cast-result : tie.Need-cast-result
 cast-result c = omega (arith, small c)
 
 float-from-bits-result : tie.Need-float-from-bits-result
-float-from-bits-result c = rw (c .magnitude .ensures) (narrow-no-nan (c .before .before .args .x) (number (c .before)) (held (c .before)))
+float-from-bits-result c = rw (c .pattern .ensures) (narrow-no-nan (c .before .before .args .x) (number (c .before)) (held (c .before)))
 
 returns-2 : tie.Need-returns-2
-returns-2 c = rw (c .magnitude .ensures) (narrow-bits (c .before .before .args .x) (number (c .before)) (held (c .before)))
+returns-2 c = rw (c .pattern .ensures) (narrow-bits (c .before .before .args .x) (number (c .before)) (held (c .before)))
 
 pub narrow-spec : {M : Type 1} → statement M
 narrow-spec =
@@ -67,7 +67,7 @@ narrow-spec =
     (tie.spec
     returns
     float-to-bits-bits
-    magnitude-requires
+    pattern-requires
     mul-result
     add-result
     cast-result

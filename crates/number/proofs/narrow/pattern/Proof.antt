@@ -5,8 +5,8 @@ use Rattle.number.proofs.NarrowBits.{over-bits}
 use borrow.Author.Needs.{needs}
 use borrow.Author.Tests.{ltb-false}
 use mathlib.Core.Logic.{⊎-elim}
-use Rattle.number.proofs.narrow.magnitude.Statement.{statement}
-use Rattle.number.proofs.narrow.magnitude.Tie as tie
+use Rattle.number.proofs.narrow.pattern.Statement.{statement}
+use Rattle.number.proofs.narrow.pattern.Tie as tie
 
 ordinary-requires : tie.Need-ordinary-requires
 ordinary-requires c κs = search needs
@@ -23,6 +23,6 @@ returns-2 c = search needs
 returns-3 : tie.Need-returns-3
 returns-3 c = sym (over-bits (c .before .before .args .m) (⊎-elim (λ w. ltb-false _ _ (w .1 .left)) (λ w. omega arith) (c .before .if1 .came)) (c .before .before .pre))
 
-pub magnitude-spec : {M : Type 1} → statement M
-magnitude-spec =
+pub pattern-spec : {M : Type 1} → statement M
+pattern-spec =
     tie.close (tie.spec ordinary-requires subnormal-requires returns returns-2 returns-3)

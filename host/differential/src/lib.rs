@@ -1,5 +1,4 @@
 //! The differential runs: jobs made from a seed, two answers to each, the first difference as a smallest job.
-#![deny(warnings)]
 
 pub mod answer;
 pub mod codes;
@@ -15,3 +14,8 @@ pub mod text;
 
 pub use answer::{Answer, Verdict};
 pub use job::{Job, Window};
+
+/// Whether the full counts are asked for: DIHYRAVO_FULL=1.
+pub fn full() -> bool {
+    std::env::var_os("DIHYRAVO_FULL").is_some_and(|value| value == "1")
+}

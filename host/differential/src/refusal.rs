@@ -26,9 +26,11 @@ pub fn refusal(r: Reference, job: &Job) -> u8 {
     }
 }
 
+type Test = fn(&Job) -> bool;
+
 /// Refusals 1 to 7, or 0.
 pub fn before_the_fit(job: &Job) -> u8 {
-    let tests: [(u8, fn(&Job) -> bool); 7] = [
+    let tests: [(u8, Test); 7] = [
         (1, size),
         (2, stock),
         (3, code),
@@ -92,7 +94,7 @@ fn count(job: &Job) -> bool {
 }
 
 fn not_pairs(values: usize) -> bool {
-    values < 4 || values % 4 != 0 || values / 4 > PAIRS
+    values < 4 || !values.is_multiple_of(4) || values / 4 > PAIRS
 }
 
 fn number(job: &Job) -> bool {

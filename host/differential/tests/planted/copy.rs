@@ -157,9 +157,10 @@ fn solve(mut a: [[f64; 3]; 3], mut b: [f64; 3]) -> Vec<f64> {
         a.swap(col, pivot);
         b.swap(col, pivot);
         for row in col + 1..3 {
-            let f = a[row][col] / a[col][col];
-            for k in col..3 {
-                a[row][k] -= f * a[col][k];
+            let pivot_row = a[col];
+            let f = a[row][col] / pivot_row[col];
+            for (dst, src) in a[row][col..].iter_mut().zip(&pivot_row[col..]) {
+                *dst -= f * src;
             }
             b[row] -= f * b[col];
         }

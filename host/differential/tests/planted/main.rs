@@ -9,12 +9,20 @@ use differential::{Answer, Job, Verdict};
 use reference::{Reference, reference_or_skip};
 
 const SEED: u64 = 2;
-const JOBS: u64 = 10_000;
+
+/// 10,000 jobs, 200,000 with DIHYRAVO_FULL=1.
+fn jobs() -> u64 {
+    if differential::full() {
+        200_000
+    } else {
+        10_000
+    }
+}
 
 fn find(r: Reference, fault: Fault) -> Option<Difference> {
     first_difference(
         SEED,
-        0..JOBS,
+        0..jobs(),
         &|job| expected(r, job),
         &|job| copy(r, job, fault),
         &|job| window_of(r, job),
@@ -138,7 +146,7 @@ fn a_made_up_fault_is_shrunk_to_its_cause() {
         }
     };
     let own = |job: &Job| Some(job.own_window());
-    let found = first_difference(SEED, 0..JOBS, &right, &wrong, &own).unwrap();
+    let found = first_difference(SEED, 0..jobs(), &right, &wrong, &own).unwrap();
     assert_eq!(
         found.smallest.to_string(),
         "method=Affine args=0*9 policy=Gray interpolation=Integer bestfit=no viewport=none \

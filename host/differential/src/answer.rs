@@ -75,6 +75,7 @@ fn place(left: &Answer, right: &Answer, byte: usize) -> String {
     else {
         return format!("byte {byte} of the band of a refused job");
     };
+    let (width, channels) = (width.max(1), channels.max(1));
     let sample = byte / 4;
     let read = |band: &[u8]| {
         let bytes = band[sample * 4..].first_chunk().copied();

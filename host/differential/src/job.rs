@@ -98,7 +98,10 @@ impl Job {
     pub fn with_rows(mut self, window: Window, first_row: u64, rows: u64) -> Self {
         self.first_row = first_row;
         self.rows = rows;
-        self.band = (rows * window.width * self.output_channels() * 4) as usize;
+        let samples = rows
+            .saturating_mul(window.width)
+            .saturating_mul(self.output_channels());
+        self.band = samples.saturating_mul(4) as usize;
         self
     }
 }

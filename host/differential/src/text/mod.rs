@@ -3,132 +3,17 @@
 //! A number that ends in `.0` is written without it, `v*n` is n times v, `#..` is a float that is not finite by its
 //! bits in hexadecimal, and `~n` after a list is n bytes of a broken float.
 
-use crate::{Job, Window, codes};
-use std::fmt::{self, Write};
+mod float;
+mod words;
+
+use crate::{Job, codes};
+use std::fmt;
 use std::str::FromStr;
+use words::{
+    list, name, read_code, read_four, read_list, read_rows, read_size, read_viewport, viewport,
+};
 
-/// A float that writes itself shortly and reads itself back.
-pub trait Float: Copy + PartialEq {
-    fn write(self) -> String;
-    fn read(text: &str) -> Option<Self>;
-    fn same(self, other: Self) -> bool;
-}
-
-macro_rules! float {
-    ($float:ty, $bits:ty, $digits:literal) => {
-        impl Float for $float {
-            fn write(self) -> String {
-                if !self.is_finite() {
-                    return format!(concat!("#{:0", $digits, "x}"), self.to_bits());
-                }
-                let text = format!("{self:?}");
-                text.strip_suffix(".0").map(str::to_string).unwrap_or(text)
-            }
-
-            fn read(text: &str) -> Option<Self> {
-                match text.strip_prefix('#') {
-                    Some(bits) => <$bits>::from_str_radix(bits, 16).ok().map(Self::from_bits),
-                    None => text.parse().ok(),
-                }
-            }
-
-            fn same(self, other: Self) -> bool {
-                self.to_bits() == other.to_bits()
-            }
-        }
-    };
-}
-
-float!(f32, u32, 8);
-float!(f64, u64, 16);
-
-fn list<F: Float>(values: &[F], rest: usize) -> String {
-    let mut text = String::new();
-    let mut k = 0;
-    while k < values.len() {
-        let run = values[k..].iter().take_while(|v| v.same(values[k])).count();
-        if k > 0 {
-            text.push(',');
-        }
-        text += &values[k].write();
-        if run > 1 {
-            write!(text, "*{run}").expect("a string takes all");
-        }
-        k += run;
-    }
-    if rest > 0 {
-        write!(text, "~{rest}").expect("a string takes all");
-    }
-    text
-}
-
-fn read_list<F: Float>(text: &str) -> Option<(Vec<F>, usize)> {
-    let (text, rest) = match text.split_once('~') {
-        Some((text, rest)) => (text, rest.parse().ok()?),
-        None => (text, 0),
-    };
-    let mut values = Vec::new();
-    for word in text.split(',').filter(|_| !text.is_empty()) {
-        let (value, count) = match word.split_once('*') {
-            Some((value, count)) => (value, count.parse().ok()?),
-            None => (word, 1),
-        };
-        values.extend(std::iter::repeat_n(F::read(value)?, count));
-    }
-    Some((values, rest))
-}
-
-fn read_four(text: &str) -> Option<[f32; 4]> {
-    let (values, rest) = read_list(text)?;
-    values.try_into().ok().filter(|_| rest == 0)
-}
-
-fn name(names: &[&str], code: u64) -> String {
-    match names.get(code as usize) {
-        Some(name) => name.to_string(),
-        None => code.to_string(),
-    }
-}
-
-fn read_code(names: &[&str], text: &str) -> Option<u64> {
-    match names.iter().position(|name| *name == text) {
-        Some(code) => Some(code as u64),
-        None => text.parse().ok(),
-    }
-}
-
-fn viewport(window: Option<Window>) -> String {
-    match window {
-        None => "none".into(),
-        Some(w) => format!("{}x{}@{},{}", w.width, w.height, w.x, w.y),
-    }
-}
-
-fn read_viewport(text: &str) -> Option<Option<Window>> {
-    if text == "none" {
-        return Some(None);
-    }
-    let (size, offset) = text.split_once('@')?;
-    let (width, height) = size.split_once('x')?;
-    let (x, y) = offset.split_once(',')?;
-    Some(Some(Window {
-        width: width.parse().ok()?,
-        height: height.parse().ok()?,
-        x: x.parse().ok()?,
-        y: y.parse().ok()?,
-    }))
-}
-
-fn read_size(text: &str) -> Option<(u64, u64, u64)> {
-    let mut numbers = text.split('x').map(|n| n.parse().ok());
-    let size = (numbers.next()??, numbers.next()??, numbers.next()??);
-    numbers.next().is_none().then_some(size)
-}
-
-fn read_rows(text: &str) -> Option<(u64, u64)> {
-    let (first, rows) = text.split_once('+')?;
-    Some((first.parse().ok()?, rows.parse().ok()?))
-}
+pub use float::Float;
 
 impl fmt::Display for Job {
     fn fmt(&self, f: &mut fmt::Formatter) -> fmt::Result {
@@ -194,7 +79,7 @@ impl Job {
 
 #[cfg(test)]
 mod tests {
-    use super::*;
+    use crate::{Job, Window};
 
     #[test]
     fn a_job_reads_itself_back_with_every_bit() {

@@ -12,7 +12,8 @@ pub enum Verdict {
         x: i64,
         y: i64,
         channels: u64,
-        matte: u64,
+        /// Pixels of the band without a usable source point.
+        undefined: u64,
     },
 }
 
@@ -43,10 +44,10 @@ impl fmt::Display for Verdict {
                 x,
                 y,
                 channels,
-                matte,
+                undefined,
             } => write!(
                 f,
-                "accepted {width}x{height}@{x},{y}, {channels} channels, {matte} matte"
+                "accepted {width}x{height}@{x},{y}, {channels} channels, {undefined} undefined"
             ),
         }
     }

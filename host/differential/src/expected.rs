@@ -83,7 +83,7 @@ fn distorted(r: Reference, job: &Job, w: Window) -> Output {
         policy: job.policy as u8,
         interpolation: job.interpolation as u8,
         background: job.background,
-        matte: job.matte,
+        undefined: job.undefined,
         picture: picture(job),
     });
     let output = output.expect("an accepted job is distorted");
@@ -98,8 +98,8 @@ fn accepted(r: Reference, job: &Job) -> Answer {
     let w = window(job, &mapping);
     let whole = distorted(r, job, w).samples;
     let channels = job.output_channels();
-    let matte_pixel = narrowed(job.matte, channels);
-    let mut matte = 0;
+    let undefined_pixel = narrowed(job.undefined, channels);
+    let mut undefined = 0;
     let mut band = Vec::with_capacity(job.band);
     for j in job.first_row..job.first_row + job.rows {
         for i in 0..w.width {
@@ -107,11 +107,11 @@ fn accepted(r: Reference, job: &Job) -> Answer {
             let start = ((j * w.width + i) * channels) as usize;
             let made = &whole[start..start + channels as usize];
             let good = point.is_some_and(usable);
-            matte += u64::from(!good);
+            undefined += u64::from(!good);
             let pixel = if point.is_none() || good {
                 made
             } else {
-                &matte_pixel
+                &undefined_pixel
             };
             band.extend(pixel.iter().flat_map(|x| x.to_le_bytes()));
         }
@@ -122,7 +122,7 @@ fn accepted(r: Reference, job: &Job) -> Answer {
         x: w.x,
         y: w.y,
         channels,
-        matte,
+        undefined,
     };
     Answer { verdict, band }
 }

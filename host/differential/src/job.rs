@@ -22,7 +22,8 @@ pub struct Job {
     pub bestfit: bool,
     pub viewport: Option<Window>,
     pub background: [f32; 4],
-    pub matte: [f32; 4],
+    /// The colour of a pixel without a usable source point, the matte of document 01.
+    pub undefined: [f32; 4],
     pub width: u64,
     pub height: u64,
     pub channels: u64,
@@ -47,7 +48,7 @@ impl Job {
             bestfit: false,
             viewport: None,
             background: [1.0; 4],
-            matte: [0.0, 0.0, 0.0, 1.0],
+            undefined: [0.0, 0.0, 0.0, 1.0],
             width: 1,
             height: 1,
             channels: 1,

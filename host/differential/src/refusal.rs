@@ -32,7 +32,7 @@ type Test = fn(&Job) -> bool;
 pub fn before_the_fit(job: &Job) -> u8 {
     let tests: [(u8, Test); 7] = [
         (1, size),
-        (2, stock),
+        (2, length),
         (3, code),
         (4, count),
         (5, number),
@@ -68,7 +68,7 @@ fn size(job: &Job) -> bool {
 }
 
 /// Asked after `size`, so the product is small.
-fn stock(job: &Job) -> bool {
+fn length(job: &Job) -> bool {
     let needed = job.width * job.height * job.channels;
     job.samples.len() as u64 != needed || job.samples_rest != 0
 }
@@ -103,7 +103,7 @@ fn number(job: &Job) -> bool {
     job.args.iter().any(bad_argument)
         || job.samples.iter().any(bad_sample)
         || job.background.iter().any(bad_sample)
-        || job.matte.iter().any(bad_sample)
+        || job.undefined.iter().any(bad_sample)
 }
 
 fn order(job: &Job) -> bool {

@@ -50,7 +50,7 @@ fn accepted_jobs_cover_the_domain() {
     let r = reference_or_skip!();
     let window = |job: &Job| expected::window_of(r, job);
     let mut seen: BTreeMap<String, u64> = BTreeMap::new();
-    let (mut pixels, mut matte) = (0, 0);
+    let (mut pixels, mut undefined) = (0, 0);
     for index in 0..6_000 {
         let job = generate::job(SEED, index, &window);
         match expected::expected(r, &job).verdict {
@@ -58,10 +58,12 @@ fn accepted_jobs_cover_the_domain() {
                 *seen.entry(format!("refused {number:2}")).or_default() += 1;
             }
             Verdict::Accepted {
-                width, matte: m, ..
+                width,
+                undefined: m,
+                ..
             } => {
                 pixels += width * job.rows;
-                matte += m;
+                undefined += m;
                 for thing in things(&job) {
                     *seen.entry(thing).or_default() += 1;
                 }
@@ -71,7 +73,7 @@ fn accepted_jobs_cover_the_domain() {
     for (thing, count) in &seen {
         println!("{count:6} {thing}");
     }
-    println!("{pixels} pixels, {matte} of them matte");
+    println!("{pixels} pixels, {undefined} of them undefined");
     let mut needed: Vec<String> = (1..=11).map(|n| format!("refused {n:2}")).collect();
     needed.extend(codes::PRESENT.map(|m| format!("method {}", codes::METHODS[m as usize])));
     needed.extend(codes::POLICIES.map(|p| format!("policy {p}")));
@@ -92,7 +94,7 @@ fn accepted_jobs_cover_the_domain() {
             "no {pairs} pairs"
         );
     }
-    assert!(pixels > 4 * matte, "too many pixels are matte");
+    assert!(pixels > 4 * undefined, "too many pixels are undefined");
 }
 
 fn things(job: &Job) -> Vec<String> {

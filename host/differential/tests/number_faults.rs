@@ -71,11 +71,8 @@ fn narrowings() {
     let saturated = |x: u64| {
         let y = f64::from_bits(x) as f32;
         let border = f64::from_bits(x).abs() == f32::MAX as f64 + 2f64.powi(103);
-        if border {
-            y.signum() as i32 as u32
-        } else {
-            y.to_bits()
-        }
+        let kept = if border { f32::MAX.copysign(y) } else { y };
+        kept.to_bits()
     };
     assert!(narrow_finds(saturated), "the border of overflow");
 }

@@ -67,7 +67,7 @@ impl Reference {
         let interpolation = named("interpolation", &INTERPOLATIONS, call.interpolation)?;
         job.resampling = Resampling::Point(interpolation);
         job.background = call.background;
-        job.matte = call.matte;
+        job.matte = call.undefined;
         let made = job.distort(&image(call.picture)?).map_err(said)?;
         Ok(Output {
             width: made.image.width(),

@@ -22,7 +22,8 @@ pub struct Call<'a> {
     pub policy: u8,
     pub interpolation: u8,
     pub background: [f32; 4],
-    pub matte: [f32; 4],
+    /// The original's `matte`: the colour where the mapping is undefined.
+    pub undefined: [f32; 4],
     pub picture: Picture<'a>,
 }
 

@@ -135,7 +135,7 @@ fn distort_by_nothing_gives_the_picture_in_its_window() {
         policy: 0,
         interpolation: BILINEAR,
         background: [1.0; 4],
-        matte: [0.5; 4],
+        undefined: [0.5; 4],
         picture,
     };
     let same = r.distort(&call).unwrap();

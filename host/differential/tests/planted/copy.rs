@@ -14,8 +14,8 @@ pub enum Fault {
     Unweighted,
     ClampedFirst,
     FirstPivot,
-    NoMatte,
-    MatteBelow,
+    NoCount,
+    UndefinedBelow,
     SideLimit,
     PairLimit,
     OrderLimit,
@@ -65,7 +65,7 @@ fn accepted(r: Reference, job: &Job, fault: Fault) -> Answer {
     let other = (fault == Fault::FirstPivot)
         .then(|| first_pivot(job))
         .flatten();
-    let mut matte = 0;
+    let mut undefined = 0;
     let mut band = Vec::new();
     for j in job.first_row..job.first_row + job.rows {
         for i in 0..w.width {
@@ -79,18 +79,18 @@ fn accepted(r: Reference, job: &Job, fault: Fault) -> Answer {
             let colour = match point.filter(|p| usable(*p)) {
                 Some((u, v)) => read(r, &sampler, job, fault, u - 0.5, v - 0.5),
                 None => {
-                    matte += 1;
-                    job.matte
+                    undefined += 1;
+                    job.undefined
                 }
             };
-            let below = fault == Fault::MatteBelow && j > job.first_row;
-            let colour = if below { job.matte } else { colour };
+            let below = fault == Fault::UndefinedBelow && j > job.first_row;
+            let colour = if below { job.undefined } else { colour };
             let pixel = narrowed(colour, job.output_channels());
             band.extend(pixel.iter().flat_map(|x| x.to_le_bytes()));
         }
     }
-    if fault == Fault::NoMatte {
-        matte = 0;
+    if fault == Fault::NoCount {
+        undefined = 0;
     }
     let verdict = Verdict::Accepted {
         width: w.width,
@@ -98,7 +98,7 @@ fn accepted(r: Reference, job: &Job, fault: Fault) -> Answer {
         x: w.x,
         y: w.y,
         channels: job.output_channels(),
-        matte,
+        undefined,
     };
     Answer { verdict, band }
 }

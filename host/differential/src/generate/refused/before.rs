@@ -26,7 +26,7 @@ pub(super) fn size(r: &mut Random, job: &mut Job) {
     }
 }
 
-pub(super) fn stock(r: &mut Random, job: &mut Job) {
+pub(super) fn length(r: &mut Random, job: &mut Job) {
     match r.below(4) {
         0 => job.samples.clear(),
         1 => job.samples.push(0.5),
@@ -96,7 +96,7 @@ pub(super) fn number(r: &mut Random, job: &mut Job) {
     let k = r.below(4) as usize;
     match r.below(3) {
         0 => job.background[k] = x,
-        1 => job.matte[k] = x,
+        1 => job.undefined[k] = x,
         _ => {
             let places = [
                 0,

@@ -37,7 +37,7 @@ pub fn job(r: &mut Random, window: Finder) -> Job {
 fn edit(r: &mut Random, row: u64, job: &mut Job, window: Finder) {
     match row {
         1 => before::size(r, job),
-        2 => before::stock(r, job),
+        2 => before::length(r, job),
         3 => before::code(r, job),
         4 => before::count(r, job),
         5 => before::number(r, job),

@@ -1,5 +1,6 @@
 -- The words that the crates' definitions are written in, and that the bounds need. No pictures here.
 pub mod Loop
+pub mod Table
 pub mod Double
 pub mod Single
 pub mod Fraction

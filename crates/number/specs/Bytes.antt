@@ -1,1 +1,59 @@
--- Bytes
+-- How bytes are numbers and floats, for the whole product: a number has its lowest byte first, and a float is its
+-- IEEE 754 pattern as such a number. A list of bytes reads as 0 past its end. Assumes nothing.
+use Prim.Native.Nat.{ℕ, zero, suc, _+_, _*_, _/_, _%_}
+use mathlib.Core.Bool.{Bool}
+use mathlib.Core.List.{List}
+use lib.ListN.{getD, set}
+use lib.Ieee.{Float, Format, binary32, binary64, ofBits, toBits, le}
+use Rattle.number.specs.Magnitude.{abs}
+
+-- ---- numbers
+
+-- the number that k bytes of s from `at` on stand for, the lowest first
+unfoldable pub numberAt : ℕ → List ℕ → ℕ → ℕ
+numberAt zero s at = 0
+numberAt (suc k) s at = getD s at 0 + 256 * numberAt k s (at + 1)
+
+-- s with the k lowest bytes of n from `at` on, the lowest first
+unfoldable pub putNumber : ℕ → List ℕ → ℕ → ℕ → List ℕ
+putNumber zero s at n = s
+putNumber (suc k) s at n = putNumber k (set s at (n % 256)) (at + 1) (n / 256)
+
+abbrev pub u32At : List ℕ → ℕ → ℕ
+u32At = numberAt 4
+
+abbrev pub u64At : List ℕ → ℕ → ℕ
+u64At = numberAt 8
+
+abbrev pub putU32 : List ℕ → ℕ → ℕ → List ℕ
+putU32 = putNumber 4
+
+abbrev pub putU64 : List ℕ → ℕ → ℕ → List ℕ
+putU64 = putNumber 8
+
+-- ---- floats. Every NaN pattern is read as `nan`, which is written as 0x7fc00000 or 0x7ff8000000000000.
+
+abbrev pub f32At : List ℕ → ℕ → Float
+f32At s at = ofBits binary32 (u32At s at)
+
+abbrev pub f64At : List ℕ → ℕ → Float
+f64At s at = ofBits binary64 (u64At s at)
+
+abbrev pub putF32 : List ℕ → ℕ → Float → List ℕ
+putF32 s at x = putU32 s at (toBits binary32 x)
+
+abbrev pub putF64 : List ℕ → ℕ → Float → List ℕ
+putF64 s at x = putU64 s at (toBits binary64 x)
+
+-- the f32 numbered k of a picture's bytes, and the f64 numbered k of the arguments'
+abbrev pub sampleAt : List ℕ → ℕ → Float
+sampleAt s k = f32At s (4 * k)
+
+abbrev pub argumentAt : List ℕ → ℕ → Float
+argumentAt s k = f64At s (8 * k)
+
+-- ---- limits
+
+-- x is at most `limit` in magnitude. A NaN is not, and under a finite limit neither is an infinity.
+unfoldable pub within : Float → Float → Bool
+within limit x = le (abs x) limit

@@ -2,9 +2,8 @@
 -- the format's unit by one computed test, so that a caller writes numbers and `tt`.
 -- Provides: `rounds-bound`, the law for both formats and every power of two; `close-move` (from an exact result to the one that was meant), `close-more`,
 -- `add-step`, `sub-step` (from record to record); and examples: `within64-14`, `within32-0`, `third`, `one-third`. Assumes nothing.
-use mathlib.Core.Path.{_≡_, refl, ap, _∙_, subst}
-use mathlib.Core.List.{List, [], _∷_}
-use mathlib.Core.Logic.{⊎-elim}
+use mathlib.Core.Path.{_≡_, refl, ap}
+use mathlib.Core.List.{[], _∷_}
 use mathlib.Core.Bool.{Bool, true, false, _&&_}
 use Prim.Native.Nat.{ℕ, _+_, _-_, _*_, _^_, _≤_, _<_}
 use native.Mathlib.Nat.{mul-pos, zero-lt-suc}
@@ -15,12 +14,12 @@ use lib.Pow.{pow-pos}
 use lib.Ieee.{Float, fin, Format, binary32, binary64, prec, emax, low, round, add, sub, div}
 use lib.Ieee.Fits.{and-l, and-r}
 use Rattle.exact.specs.Fraction.{Fraction, frac, value, _≤F_, _<F_, _≈_, _+F_, _-F_, _/F_, absF, distance, Within}
-use Rattle.exact.specs.Rounds.{signed, Rounds, Close, power, half-ulp, fine}
-use Rattle.exact.proofs.Scale.{At, eq-at, at-eq, at-sub, common}
+use Rattle.exact.specs.Rounds.{Rounds, Close, power, half-ulp, fine}
+use Rattle.exact.proofs.Scale.{eq-at, at-eq, at-sub, common}
 use Rattle.exact.proofs.Near.{le-trans, eq-le, eq-sym, within-more, within-trans, within-add, within-sub}
 use Rattle.exact.proofs.Signed.{signed-le, signed-eq}
 use Rattle.exact.proofs.Magnitude.{abs-alike}
-use Rattle.exact.proofs.Rounds.{rounds-self, rounds-close}
+use Rattle.exact.proofs.Rounds.{rounds-self, rounds-within}
 use Rattle.exact.proofs.Operations.{div-rounds, add-close, sub-close}
 
 -- ---- weaker: a larger error, a larger bound
@@ -49,7 +48,7 @@ rounds-bound {f} {r} {X} R K b d e g t h =
     go top D G same small =
         let s : frac b d ≈ power f K = signed-eq false b d false (2 ^ K) (2 ^ low f) D (pow-pos (low f)) (ap (λ (z : ℕ). z + 0) same) in
         close-more (signed-le false (2 ^ (K - prec f)) (2 ^ low f * 2) false e g (mul-pos (pow-pos (low f)) (zero-lt-suc 1)) G (plain (2 ^ (K - prec f) * g) (e * (2 ^ low f * 2)) small))
-        (eq-le (power f K) (frac b d) (eq-sym (frac b d) (power f K) s)) (rounds-close R K top (le-trans (absF X) (frac b d) (power f K) h (eq-le (frac b d) (power f K) s)))
+        (eq-le (power f K) (frac b d) (eq-sym (frac b d) (power f K) s)) (rounds-within R K top (le-trans (absF X) (frac b d) (power f K) h (eq-le (frac b d) (power f K) s)))
       where
         plain : (x y : ℕ) → x ≤ y → x + 0 ≤ y + 0
         plain x y h = omega arith

@@ -1,18 +1,17 @@
 -- Sizes: a fraction at a scale with one part 0 is a sign and a size, and then |x| ≤ b and, for one sign, |x - y| ≤ e are comparisons of sizes.
 -- Provides: `at-same` (equal fractions stand alike at a scale); `Sized`, `sized-signed`, `sized-same`, `sized-more`; `abs-sized`, `abs-alike`;
 -- `sized-within`, `near-sized`. Assumes nothing.
-use mathlib.Core.Path.{_≡_, refl, sym, ap, _∙_, subst}
-use mathlib.Core.List.{List, [], _∷_}
+use mathlib.Core.Path.{_≡_, sym, ap, subst}
+use mathlib.Core.List.{[], _∷_}
 use mathlib.Core.Logic.{_⊎_, inl, inr, ⊎-elim}
 use mathlib.Core.Bool.{Bool, true, false, cond}
-use Prim.Native.Nat.{ℕ, suc, _+_, _-_, _*_, _≤_, _<_}
+use Prim.Native.Nat.{ℕ, _+_, _*_, _≤_, _<_}
 use native.Mathlib.Nat.{eq-of-mul-eq-mul-right, mul-comm, mul-pos}
 use native.Mathlib.Omega.{arith}
-use Rattle.exact.specs.Fraction.{Fraction, over, ratio, frac, _≤F_, _≈_, absF, Within}
+use Rattle.exact.specs.Fraction.{Fraction, over, _≤F_, _≈_, absF, Within}
 use Rattle.exact.specs.Rounds.{signed}
-use Rattle.exact.proofs.Scale.{At, at-le, le-at, at-eq, eq-at, at-ratio, at-more, over-pos, common}
-use Rattle.exact.proofs.Near.{at-abs, within-at, at-within}
-use Rattle.exact.proofs.Signed.{signed-at}
+use Rattle.exact.proofs.Scale.{At, at-le, at-ratio, at-more, over-pos, common}
+use Rattle.exact.proofs.Near.{at-abs, at-within}
 
 -- ---- equal fractions stand alike
 pub at-same : {D : ℕ} {x y : Fraction} {p n : ℕ} → x ≈ y → At D x p n → At D y p n

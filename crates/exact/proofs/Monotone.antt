@@ -5,25 +5,25 @@
 -- `rounds-fits`. Assumes nothing.
 use mathlib.Core.Path.{_≡_, refl, sym, ap, _∙_, subst}
 use mathlib.Core.Bool.{Bool, true, false, cond}
-use Prim.Native.Nat.{ℕ, suc, _+_, _-_, _*_, _^_, _≤_, _<_}
-use native.Mathlib.Nat.{le-of-eq, lt-of-le-of-lt, le-trans, mul-comm, mul-right-comm, mul-le-mul-right, mul-pos, zero-lt-suc}
+use Prim.Native.Nat.{ℕ, _+_, _*_, _^_, _≤_, _<_}
+use native.Mathlib.Nat.{le-of-eq, lt-of-le-of-lt, le-trans, mul-comm, mul-right-comm, mul-le-mul-right, mul-pos}
 use native.Mathlib.Omega.{arith}
 use lib.IntN.{pos}
 use lib.Dec.{T}
 use lib.Pow.{pow-pos}
-use lib.Ieee.{Float, nan, inf, fin, Format, prec, emax, low, up, down, round, fits}
+use lib.Ieee.{Float, nan, inf, fin, Format, prec, low, up, down, round, fits}
 use lib.Ieee.Fits.{down-pos, round-fits}
 use lib.Ieee.Order.{drop, kept}
 use lib.Ieee.Scale.{grid, overflow, finite}
 use Rattle.exact.specs.Fraction.{Fraction, frac, value, _≤F_, _≈_, absF}
 use Rattle.exact.specs.Rounds.{signed, Rounds}
-use Rattle.exact.proofs.Scale.{At, at-le, le-at, at-ratio}
-use Rattle.exact.proofs.Near.{le-refl, eq-le, eq-sym, eq-trans, le-antisym}
-use Rattle.exact.proofs.Ulp.{grid-mono, grid-zero}
-use Rattle.exact.proofs.Signed.{Lower, Level, le-signed, eq-signed}
+use Rattle.exact.proofs.Scale.{At, at-le, le-at}
+use Rattle.exact.proofs.Near.{eq-le, eq-sym, eq-trans, le-antisym}
+use Rattle.exact.proofs.GridOrder.{grid-mono, grid-zero}
+use Rattle.exact.proofs.Signed.{Lower, Level, eq-signed}
 use Rattle.exact.proofs.Magnitude.{Sized, sized-same, sized-more, abs-sized, abs-alike}
-use Rattle.exact.proofs.Rounding.{round-under, round-finite, round-sized, round-fixed, round-own}
-use Rattle.exact.proofs.Rounds.{rounds-self, prec-pos}
+use Rattle.exact.proofs.Held.{round-held}
+use Rattle.exact.proofs.Rounding.{prec-pos, round-under, round-finite, round-sized, round-fixed}
 
 -- ---- in units
 unit-mono : (f : Format) (a c b d : ℕ) → 0 < c → 0 < d → a * d ≤ b * c → grid f a c ≤ grid f b d
@@ -94,7 +94,7 @@ module _ {f : Format} {r : Float} {X : Fraction} (R : Rounds f r X) where
   pub rounds-fits : T (fits f r)
   rounds-fits = subst (λ (z : Float). T (fits f z)) (sym (R .is)) (round-fits f (R .sign) (R .num) (R .den))
 
-  pub rounds-fixed : (t : Bool) (q j : ℕ) → q < 2 ^ prec f → q * 2 ^ j < overflow f → X ≈ signed t (q * 2 ^ j) (2 ^ low f) → T (finite r) × (value r ≈ X)
+  pub rounds-fixed : (t : Bool) (q j : ℕ) → q ≤ 2 ^ prec f → q * 2 ^ j < overflow f → X ≈ signed t (q * 2 ^ j) (2 ^ low f) → T (finite r) × (value r ≈ X)
   rounds-fixed t q j Q O e =
       let s = R .sign in
       let a = R .num in
@@ -154,7 +154,7 @@ pub rounds-own : (f : Format) (y : Float) → T (fits f y) → T (finite y) → 
 rounds-own f nan p t = absurd t
 rounds-own f (inf s) p t = absurd t
 rounds-own f (fin s m e) p t =
-    record { sign = s; num = m * up e; den = down e; den-pos = down-pos e; is = sym (round-own f s m e p); exact = record { eq = refl } }
+    record { sign = s; num = m * up e; den = down e; den-pos = down-pos e; is = sym (round-held f (fin s m e) s (m * up e) (down e) (down-pos e) p (refl, refl)); exact = record { eq = refl } }
 
 module _ {f : Format} {r : Float} {X : Fraction} (R : Rounds f r X) (y : Float) (p : T (fits f y)) (u : T (finite y)) where
   pub rounds-at-most : T (finite r) → X ≤F value y → value r ≤F value y

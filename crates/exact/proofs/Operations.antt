@@ -1,25 +1,26 @@
 -- Each operation on finite floats is the exact fractions' own operation, rounded once: the library hands `round` two naturals and a sign, which are
 -- the exact result at the scale of both denominators. So a chain of operations goes from record to record and no float is spelled out.
--- Provides: `add-rounds`, `sub-rounds`, `mul-rounds`, `div-rounds` (a divisor of either sign); `add-close`, `sub-close`, `mul-close`, `div-close` (finite,
+-- Provides: `add-rounds`, `sub-rounds`, `mul-rounds`, `div-rounds` (a divisor of either sign), `int-rounds`, `int-value`; `add-close`, `sub-close`, `mul-close`, `div-close` (finite,
 -- within half an ulp, and of bounded size, from a power of two that bounds the exact result). The comparisons are in Signed. Assumes nothing.
-use mathlib.Core.Path.{_≡_, refl, sym, ap, _∙_, subst}
-use mathlib.Core.Bool.{Bool, true, false, not, _&&_, Bool·beq, cond}
-use Prim.Native.Nat.{ℕ, zero, suc, _+_, _-_, _*_, _^_, _≤_, _<_}
-use native.Mathlib.Nat.{mul-comm, mul-pos, lt-irrefl, zero-mul, sub-zero}
+use mathlib.Core.Path.{_≡_, refl, ap, _∙_, subst}
+use mathlib.Core.Bool.{Bool, true, false, not, cond}
+use Prim.Native.Nat.{ℕ, suc, _+_, _-_, _*_, _^_, _≤_, _<_}
+use native.Mathlib.Nat.{mul-comm, mul-pos, lt-irrefl, zero-lt-suc, zero-mul, sub-zero}
 use native.Mathlib.Omega.{arith}
-use lib.IntN.{ℤ}
-use lib.Dec.{T, ltb, eqb, ltb→lt, nltb→le, eqb→eq}
-use lib.Ieee.{Float, nan, inf, fin, Format, emax, low, up, down, unlike, round, sum, neg, add, sub, mul, div}
+use lib.IntN.{ℤ, pos, negsuc}
+use lib.Dec.{T, ltb, eqb, leb→le, ltb→lt, nltb→le, eqb→eq}
+use lib.Ieee.{Float, nan, inf, fin, Format, prec, emax, low, up, down, unlike, round, sum, neg, add, sub, mul, div, ofInt, inFloat}
+use lib.Ieee.Back.{round-whole}
 use lib.Ieee.Fits.{down-pos}
 use lib.Ieee.Scale.{finite}
-use Rattle.exact.specs.Fraction.{Fraction, frac, value, _≤F_, _<F_, _≈_, negF, _+F_, _-F_, _*F_, _/F_, absF}
-use Rattle.exact.specs.Rounds.{signed, Rounds, Close, power, half-ulp}
-use Rattle.exact.proofs.Scale.{At, lt-at, at-eq, at-ratio, at-add, at-mul}
-use Rattle.exact.proofs.Near.{eq-le, add-same}
-use Rattle.exact.proofs.Signed.{neg-value, neg-finite}
+use Rattle.exact.specs.Fraction.{Fraction, frac, whole, value, _≤F_, _<F_, _≈_, negF, _+F_, _-F_, _*F_, _/F_, absF}
+use Rattle.exact.specs.Rounds.{Rounds, Close, power, half-ulp}
+use Rattle.exact.proofs.Scale.{At, lt-at, at-eq, at-add, at-mul}
+use Rattle.exact.proofs.Near.{add-same}
+use Rattle.exact.proofs.Signed.{has-value, has-finite, neg-value, neg-finite}
 use Rattle.exact.proofs.Magnitude.{Sized, sized-signed, sized-more, abs-sized}
 use Rattle.exact.proofs.Quotient.{at-div, at-div-neg}
-use Rattle.exact.proofs.Rounds.{rounds-along, rounds-close}
+use Rattle.exact.proofs.Rounds.{rounds-self, rounds-along, rounds-within}
 
 -- ---- what `round` is handed, against the exact result at its scale
 of-round : (f : Format) (s : Bool) (a c : ℕ) → 0 < c → {Z : Fraction} (p n : ℕ) → At c Z p n → cond s 0 a + n ≡ p + cond s a 0 → Rounds f (round f s a c) Z
@@ -88,14 +89,14 @@ mul-rounds f (fin s m e) (fin t n d) p q = product-rounds f s (m * up e) (down e
 quotient-rounds : (f : Format) (s : Bool) (a : ℕ) (t : Bool) (b D : ℕ) → 0 < b → {x y : Fraction} → Sized D x s a → Sized D y t b → Rounds f (round f (unlike s t) a b) (x /F y)
 quotient-rounds f s a t b D B {x} {y} X Y = go s t X Y
   where
-    whole : (p n : ℕ) → At (b - 0) (x /F y) p n → At b (x /F y) p n
-    whole p n Z = subst (λ (z : ℕ). At z (x /F y) p n) (sub-zero b) Z
+    plain : (p n : ℕ) → At (b - 0) (x /F y) p n → At b (x /F y) p n
+    plain p n Z = subst (λ (z : ℕ). At z (x /F y) p n) (sub-zero b) Z
 
     go : (s t : Bool) → Sized D x s a → Sized D y t b → Rounds f (round f (unlike s t) a b) (x /F y)
-    go true true X Y = of-round f false a b B a 0 (whole a 0 (at-div-neg X Y B)) refl
-    go false true X Y = of-round f true a b B 0 a (whole 0 a (at-div-neg X Y B)) refl
-    go true false X Y = of-round f true a b B 0 a (whole 0 a (at-div X Y B)) refl
-    go false false X Y = of-round f false a b B a 0 (whole a 0 (at-div X Y B)) refl
+    go true true X Y = of-round f false a b B a 0 (plain a 0 (at-div-neg X Y B)) refl
+    go false true X Y = of-round f true a b B 0 a (plain 0 a (at-div-neg X Y B)) refl
+    go true false X Y = of-round f true a b B 0 a (plain 0 a (at-div X Y B)) refl
+    go false false X Y = of-round f false a b B a 0 (plain a 0 (at-div X Y B)) refl
 
 -- a divisor that is not 0 has digits
 digits : (t : Bool) (n : ℕ) (d : ℤ) → frac 0 1 <F absF (value (fin t n d)) → 0 < n * up d
@@ -128,16 +129,28 @@ div-rounds f (fin s m e) (fin t n d) p q h = go (eqb n 0) (eqb→eq n 0)
     go false k =
         quotient-rounds f s (m * up e * down d) t (n * up d * down e) (down e * down d) (mul-pos B (down-pos e)) (left s m e d) (right t n d e)
 
+-- ---- an integer as a float, exact up to 2 ^ prec
+pub int-rounds : (f : Format) (z : ℤ) → Rounds f (ofInt f z) (whole z)
+unfolding ofInt
+int-rounds f (pos n) = rounds-self f false n 1 (zero-lt-suc 0)
+int-rounds f (negsuc n) = rounds-self f true (suc n) 1 (zero-lt-suc 0)
+
+pub int-value : (f : Format) (z : ℤ) → T (inFloat f z) → T (finite (ofInt f z)) × (value (ofInt f z) ≈ whole z)
+unfolding ofInt inFloat
+int-value f (pos n) t = let v = round-whole f false n (leb→le n (2 ^ prec f) t) in (has-finite (round f false n 1) false n 1 v, has-value (round f false n 1) false n 1 (zero-lt-suc 0) v)
+int-value f (negsuc n) t =
+    let v = round-whole f true (suc n) (ltb→lt n (2 ^ prec f) t) in (has-finite (round f true (suc n) 1) true (suc n) 1 v, has-value (round f true (suc n) 1) true (suc n) 1 (zero-lt-suc 0) v)
+
 -- ---- an operation whose exact result is at most 2 ^ K units in size
 module _ (f : Format) (x y : Float) (p : T (finite x)) (q : T (finite y)) (K : ℕ) (top : K ≤ low f + emax f) where
   pub add-close : absF (value x +F value y) ≤F power f K → Close (add f x y) (value x +F value y) (half-ulp f K) (power f K)
-  add-close h = rounds-close (add-rounds f x y p q) K top h
+  add-close h = rounds-within (add-rounds f x y p q) K top h
 
   pub sub-close : absF (value x -F value y) ≤F power f K → Close (sub f x y) (value x -F value y) (half-ulp f K) (power f K)
-  sub-close h = rounds-close (sub-rounds f x y p q) K top h
+  sub-close h = rounds-within (sub-rounds f x y p q) K top h
 
   pub mul-close : absF (value x *F value y) ≤F power f K → Close (mul f x y) (value x *F value y) (half-ulp f K) (power f K)
-  mul-close h = rounds-close (mul-rounds f x y p q) K top h
+  mul-close h = rounds-within (mul-rounds f x y p q) K top h
 
   pub div-close : frac 0 1 <F absF (value y) → absF (value x /F value y) ≤F power f K → Close (div f x y) (value x /F value y) (half-ulp f K) (power f K)
-  div-close z h = rounds-close (div-rounds f x y p q z) K top h
+  div-close z h = rounds-within (div-rounds f x y p q z) K top h

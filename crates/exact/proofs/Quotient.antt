@@ -1,9 +1,9 @@
 -- A quotient of fractions at a scale: x / y is (p - n) / (q - m) where x is (p - n) / D and y is (q - m) / D, with the signs turned for a y
 -- below 0. Provides: `at-move` (from one scale to another), `at-div`, `at-div-neg`. Assumes nothing.
-use mathlib.Core.Path.{_≡_, sym, ap, _∙_, subst}
+use mathlib.Core.Path.{_≡_, sym, ap, _∙_}
 use mathlib.Core.Bool.{Bool, true, false, not, cond}
-use Prim.Native.Nat.{ℕ, suc, _+_, _-_, _*_, _≤_, _<_}
-use native.Mathlib.Nat.{eq-of-mul-eq-mul-right, mul-pos, mul-le-mul-right, le-of-lt, lt-of-mul-lt-mul-right, mul-lt-mul-of-pos-right, not-le-of-lt}
+use Prim.Native.Nat.{ℕ, _+_, _-_, _*_, _≤_, _<_}
+use native.Mathlib.Nat.{eq-of-mul-eq-mul-right, mul-pos, le-of-lt, lt-of-mul-lt-mul-right, mul-lt-mul-of-pos-right, not-le-of-lt}
 use native.Mathlib.Omega.{arith}
 use lib.Dec.{T, ltb, ltb→lt, nltb→le}
 use Rattle.exact.specs.Fraction.{Fraction, over, ratio, _/F_}

@@ -1,24 +1,24 @@
 -- The error of one rounding: r is X rounded once, so r and X are two sizes with one sign at the scale of a unit times X's denominator,
 -- and the whole numbers' laws (Ulp) are the error's.
--- Provides, of `Rounds f r X`: `rounds-self`, `rounds-along` (equal fractions); `rounds-close` (half an ulp below a power of two, with the size and
--- that r is a number), `rounds-relative` (2 ^ -prec of X and half a unit), `rounds-normal` (without the half unit, in the normal range). Assumes nothing.
+-- Provides, of `Rounds f r X`: `rounds-self`, `rounds-along` (equal fractions); `rounds-within` (half an ulp below a power of two, with the size and
+-- that r is a number), `rounds-relative` (2 ^ -prec of X and half a unit), `rounds-normal` (without the half unit, in the normal range); and the same
+-- of `round f s a c` itself: `round-within`, `round-relative`, `round-normal`. Assumes nothing.
 use mathlib.Core.Path.{_≡_, refl, sym, ap, _∙_, subst}
-use mathlib.Core.Bool.{Bool, true, false, cond}
+use mathlib.Core.Bool.{Bool, false}
 use Prim.Native.Nat.{ℕ, suc, _+_, _-_, _*_, _^_, _≤_, _<_}
-use native.Mathlib.Nat.{le-trans, le-of-eq, lt-of-le-of-lt, mul-comm, mul-assoc, mul-right-comm, mul-pos, pow-suc, one-mul, zero-lt-suc}
+use native.Mathlib.Nat.{lt-of-le-of-lt, mul-comm, mul-right-comm, mul-pos, pow-suc, one-mul, zero-lt-suc}
 use native.Mathlib.Omega.{arith}
 use lib.Dec.{T}
 use lib.Pow.{pow-pos, pow-lt}
 use lib.Ieee.{Float, Format, prec, emax, low, round}
-use lib.Ieee.Fits.{two, two-le-pos}
-use lib.Ieee.Scale.{grid, overflow, finite}
+use lib.Ieee.Scale.{grid, finite}
 use Rattle.exact.specs.Fraction.{Fraction, frac, value, _≤F_, _≈_, _+F_, _*F_, absF, Within}
 use Rattle.exact.specs.Rounds.{signed, Rounds, Close, power, half-ulp}
 use Rattle.exact.proofs.Scale.{At, at-le, le-at, at-ratio, at-add, at-mul, at-more}
 use Rattle.exact.proofs.Near.{eq-trans}
 use Rattle.exact.proofs.Ulp.{grid-under, grid-sharp, grid-relative, grid-normal}
 use Rattle.exact.proofs.Magnitude.{Sized, sized-same, sized-more, abs-sized, near-sized}
-use Rattle.exact.proofs.Rounding.{round-finite, round-sized}
+use Rattle.exact.proofs.Rounding.{prec-pos, round-finite, round-sized}
 
 pub rounds-self : (f : Format) (s : Bool) (a c : ℕ) → 0 < c → Rounds f (round f s a c) (signed s a c)
 rounds-self f s a c C = record { sign = s; num = a; den = c; den-pos = C; is = refl; exact = record { eq = refl } }
@@ -32,9 +32,6 @@ rounds-along {X = X} {Y = Y} e R = record {
   is = R .is;
   exact = eq-trans (signed (R .sign) (R .num) (R .den)) X Y (R .exact) e;
 }
-
-pub prec-pos : (f : Format) → 0 < prec f
-prec-pos f = two-le-pos (prec f) (two f)
 
 -- ---- of `round f s a c`, for an X that is a / c
 module _ (f : Format) (s : Bool) (a c : ℕ) (C : 0 < c) (X : Fraction) (x : signed s a c ≈ X) where
@@ -52,10 +49,9 @@ module _ (f : Format) (s : Bool) (a c : ℕ) (C : 0 < c) (X : Fraction) (x : sig
       go : (x y : ℕ) → x + 0 ≤ y + 0 → x ≤ y
       go x y h = omega arith
 
-  close : (K : ℕ) → K ≤ low f + emax f → absF X ≤F power f K → Close (round f s a c) X (half-ulp f K) (power f K)
-  close K top h =
+  pub round-within : (K : ℕ) → K ≤ low f + emax f → a * 2 ^ low f ≤ 2 ^ K * c → Close (round f s a c) X (half-ulp f K) (power f K)
+  round-within K top n =
       let L = 2 ^ low f in
-      let n = under K h in
       let g = grid f a c in
       let small : g ≤ 2 ^ K = grid-under (prec f) (a * L) c (prec-pos f) C K n in
       let w = grid-sharp (prec f) (a * L) c (prec-pos f) C K n in
@@ -117,14 +113,14 @@ module _ (f : Format) (s : Bool) (a c : ℕ) (C : 0 < c) (X : Fraction) (x : sig
           subst (λ (w : ℕ). At w (frac 1 (L * 2)) (t * c) 0) (scale L c t)
           (subst (λ (w : ℕ). At (L * 2 * (t * c)) (frac 1 (L * 2)) w 0) (one-mul (t * c)) (sized-more false (L * 2) 1 (t * c) (at-ratio 1 0 (L * 2) (mul-pos L0 (zero-lt-suc 1)))))
 
-  relative : T (finite (round f s a c)) → Within (value (round f s a c)) X (absF X *F frac 1 (2 ^ prec f) +F frac 1 (2 ^ low f * 2))
-  relative t =
+  pub round-relative : T (finite (round f s a c)) → Within (value (round f s a c)) X (absF X *F frac 1 (2 ^ prec f) +F frac 1 (2 ^ low f * 2))
+  round-relative t =
       let w = grid-relative (prec f) (a * 2 ^ low f) c (prec-pos f) C in
       near-sized s (2 ^ low f) (grid f a c) c a (2 ^ (prec f - 1) * 2) (a * 2 ^ low f + 2 ^ (prec f - 1) * c) (pow-pos (low f)) C (mul-pos (pow-pos (prec f - 1)) (zero-lt-suc 1))
       (round-sized f s a c t) sized (at-add share half-unit) (w .0) (w .1)
 
-  normal : T (finite (round f s a c)) → frac (2 ^ (prec f - 1)) (2 ^ low f) ≤F absF X → Within (value (round f s a c)) X (absF X *F frac 1 (2 ^ prec f))
-  normal t h =
+  pub round-normal : T (finite (round f s a c)) → frac (2 ^ (prec f - 1)) (2 ^ low f) ≤F absF X → Within (value (round f s a c)) X (absF X *F frac 1 (2 ^ prec f))
+  round-normal t h =
       let w = grid-normal (prec f) (a * 2 ^ low f) c (prec-pos f) C from in
       near-sized s (2 ^ low f) (grid f a c) c a (2 ^ (prec f - 1) * 2) (a * 2 ^ low f) (pow-pos (low f)) C (mul-pos (pow-pos (prec f - 1)) (zero-lt-suc 1))
       (round-sized f s a c t) sized share (w .0) (w .1)
@@ -141,16 +137,16 @@ module _ (f : Format) (s : Bool) (a c : ℕ) (C : 0 < c) (X : Fraction) (x : sig
 
 -- ---- of a rounding
 module _ {f : Format} {r : Float} {X : Fraction} (R : Rounds f r X) where
-  pub rounds-close : (K : ℕ) → K ≤ low f + emax f → absF X ≤F power f K → Close r X (half-ulp f K) (power f K)
-  rounds-close K top h =
-      subst (λ (z : Float). Close z X (half-ulp f K) (power f K)) (sym (R .is)) (close f (R .sign) (R .num) (R .den) (R .den-pos) X (R .exact) K top h)
+  pub rounds-within : (K : ℕ) → K ≤ low f + emax f → absF X ≤F power f K → Close r X (half-ulp f K) (power f K)
+  rounds-within K top h =
+      subst (λ (z : Float). Close z X (half-ulp f K) (power f K)) (sym (R .is)) (round-within f (R .sign) (R .num) (R .den) (R .den-pos) X (R .exact) K top (under f (R .sign) (R .num) (R .den) (R .den-pos) X (R .exact) K h))
 
   pub rounds-relative : T (finite r) → Within (value r) X (absF X *F frac 1 (2 ^ prec f) +F frac 1 (2 ^ low f * 2))
   rounds-relative t =
       subst (λ (z : Float). Within (value z) X (absF X *F frac 1 (2 ^ prec f) +F frac 1 (2 ^ low f * 2))) (sym (R .is))
-      (relative f (R .sign) (R .num) (R .den) (R .den-pos) X (R .exact) (subst (λ (z : Float). T (finite z)) (R .is) t))
+      (round-relative f (R .sign) (R .num) (R .den) (R .den-pos) X (R .exact) (subst (λ (z : Float). T (finite z)) (R .is) t))
 
   pub rounds-normal : T (finite r) → frac (2 ^ (prec f - 1)) (2 ^ low f) ≤F absF X → Within (value r) X (absF X *F frac 1 (2 ^ prec f))
   rounds-normal t h =
       subst (λ (z : Float). Within (value z) X (absF X *F frac 1 (2 ^ prec f))) (sym (R .is))
-      (normal f (R .sign) (R .num) (R .den) (R .den-pos) X (R .exact) (subst (λ (z : Float). T (finite z)) (R .is) t) h)
+      (round-normal f (R .sign) (R .num) (R .den) (R .den-pos) X (R .exact) (subst (λ (z : Float). T (finite z)) (R .is) t) h)

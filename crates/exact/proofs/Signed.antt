@@ -3,20 +3,20 @@
 -- Provides: `signed-at`, `signed-le`, `le-signed`, `signed-lt`, `lt-signed`, `signed-eq`, `eq-signed` (the order, both ways), `signed-scale` (equal
 -- fractions), `has-value` (from the library's words), `neg-value`, and `lt-value`, `eq-value`, `le-value`: what the comparisons of
 -- finite floats say of their values, both ways and for both signs. Assumes nothing.
-use mathlib.Core.Path.{_≡_, refl, sym, ap, _∙_, subst}
+use mathlib.Core.Path.{_≡_, refl, subst}
 use mathlib.Core.Logic.{_⊎_, inl, inr, ⊎-elim, _↔_}
-use mathlib.Core.Bool.{Bool, true, false, not, _&&_, _||_, Bool·beq, cond, true≢false}
-use Prim.Native.Nat.{ℕ, zero, suc, _+_, _-_, _*_, _≤_, _<_}
-use native.Mathlib.Nat.{mul-comm, mul-pos, zero-mul, le-of-eq, le-of-lt, eq-or-lt-of-le}
+use mathlib.Core.Bool.{Bool, true, false, _||_, cond}
+use Prim.Native.Nat.{ℕ, _+_, _*_, _≤_, _<_}
+use native.Mathlib.Nat.{mul-comm, mul-pos, zero-mul, eq-or-lt-of-le}
 use native.Mathlib.Omega.{arith}
-use lib.Dec.{T, leb, ltb, eqb, ltb→lt, lt→ltb, eqb→eq}
+use lib.Dec.{T, eqb, ltb→lt, lt→ltb, eqb→eq}
 use lib.Ieee.{Float, nan, inf, fin, up, down, neg, below, level, lt, eq, le}
 use lib.Ieee.Fits.{down-pos, eq→eqb, and-i, and-l, and-r}
 use lib.Ieee.Exact.{HasValue}
 use lib.Ieee.Scale.{finite}
 use Rattle.exact.specs.Fraction.{Fraction, ratio, value, negF, _≤F_, _<F_, _≈_}
 use Rattle.exact.specs.Rounds.{signed}
-use Rattle.exact.proofs.Scale.{At, at-le, le-at, at-lt, lt-at, at-eq, eq-at, at-own, at-more, at-ratio, at-neg, over-pos}
+use Rattle.exact.proofs.Scale.{At, at-le, le-at, at-lt, lt-at, at-eq, eq-at, at-more, at-ratio}
 use Rattle.exact.proofs.Near.{lt-le, eq-le}
 
 -- ---- at a scale

@@ -2,18 +2,18 @@
 -- away; drop is 0, or else n / c has p + drop digits, which bounds the half by the size of n / c.
 -- With g = kept * 2 ^ drop, the rounded number. Provides: `closest-half`, `closest-exact`; `drop-below`, `drop-digits`; `grid-half`
 -- (|g - n / c| is half of 2 ^ drop at most), `grid-under` (powers of two bound g as they bound n / c), `grid-sharp` (half an ulp below a
--- power of two), `grid-relative`, `grid-normal` (2 ^ -p of n / c, and half a unit more below the normal range), `grid-zero`, `grid-mono`. Assumes nothing.
-use mathlib.Core.Path.{_≡_, sym, ap, _∙_, subst}
+-- power of two), `grid-relative`, `grid-normal` (2 ^ -p of n / c, and half a unit more below the normal range). Assumes nothing.
+use mathlib.Core.Path.{_≡_, sym, ap, _∙_}
 use mathlib.Core.Logic.{inl, inr}
 use mathlib.Core.Bool.{not}
-use Prim.Native.Nat.{ℕ, zero, suc, _+_, _-_, _*_, _/_, _%_, _^_, _≤_, _<_, zero-le, compare, Ordering, Ordering·lt, Ordering·eq, Ordering·gt}
-use native.Mathlib.Nat.{le-refl, le-trans, le-of-eq, le-of-lt, le-antisymm, le-of-suc-le-suc, lt-of-lt-of-le, lt-of-le-of-lt, eq-or-lt-of-le, zero-mul, mul-le-mul-right, mul-lt-mul-of-pos-right, lt-of-mul-lt-mul-right, mul-pos, zero-lt-suc, mod-lt, div-add-mod', div-lt-iff-lt-mul, le-div-iff-mul-le}
+use Prim.Native.Nat.{ℕ, zero, suc, _+_, _-_, _*_, _/_, _%_, _^_, _≤_, _<_, compare, Ordering, Ordering·lt, Ordering·eq, Ordering·gt}
+use native.Mathlib.Nat.{le-refl, le-trans, le-of-eq, le-antisymm, le-of-suc-le-suc, lt-of-le-of-lt, eq-or-lt-of-le, mul-le-mul-right, mul-lt-mul-of-pos-right, lt-of-mul-lt-mul-right, mul-pos, zero-lt-suc, mod-lt, div-add-mod', div-lt-iff-lt-mul, le-div-iff-mul-le}
 use native.Mathlib.Omega.{arith}
 use lib.Dec.{T, isLe, isEq, leb→le, nleb→lt, eqb→eq}
 use lib.Pow.{pow-add, pow-pos, pow-mono, pow-lt}
 use lib.Ieee.{size, nearest}
-use lib.Ieee.Digits.{size-lt, size-le, size-reaches}
-use lib.Ieee.Nearest.{closest, closest-mono, div-mono}
+use lib.Ieee.Digits.{size-le, size-reaches}
+use lib.Ieee.Nearest.{closest, closest-mono}
 use lib.Ieee.Order.{drop, kept}
 
 -- ---- |q - n / u| ≤ 1 / 2
@@ -169,53 +169,3 @@ module _ (p n c : ℕ) (P : 0 < p) (C : 0 < c) where
       go : (k : ℕ) → (0 < k → 2 ^ k * 2 ^ (p - 1) * c ≤ n) → c * 2 ^ k * 2 ^ (p - 1) ≤ n + 2 ^ (p - 1) * c
       go zero f = none (2 ^ (p - 1))
       go (suc k) f = some (2 ^ suc k) (2 ^ (p - 1)) (f (zero-lt-suc k))
-
--- ---- a larger fraction rounds to a number that is no smaller: where both drop as many digits by the nearest number's own law, else a power of two lies between
-pub grid-zero : (p c : ℕ) → 0 < c → rounded p 0 c ≡ 0
-grid-zero p c C =
-    let k = drop p 0 c in
-    let u = c * 2 ^ k in
-    ap (λ (z : ℕ). closest z u * 2 ^ k) (sym (zero-mul u)) ∙ ap (λ (z : ℕ). z * 2 ^ k) (closest-exact 0 u (mul-pos C (pow-pos k))) ∙ zero-mul (2 ^ k)
-
-module _ (p a b c d : ℕ) (P : 0 < p) (B : 0 < b) (D : 0 < d) (h : a * d ≤ c * b) where
-  same-drop : (k : ℕ) → closest a (b * 2 ^ k) * 2 ^ k ≤ closest c (d * 2 ^ k) * 2 ^ k
-  same-drop k = mul-le-mul-right (2 ^ k) (closest-mono a (b * 2 ^ k) c (d * 2 ^ k) (mul-pos B (pow-pos k)) (mul-pos D (pow-pos k)) (go (2 ^ k)))
-    where
-      go : (t : ℕ) → a * (d * t) ≤ c * (b * t)
-      go t = let k : a * d * t ≤ c * b * t = mul-le-mul-right t h in omega arith
-
-  fewer : drop p a b ≤ drop p c d
-  fewer = go (size (a / b)) (size (c / d)) (size-le (a / b) (size (c / d)) (lt-of-le-of-lt (div-mono a b c d B D h) (size-lt (c / d))))
-    where
-      go : (x y : ℕ) → x ≤ y → x - p ≤ y - p
-      go x y l = omega arith
-
-  -- up to all the digits that a keeps, and from the first digit that c keeps
-  top-below : rounded p a b ≤ 2 ^ (p + drop p a b)
-  top-below = grid-under p a b P B (p + drop p a b) (le-of-lt (lt-of-lt-of-le (div-lt-iff-lt-mul B .0 (size-lt (a / b))) (mul-le-mul-right b (pow-mono (go (size (a / b)))))))
-    where
-      go : (z : ℕ) → z ≤ p + (z - p)
-      go z = omega arith
-
-  first-above : 0 < drop p c d → 2 ^ (p - 1 + drop p c d) ≤ rounded p c d
-  first-above l =
-      let k = drop p c d in
-      let u = d * 2 ^ k in
-      let U : 0 < u = mul-pos D (pow-pos k) in
-      le-trans (le-of-eq (pow-add 2 (p - 1) k))
-      (mul-le-mul-right (2 ^ k)
-      (le-trans (le-of-eq (sym (closest-exact (2 ^ (p - 1)) u U)))
-      (closest-mono (2 ^ (p - 1) * u) u c u U U (mul-le-mul-right u (le-trans (le-of-eq (swap (2 ^ k) (2 ^ (p - 1)))) (drop-digits p c d P D l))))))
-    where
-      swap : (x y : ℕ) → y * (d * x) ≡ x * y * d
-      swap x y = omega arith
-
-  pub grid-mono : rounded p a b ≤ rounded p c d
-  grid-mono =
-      elim (eq-or-lt-of-le fewer) [
-        | inl e ↦ subst (λ (k : ℕ). closest a (b * 2 ^ k) * 2 ^ k ≤ rounded p c d) (sym e) (same-drop (drop p c d))
-        | inr l ↦ le-trans top-below (le-trans (pow-mono (room (drop p a b) (drop p c d) l)) (first-above (lt-of-le-of-lt zero-le l)))
-      ]
-    where
-      room : (j k : ℕ) → j < k → p + j ≤ p - 1 + k
-      room j k l = omega arith

@@ -18,6 +18,7 @@ pub mod Rounding
 pub mod Rounds
 pub mod Scale
 pub mod Signed
+pub mod Steps
 pub mod Ulp
 pub mod UnitPatterns
 pub mod Value

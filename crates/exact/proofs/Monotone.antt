@@ -5,7 +5,7 @@
 -- `rounds-fits`. Assumes nothing.
 use mathlib.Core.Path.{_≡_, refl, sym, ap, _∙_, subst}
 use mathlib.Core.Bool.{Bool, true, false, cond}
-use Prim.Native.Nat.{ℕ, _+_, _*_, _^_, _≤_, _<_}
+use Prim.Native.Nat.{ℕ, _*_, _^_, _≤_, _<_}
 use native.Mathlib.Nat.{le-of-eq, lt-of-le-of-lt, le-trans, mul-comm, mul-right-comm, mul-le-mul-right, mul-pos}
 use native.Mathlib.Omega.{arith}
 use lib.IntN.{pos}
@@ -21,7 +21,7 @@ use Rattle.exact.proofs.Scale.{At, at-le, le-at}
 use Rattle.exact.proofs.Near.{eq-le, eq-sym, eq-trans, le-antisym}
 use Rattle.exact.proofs.GridOrder.{grid-mono, grid-zero}
 use Rattle.exact.proofs.Signed.{Lower, Level, eq-signed}
-use Rattle.exact.proofs.Magnitude.{Sized, sized-same, sized-more, abs-sized, abs-alike}
+use Rattle.exact.proofs.Magnitude.{Sized, sized-same, sized-more, size-le, le-size, abs-sized, abs-alike}
 use Rattle.exact.proofs.Held.{round-held}
 use Rattle.exact.proofs.Rounding.{prec-pos, round-under, round-finite, round-sized, round-fixed}
 
@@ -44,36 +44,12 @@ unit-zero f a c d C D h = none (grid f a c) (le-trans (unit-mono f a c 0 d C D (
     flat : grid f 0 d ≡ kept (prec f) 0 d * 2 ^ drop (prec f) 0 d
     flat = ap (λ (z : ℕ). kept (prec f) z d * 2 ^ drop (prec f) z d) (zero (2 ^ low f))
 
-lower : (f : Format) (s : Bool) (a c : ℕ) (t : Bool) (b d : ℕ) → 0 < c → 0 < d → Lower s (a * d) t (b * c) → Lower s (grid f a c) t (grid f b d)
-lower f false a c false b d C D h = plain (grid f a c) (grid f b d) (unit-mono f a c b d C D (back (a * d) (b * c) h))
-  where
-    back : (x y : ℕ) → x + 0 ≤ y + 0 → x ≤ y
-    back x y h = omega arith
-
-    plain : (x y : ℕ) → x ≤ y → x + 0 ≤ y + 0
-    plain x y h = omega arith
-lower f true a c true b d C D h = plain (grid f b d) (grid f a c) (unit-mono f b d a c D C (back (b * c) (a * d) h))
-  where
-    back : (x y : ℕ) → 0 + x ≤ 0 + y → x ≤ y
-    back x y h = omega arith
-
-    plain : (x y : ℕ) → x ≤ y → 0 + x ≤ 0 + y
-    plain x y h = omega arith
-lower f true a c false b d C D h = none (grid f a c) (grid f b d)
-  where
-    none : (x y : ℕ) → 0 + 0 ≤ y + x
-    none x y = omega arith
-lower f false a c true b d C D h =
-    both (grid f a c) (grid f b d) (unit-zero f a c d C D (first (a * d) (b * c) h)) (unit-zero f b d c D C (second (a * d) (b * c) h))
-  where
-    first : (x y : ℕ) → x + y ≤ 0 + 0 → x ≤ 0
-    first x y h = omega arith
-
-    second : (x y : ℕ) → x + y ≤ 0 + 0 → y ≤ 0
-    second x y h = omega arith
-
-    both : (x y : ℕ) → x ≡ 0 → y ≡ 0 → x + y ≤ 0 + 0
-    both x y e h = omega arith
+-- with g and h the units of a / c and b / d: the order of the signed sizes is that of the signed units
+lower : (s : Bool) (x g : ℕ) (t : Bool) (y h : ℕ) → (x ≤ y → g ≤ h) → (y ≤ x → h ≤ g) → (x ≤ 0 → g ≡ 0) → (y ≤ 0 → h ≡ 0) → Lower s x t y → Lower s g t h
+lower false x g false y h up down gz hz l = let k = up (omega arith) in omega arith
+lower true x g true y h up down gz hz l = let k = down (omega arith) in omega arith
+lower true x g false y h up down gz hz l = omega arith
+lower false x g true y h up down gz hz l = let k = gz (omega arith) in let m = hz (omega arith) in omega arith
 
 level-sizes : (s : Bool) (x : ℕ) (t : Bool) (y : ℕ) → Level s x t y → x ≡ y
 level-sizes true x true y e = omega arith
@@ -114,7 +90,9 @@ module _ {f : Format} {r : Float} {X : Fraction} (R : Rounds f r X) {q : Float} 
   pub rounds-mono : T (finite r) → T (finite q) → X ≤F Y → value r ≤F value q
   rounds-mono t u h =
       at-le (2 ^ low f) (pow-pos (low f)) (value-sized R t) (value-sized Q u)
-      (lower f (R .sign) (R .num) (R .den) (Q .sign) (Q .num) (Q .den) (R .den-pos) (Q .den-pos)
+      (lower (R .sign) (R .num * Q .den) (grid f (R .num) (R .den)) (Q .sign) (Q .num * R .den) (grid f (Q .num) (Q .den))
+      (unit-mono f (R .num) (R .den) (Q .num) (Q .den) (R .den-pos) (Q .den-pos)) (unit-mono f (Q .num) (Q .den) (R .num) (R .den) (Q .den-pos) (R .den-pos))
+      (unit-zero f (R .num) (R .den) (Q .den) (R .den-pos) (Q .den-pos)) (unit-zero f (Q .num) (Q .den) (R .den) (Q .den-pos) (R .den-pos))
       (le-at (R .den * Q .den) (mul-pos (R .den-pos) (Q .den-pos)) (sized-more (R .sign) (R .den) (R .num) (Q .den) (exact-sized R)) at-both h))
 
   -- a smaller size has no more units
@@ -123,11 +101,7 @@ module _ {f : Format} {r : Float} {X : Fraction} (R : Rounds f r X) {q : Float} 
       let D = R .den * Q .den in
       let D0 : 0 < D = mul-pos (R .den-pos) (Q .den-pos) in
       unit-mono f (R .num) (R .den) (Q .num) (Q .den) (R .den-pos) (Q .den-pos)
-      (back (R .num * Q .den) (Q .num * R .den)
-      (le-at D D0 (abs-sized D D0 (R .sign) (R .num * Q .den) (sized-more (R .sign) (R .den) (R .num) (Q .den) (exact-sized R))) (abs-sized D D0 (Q .sign) (Q .num * R .den) at-both) h))
-    where
-      back : (x y : ℕ) → x + 0 ≤ y + 0 → x ≤ y
-      back x y h = omega arith
+      (le-size D D0 (abs-sized D D0 (R .sign) (R .num * Q .den) (sized-more (R .sign) (R .den) (R .num) (Q .den) (exact-sized R))) (abs-sized D D0 (Q .sign) (Q .num * R .den) at-both) h)
 
   pub rounds-finite : T (finite q) → absF X ≤F absF Y → T (finite r)
   rounds-finite u h =
@@ -138,11 +112,7 @@ module _ {f : Format} {r : Float} {X : Fraction} (R : Rounds f r X) {q : Float} 
   rounds-abs t u h =
       let L = 2 ^ low f in
       let L0 = pow-pos (low f) in
-      at-le L L0 (abs-sized L L0 (R .sign) (grid f (R .num) (R .den)) (value-sized R t)) (abs-sized L L0 (Q .sign) (grid f (Q .num) (Q .den)) (value-sized Q u))
-      (plain (grid f (R .num) (R .den)) (grid f (Q .num) (Q .den)) (fewer h))
-    where
-      plain : (x y : ℕ) → x ≤ y → x + 0 ≤ y + 0
-      plain x y h = omega arith
+      size-le L L0 (abs-sized L L0 (R .sign) (grid f (R .num) (R .den)) (value-sized R t)) (abs-sized L L0 (Q .sign) (grid f (Q .num) (Q .den)) (value-sized Q u)) (fewer h)
 
 -- two roundings of one fraction differ at most in the sign of a zero
 pub rounds-value : {f : Format} {r q : Float} {X Y : Fraction} → Rounds f r X → Rounds f q Y → T (finite r) → T (finite q) → X ≈ Y → value r ≈ value q

@@ -17,7 +17,7 @@ use Rattle.exact.specs.Fraction.{Fraction, frac, whole, value, _≤F_, _
 use Rattle.exact.specs.Rounds.{Rounds, Close, power, half-ulp}
 use Rattle.exact.proofs.Scale.{At, lt-at, at-eq, at-add, at-mul}
 use Rattle.exact.proofs.Near.{add-same}
-use Rattle.exact.proofs.Signed.{has-value, has-finite, neg-value, neg-finite}
+use Rattle.exact.proofs.Signed.{has-value, has-finite, finite-both, neg-value, neg-finite}
 use Rattle.exact.proofs.Magnitude.{Sized, sized-signed, sized-more, abs-sized}
 use Rattle.exact.proofs.Quotient.{at-div, at-div-neg}
 use Rattle.exact.proofs.Rounds.{rounds-self, rounds-along, rounds-within}
@@ -58,12 +58,7 @@ right t n d e = subst (λ (z : ℕ). Sized z (value (fin t n d)) t (n * up d * d
 
 pub add-rounds : (f : Format) (x y : Float) → T (finite x) → T (finite y) → Rounds f (add f x y) (value x +F value y)
 unfolding add
-add-rounds f nan y p q = absurd p
-add-rounds f (inf s) y p q = absurd p
-add-rounds f (fin s m e) nan p q = absurd q
-add-rounds f (fin s m e) (inf t) p q = absurd q
-add-rounds f (fin s m e) (fin t n d) p q =
-    sum-rounds f s (m * up e * down d) t (n * up d * down e) (down e * down d) (mul-pos (down-pos e) (down-pos d)) (left s m e d) (right t n d e)
+add-rounds f = finite-both (λ x y. Rounds f (add f x y) (value x +F value y)) (λ s m e t n d. sum-rounds f s (m * up e * down d) t (n * up d * down e) (down e * down d) (mul-pos (down-pos e) (down-pos d)) (left s m e d) (right t n d e))
 
 pub sub-rounds : (f : Format) (x y : Float) → T (finite x) → T (finite y) → Rounds f (sub f x y) (value x -F value y)
 unfolding sub _-F_
@@ -79,11 +74,7 @@ product-rounds f false a c false b d C D X Y = of-round f false (a * b) (c * d) 
 
 pub mul-rounds : (f : Format) (x y : Float) → T (finite x) → T (finite y) → Rounds f (mul f x y) (value x *F value y)
 unfolding mul
-mul-rounds f nan y p q = absurd p
-mul-rounds f (inf s) y p q = absurd p
-mul-rounds f (fin s m e) nan p q = absurd q
-mul-rounds f (fin s m e) (inf t) p q = absurd q
-mul-rounds f (fin s m e) (fin t n d) p q = product-rounds f s (m * up e) (down e) t (n * up d) (down d) (down-pos e) (down-pos d) (own s m e) (own t n d)
+mul-rounds f = finite-both (λ x y. Rounds f (mul f x y) (value x *F value y)) (λ s m e t n d. product-rounds f s (m * up e) (down e) t (n * up d) (down d) (down-pos e) (down-pos d) (own s m e) (own t n d))
 
 -- ---- the quotient
 quotient-rounds : (f : Format) (s : Bool) (a : ℕ) (t : Bool) (b D : ℕ) → 0 < b → {x y : Fraction} → Sized D x s a → Sized D y t b → Rounds f (round f (unlike s t) a b) (x /F y)
@@ -115,18 +106,12 @@ digits t n d h =
 
 pub div-rounds : (f : Format) (x y : Float) → T (finite x) → T (finite y) → frac 0 1 <F absF (value y) → Rounds f (div f x y) (value x /F value y)
 unfolding div
-div-rounds f nan y p q h = absurd p
-div-rounds f (inf s) y p q h = absurd p
-div-rounds f (fin s m e) nan p q h = absurd q
-div-rounds f (fin s m e) (inf t) p q h = absurd q
-div-rounds f (fin s m e) (fin t n d) p q h = go (eqb n 0) (eqb→eq n 0)
+div-rounds f = finite-both (λ x y. frac 0 1 <F absF (value y) → Rounds f (div f x y) (value x /F value y)) (λ s m e t n d h. go s m e t n d (digits t n d h) (eqb n 0) (eqb→eq n 0))
   where
-    B : 0 < n * up d
-    B = digits t n d h
-
-    go : (z : Bool) → (T z → n ≡ 0) → Rounds f (cond z (cond (eqb m 0) nan (inf (unlike s t))) (round f (unlike s t) (m * up e * down d) (n * up d * down e))) (value (fin s m e) /F value (fin t n d))
-    go true k = absurd (lt-irrefl 0 (subst (λ (z : ℕ). 0 < z) (ap (λ (z : ℕ). z * up d) (k tt) ∙ zero-mul (up d)) B))
-    go false k =
+    go : (s : Bool) (m : ℕ) (e : ℤ) (t : Bool) (n : ℕ) (d : ℤ) → 0 < n * up d → (z : Bool) → (T z → n ≡ 0)
+        → Rounds f (cond z (cond (eqb m 0) nan (inf (unlike s t))) (round f (unlike s t) (m * up e * down d) (n * up d * down e))) (value (fin s m e) /F value (fin t n d))
+    go s m e t n d B true k = absurd (lt-irrefl 0 (subst (λ (z : ℕ). 0 < z) (ap (λ (z : ℕ). z * up d) (k tt) ∙ zero-mul (up d)) B))
+    go s m e t n d B false k =
         quotient-rounds f s (m * up e * down d) t (n * up d * down e) (down e * down d) (mul-pos B (down-pos e)) (left s m e d) (right t n d e)
 
 -- ---- an integer as a float, exact up to 2 ^ prec

@@ -14,10 +14,10 @@ use lib.Ieee.{Float, Format, prec, emax, low, round}
 use lib.Ieee.Scale.{grid, finite}
 use Rattle.exact.specs.Fraction.{Fraction, frac, value, _≤F_, _≈_, _+F_, _*F_, absF, Within}
 use Rattle.exact.specs.Rounds.{signed, Rounds, Close, power, half-ulp}
-use Rattle.exact.proofs.Scale.{At, at-le, le-at, at-ratio, at-add, at-mul, at-more}
+use Rattle.exact.proofs.Scale.{At, at-ratio, at-add, at-mul, at-more}
 use Rattle.exact.proofs.Near.{eq-trans}
 use Rattle.exact.proofs.Ulp.{grid-under, grid-sharp, grid-relative, grid-normal}
-use Rattle.exact.proofs.Magnitude.{Sized, sized-same, sized-more, abs-sized, near-sized}
+use Rattle.exact.proofs.Magnitude.{Sized, sized-same, sized-more, size-le, le-size, abs-sized, near-sized}
 use Rattle.exact.proofs.Rounding.{prec-pos, round-finite, round-sized}
 
 pub rounds-self : (f : Format) (s : Bool) (a c : ℕ) → 0 < c → Rounds f (round f s a c) (signed s a c)
@@ -42,12 +42,8 @@ module _ (f : Format) (s : Bool) (a c : ℕ) (C : 0 < c) (X : Fraction) (x : sig
   under : (K : ℕ) → absF X ≤F power f K → a * 2 ^ low f ≤ 2 ^ K * c
   under K h =
       let L = 2 ^ low f in
-      let k = le-at (c * L) (mul-pos C (pow-pos (low f))) (sized-more false c a L (abs-sized c C s a sized))
-      (subst (λ (z : ℕ). At z (power f K) (2 ^ K * c) 0) (mul-comm L c) (sized-more false L (2 ^ K) c (at-ratio (2 ^ K) 0 L (pow-pos (low f))))) h in
-      go (a * L) (2 ^ K * c) k
-    where
-      go : (x y : ℕ) → x + 0 ≤ y + 0 → x ≤ y
-      go x y h = omega arith
+      le-size (c * L) (mul-pos C (pow-pos (low f))) (sized-more false c a L (abs-sized c C s a sized))
+      (subst (λ (z : ℕ). At z (power f K) (2 ^ K * c) 0) (mul-comm L c) (sized-more false L (2 ^ K) c (at-ratio (2 ^ K) 0 L (pow-pos (low f))))) h
 
   pub round-within : (K : ℕ) → K ≤ low f + emax f → a * 2 ^ low f ≤ 2 ^ K * c → Close (round f s a c) X (half-ulp f K) (power f K)
   round-within K top n =
@@ -63,7 +59,7 @@ module _ (f : Format) (s : Bool) (a c : ℕ) (C : 0 < c) (X : Fraction) (x : sig
             (subst (λ (z : ℕ). At z (half-ulp f K) (2 ^ (K - prec f) * c) 0) (mul-right-comm L 2 c)
             (sized-more false (L * 2) (2 ^ (K - prec f)) c (at-ratio (2 ^ (K - prec f)) 0 (L * 2) (mul-pos (pow-pos (low f)) (zero-lt-suc 1)))))
             (swap (g * c * 2) (a * L * 2) c (2 ^ (K - prec f)) (w .0)) (swap (a * L * 2) (g * c * 2) c (2 ^ (K - prec f)) (w .1));
-        small = at-le L (pow-pos (low f)) (abs-sized L (pow-pos (low f)) s g v) (at-ratio (2 ^ K) 0 L (pow-pos (low f))) (plain g (2 ^ K) small);
+        small = size-le L (pow-pos (low f)) (abs-sized L (pow-pos (low f)) s g v) (at-ratio (2 ^ K) 0 L (pow-pos (low f))) small;
       }
     where
       over : (K l e : ℕ) → K ≤ l + e → K < l + suc e
@@ -71,9 +67,6 @@ module _ (f : Format) (s : Bool) (a c : ℕ) (C : 0 < c) (X : Fraction) (x : sig
 
       swap : (x y c t : ℕ) → x ≤ y + c * t → x ≤ y + t * c
       swap x y c t h = omega arith
-
-      plain : (x y : ℕ) → x ≤ y → x + 0 ≤ y + 0
-      plain x y h = omega arith
 
   -- |X| 2 ^ -prec, at the scale of a unit times c times 2 ^ prec
   share : At (2 ^ low f * c * (2 ^ (prec f - 1) * 2)) (absF X *F frac 1 (2 ^ prec f)) (a * 2 ^ low f) 0
@@ -125,15 +118,11 @@ module _ (f : Format) (s : Bool) (a c : ℕ) (C : 0 < c) (X : Fraction) (x : sig
       near-sized s (2 ^ low f) (grid f a c) c a (2 ^ (prec f - 1) * 2) (a * 2 ^ low f) (pow-pos (low f)) C (mul-pos (pow-pos (prec f - 1)) (zero-lt-suc 1))
       (round-sized f s a c t) sized share (w .0) (w .1)
     where
-      go : (x y : ℕ) → x + 0 ≤ y + 0 → x ≤ y
-      go x y h = omega arith
-
       from : 2 ^ (prec f - 1) * c ≤ a * 2 ^ low f
       from =
           let L = 2 ^ low f in
-          go (2 ^ (prec f - 1) * c) (a * L)
-          (le-at (L * c) (mul-pos (pow-pos (low f)) C) (sized-more false L (2 ^ (prec f - 1)) c (at-ratio (2 ^ (prec f - 1)) 0 L (pow-pos (low f))))
-          (subst (λ (z : ℕ). At z (absF X) (a * L) 0) (mul-comm c L) (sized-more false c a L (abs-sized c C s a sized))) h)
+          le-size (L * c) (mul-pos (pow-pos (low f)) C) (sized-more false L (2 ^ (prec f - 1)) c (at-ratio (2 ^ (prec f - 1)) 0 L (pow-pos (low f))))
+          (subst (λ (z : ℕ). At z (absF X) (a * L) 0) (mul-comm c L) (sized-more false c a L (abs-sized c C s a sized))) h
 
 -- ---- of a rounding
 module _ {f : Format} {r : Float} {X : Fraction} (R : Rounds f r X) where

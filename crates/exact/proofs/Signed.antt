@@ -1,7 +1,7 @@
 -- A size with its sign, as a fraction: at one scale its two parts are 0 and the size, by the sign, so the order of two of them is one
 -- comparison of naturals, which the float comparisons make too.
 -- Provides: `signed-at`, `signed-le`, `le-signed`, `signed-lt`, `lt-signed`, `signed-eq`, `eq-signed` (the order, both ways), `signed-scale` (equal
--- fractions), `has-value` (from the library's words), `neg-value`, and `lt-value`, `eq-value`, `le-value`: what the comparisons of
+-- fractions), `has-value` (from the library's words), `neg-value`, `finite-both`, and `lt-value`, `eq-value`, `le-value`: what the comparisons of
 -- finite floats say of their values, both ways and for both signs. Assumes nothing.
 use mathlib.Core.Path.{_≡_, refl, subst}
 use mathlib.Core.Logic.{_⊎_, inl, inr, ⊎-elim, _↔_}
@@ -9,6 +9,7 @@ use mathlib.Core.Bool.{Bool, true, false, _||_, cond}
 use Prim.Native.Nat.{ℕ, _+_, _*_, _≤_, _<_}
 use native.Mathlib.Nat.{mul-comm, mul-pos, zero-mul, eq-or-lt-of-le}
 use native.Mathlib.Omega.{arith}
+use lib.IntN.{ℤ}
 use lib.Dec.{T, eqb, ltb→lt, lt→ltb, eqb→eq}
 use lib.Ieee.{Float, nan, inf, fin, up, down, neg, below, level, lt, eq, le}
 use lib.Ieee.Fits.{down-pos, eq→eqb, and-i, and-l, and-r}
@@ -117,29 +118,27 @@ level-same false a true b = (
   λ (h : a + b ≡ 0 + 0). and-i (eqb a b) (eqb a 0) (eq→eqb {a = a} {b = b} (omega arith)) (eq→eqb {a = a} {b = 0} (omega arith)),
 )
 
+-- two finite floats are two sizes with their signs
+pub finite-both : (P : Float → Float → Type 0) → ((s : Bool) (m : ℕ) (e : ℤ) (t : Bool) (n : ℕ) (d : ℤ) → P (fin s m e) (fin t n d)) → (x y : Float) → T (finite x) → T (finite y) → P x y
+finite-both P k nan y p q = absurd p
+finite-both P k (inf s) y p q = absurd p
+finite-both P k (fin s m e) nan p q = absurd q
+finite-both P k (fin s m e) (inf t) p q = absurd q
+finite-both P k (fin s m e) (fin t n d) p q = k s m e t n d
+
 pub lt-value : (x y : Float) → T (finite x) → T (finite y) → T (lt x y) ↔ (value x <F value y)
 unfolding lt
-lt-value nan y p q = absurd p
-lt-value (inf s) y p q = absurd p
-lt-value (fin s m e) nan p q = absurd q
-lt-value (fin s m e) (inf t) p q = absurd q
-lt-value (fin s m e) (fin t n d) p q =
-    let k = below-less s (m * up e * down d) t (n * up d * down e) in (
-      λ h. signed-lt s (m * up e) (down e) t (n * up d) (down d) (down-pos e) (down-pos d) (k .0 h),
-      λ h. k .1 (lt-signed s (m * up e) (down e) t (n * up d) (down d) (down-pos e) (down-pos d) h),
-    )
+lt-value = finite-both (λ x y. T (lt x y) ↔ (value x <F value y)) (λ s m e t n d. let k = below-less s (m * up e * down d) t (n * up d * down e) in (
+  λ h. signed-lt s (m * up e) (down e) t (n * up d) (down d) (down-pos e) (down-pos d) (k .0 h),
+  λ h. k .1 (lt-signed s (m * up e) (down e) t (n * up d) (down d) (down-pos e) (down-pos d) h),
+))
 
 pub eq-value : (x y : Float) → T (finite x) → T (finite y) → T (eq x y) ↔ (value x ≈ value y)
 unfolding eq
-eq-value nan y p q = absurd p
-eq-value (inf s) y p q = absurd p
-eq-value (fin s m e) nan p q = absurd q
-eq-value (fin s m e) (inf t) p q = absurd q
-eq-value (fin s m e) (fin t n d) p q =
-    let k = level-same s (m * up e * down d) t (n * up d * down e) in (
-      λ h. signed-eq s (m * up e) (down e) t (n * up d) (down d) (down-pos e) (down-pos d) (k .0 h),
-      λ h. k .1 (eq-signed s (m * up e) (down e) t (n * up d) (down d) (down-pos e) (down-pos d) h),
-    )
+eq-value = finite-both (λ x y. T (eq x y) ↔ (value x ≈ value y)) (λ s m e t n d. let k = level-same s (m * up e * down d) t (n * up d * down e) in (
+  λ h. signed-eq s (m * up e) (down e) t (n * up d) (down d) (down-pos e) (down-pos d) (k .0 h),
+  λ h. k .1 (eq-signed s (m * up e) (down e) t (n * up d) (down d) (down-pos e) (down-pos d) h),
+))
 
 or-split : (a b : Bool) → T (a || b) → T a ⊎ T b
 or-split true b t = inl tt

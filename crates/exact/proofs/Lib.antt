@@ -3,3 +3,4 @@ pub mod Loop
 pub mod Scale
 pub mod Near
 pub mod Value
+pub mod Products

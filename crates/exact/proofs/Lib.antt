@@ -4,3 +4,4 @@ pub mod Scale
 pub mod Near
 pub mod Value
 pub mod Products
+pub mod NearProducts

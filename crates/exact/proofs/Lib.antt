@@ -5,3 +5,4 @@ pub mod Near
 pub mod Value
 pub mod Products
 pub mod NearProducts
+pub mod Quotients

@@ -2,15 +2,18 @@
 -- of order is one omega from the rearrangement p a + n b ≤ p b + n a (n ≤ p, a ≤ b).
 -- Provides: `eq-refl`, `_⨟_`, `back` (equality in chains); `at-zero`, `at-one` (0 and 1 at any scale); the ring: `mul-same`, `sub-same`,
 -- `mul-comm`, `mul-assoc`, `mul-one`, `one-mul`, `mul-zero`, `mul-add`, `add-mul`, `mul-sub`, `sub-mul`, `sub-neg`, `add-zero`, `add-comm`,
--- `add-assoc`; the order: `le-same`, `mul-le`, `le-mul`, `mul-mono`, `nonneg-mul`, `mul-cancel-le`; from 0 to 1: `unit-zero`, `unit-one`, `unit-same`,
+-- `add-assoc`; the order: `lt-or-le`, `lt-le-trans`, `le-lt-trans`, `le-same`, `rearrange`, `mul-le`, `le-mul`, `mul-mono`, `nonneg-mul`, `mul-cancel-le`; from 0 to 1: `unit-zero`, `unit-one`, `unit-same`,
 -- `unit-mul`, `unit-rest` (1 - t). Assumes nothing.
 use mathlib.Core.Path.{_≡_, refl, sym, ap, _∙_, subst}
 use mathlib.Core.List.{List, [], _∷_}
+use mathlib.Core.Logic.{_⊎_, inl, inr, ⊎-elim}
+use mathlib.Core.Bool.{Bool, true, false, not}
 use Prim.Native.Nat.{ℕ, suc, _+_, _-_, _*_, _≤_, _<_}
 use native.Mathlib.Nat.{mul-le-mul-right, mul-pos, le-of-mul-le-mul-right}
 use native.Mathlib.Omega.{arith}
-use Rattle.exact.specs.Fraction.{Fraction, frac, _≤F_, _<F_, _≈_, negF, _+F_, _-F_, _*F_, Unit01}
-use Rattle.exact.proofs.Scale.{At, at-le, le-at, lt-at, at-eq, eq-at, at-more, at-add, at-sub, at-mul, common}
+use lib.Dec.{T, ltb, ltb→lt, nltb→le}
+use Rattle.exact.specs.Fraction.{Fraction, over, frac, _≤F_, _<F_, _≈_, negF, _+F_, _-F_, _*F_, Unit01}
+use Rattle.exact.proofs.Scale.{At, at-le, le-at, at-lt, lt-at, at-eq, eq-at, at-more, at-add, at-sub, at-mul, common}
 use Rattle.exact.proofs.Near.{eq-sym, eq-trans, eq-le, le-refl, le-trans}
 
 -- ---- equality in chains
@@ -115,8 +118,25 @@ module _ (x y z : Fraction) where
       (λ D D0 ((_, _, X), ((_, _, Y), ((_, _, Z), _))). at-eq (D * D) (mul-pos D0 D0) (at-mul (at-sub X Y) Z) (at-sub (at-mul X Z) (at-mul Y Z)) (omega arith))
 
 -- ---- the order
+pub lt-or-le : (x y : Fraction) → (x <F y) ⊎ (y ≤F x)
+lt-or-le x y = ⊎-elim (λ h. inl (record { lt = h })) (λ h. inr (record { le = h })) (side (x .plus * over y + y .minus * over x) (y .plus * over x + x .minus * over y))
+  where
+    side : (a b : ℕ) → (a < b) ⊎ (b ≤ a)
+    side a b = go (ltb a b) (ltb→lt a b) (nltb→le a b)
+      where
+        go : (t : Bool) → (T t → a < b) → (T (not t) → b ≤ a) → (a < b) ⊎ (b ≤ a)
+        go true h k = inl (h tt)
+        go false h k = inr (k tt)
+
 pub le-same : {x x' y y' : Fraction} → x ≈ x' → y ≈ y' → x ≤F y → x' ≤F y'
 le-same {x} {x'} {y} {y'} h k l = le-trans x' x y' (eq-le x' x (back h)) (le-trans x y y' l (eq-le y y' k))
+
+module _ {x y z : Fraction} where
+  pub lt-le-trans : x <F y → y ≤F z → x <F z
+  lt-le-trans h k = common (x ∷ y ∷ z ∷ []) (λ D D0 ((_, _, X), ((_, _, Y), ((_, _, Z), _))). let a = lt-at D D0 X Y h in let b = le-at D D0 Y Z k in at-lt D D0 X Z (omega arith))
+
+  pub le-lt-trans : x ≤F y → y <F z → x <F z
+  le-lt-trans h k = common (x ∷ y ∷ z ∷ []) (λ D D0 ((_, _, X), ((_, _, Y), ((_, _, Z), _))). let a = le-at D D0 X Y h in let b = lt-at D D0 Y Z k in at-lt D D0 X Z (omega arith))
 
 pub rearrange : (p n a b : ℕ) → n ≤ p → a ≤ b → p * a + n * b ≤ p * b + n * a
 rearrange p n a b h k =

@@ -6,3 +6,7 @@ pub mod Value
 pub mod Products
 pub mod NearProducts
 pub mod Quotients
+pub mod Floor
+pub mod Mix
+pub mod Line
+pub mod Surface

@@ -10,3 +10,6 @@ pub mod Floor
 pub mod Mix
 pub mod Line
 pub mod Surface
+pub mod Weights
+pub mod Dot
+pub mod Blend

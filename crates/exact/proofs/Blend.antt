@@ -2,13 +2,15 @@
 -- folds into the corners, dot (parted t ws) vs = dot ws (folded t vs), so a blend along n axes is n mixes, one inside the other; hence
 -- it moves by at most the sum of its fractions' moves, and along two axes it is the surface in a cell.
 -- Provides: `blend-unit`, `blend-near`, `blend-fold`, `blend-one`, `blend-move`, `bilinear`, `trilinear`, `four-taps`, `surface-blend`. Assumes nothing.
-use mathlib.Core.Path.{_≡_, refl}
+use mathlib.Core.Path.{refl}
 use mathlib.Core.List.{List, [], _∷_}
-use Prim.Native.Nat.{ℕ, _+_, _*_}
 use native.Mathlib.Omega.{arith}
+use mathlib.Core.Bool.{Bool, false, cond, _&&_}
+use Prim.Native.Nat.{ℕ}
+use lib.Dec.{eqb}
 use lib.IntN.{ℤ, pos, negsuc, sucℤ}
 use Rattle.exact.specs.Fraction.{Fraction, frac, ratio, whole, _≤F_, _≈_, _+F_, _-F_, _*F_, distance, Within, Unit01}
-use Rattle.exact.specs.Surface.{floorF, partF, mix, lin, surface}
+use Rattle.exact.specs.Surface.{mix, surface}
 use Rattle.exact.specs.Blend.{parted, weights, dot, blend, folded, apart, Each, Pairwise}
 use Rattle.exact.proofs.Scale.{at-eq, at-add, common}
 use Rattle.exact.proofs.Near.{le-refl, add-same, within-same, within-trans}
@@ -137,11 +139,20 @@ halfway : blend (frac 1 2 ∷ frac 1 4 ∷ []) (frac 0 1 ∷ frac 1 1 ∷ frac 0
 unfolding blend
 halfway = record { eq = refl }
 
--- 0 to the left of the origin and 1 from there on: a quarter before it the surface has come to 3/4, in every row
-step : ℤ → ℤ → Fraction
-step (pos i) j = frac 1 1
-step (negsuc i) j = frac 0 1
+-- the second corner's weight is t (1 - s)
+second : blend (frac 1 4 ∷ frac 1 3 ∷ []) (frac 0 1 ∷ frac 1 1 ∷ frac 0 1 ∷ frac 0 1 ∷ []) ≈ frac 1 6
+unfolding blend
+second = record { eq = refl }
 
-before : surface step (ratio 0 1 4) (frac 5 3) ≈ frac 3 4
-unfolding surface step
-before = record { eq = refl }
+-- 1 at column 0 and row 2, and 0 elsewhere: at (-1/4, 5/3) the surface is 3/4 of 2/3
+is : ℕ → ℤ → Bool
+is n (pos m) = eqb m n
+is n (negsuc m) = false
+
+peak : ℤ → ℤ → Fraction
+unfolding is
+peak i j = cond (is 0 i && is 2 j) (frac 1 1) (frac 0 1)
+
+beside : surface peak (ratio 0 1 4) (frac 5 3) ≈ frac 1 2
+unfolding surface peak
+beside = record { eq = refl }

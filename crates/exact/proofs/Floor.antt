@@ -2,19 +2,19 @@
 -- laws of that division; that k is the only one follows since k < j + 1 and j < k + 1 leave no other.
 -- Provides: `plusℤ`, `minusℤ`, `at-whole` (a whole number at a scale), `whole-next`; `floor-le`, `floor-lt`, `floor-only`, `floor-same`, `floor-mono`, `floor-whole`;
 -- `part-unit`, `part-lt`, `part-add` (x is its floor and its part), `split-only` (x = k + t with 0 ≤ t < 1 is that split). Assumes nothing.
-use mathlib.Core.Path.{_≡_, refl, sym, ap, _∙_, subst}
-use mathlib.Core.List.{List, [], _∷_}
+use mathlib.Core.Path.{_≡_, refl, sym, ap, subst}
+use mathlib.Core.List.{[], _∷_}
 use mathlib.Core.Bool.{Bool, true, false, not, cond}
 use Prim.Native.Nat.{ℕ, zero, suc, _+_, _-_, _*_, _/_, _≤_, _<_}
 use native.Mathlib.Nat.{div-mul-le-self, lt-div-mul-add, zero-lt-suc}
 use native.Mathlib.Omega.{arith}
 use lib.Dec.{T, leb, leb→le, nleb→lt}
 use lib.IntN.{ℤ, pos, negsuc, negℤ, sucℤ}
-use Rattle.exact.specs.Fraction.{Fraction, over, ratio, frac, whole, _≤F_, _<F_, _≈_, _+F_, _-F_, Unit01}
+use Rattle.exact.specs.Fraction.{Fraction, over, frac, whole, _≤F_, _<F_, _≈_, _+F_, _-F_, Unit01}
 use Rattle.exact.specs.Surface.{floorF, partF}
 use Rattle.exact.proofs.Scale.{At, at-le, le-at, at-lt, lt-at, at-eq, eq-at, at-add, at-sub, over-pos, common}
 use Rattle.exact.proofs.Near.{le-refl, le-trans, lt-le, eq-le}
-use Rattle.exact.proofs.Products.{eq-refl, _⨟_, back, at-zero, at-one, le-same, le-lt-trans, lt-le-trans}
+use Rattle.exact.proofs.Products.{eq-refl, back, at-zero, at-one, le-same, le-lt-trans}
 
 -- ---- whole numbers: plusℤ k - minusℤ k
 abbrev pub plusℤ : ℤ → ℕ

@@ -2,19 +2,18 @@
 -- are the border's value there. So it moves by at most |x - x'|: within a cell the mix does; over one border go through its value;
 -- further apart |x - x'| is above 1, and both values are from 0 to 1.
 -- Provides: `lin-unit`, `lin-near`, `lin-like`, `lin-eval`, `lin-same`, `lin-whole`, `lin-move`. Assumes nothing.
-use mathlib.Core.Path.{_≡_, refl, sym, ap, _∙_, subst}
-use mathlib.Core.List.{List, [], _∷_}
+use mathlib.Core.Path.{subst}
+use mathlib.Core.List.{[], _∷_}
 use mathlib.Core.Logic.{⊎-elim}
-use Prim.Native.Nat.{ℕ, _+_, _*_, _≤_, _<_}
 use native.Mathlib.Omega.{arith}
 use lib.IntN.{ℤ, sucℤ}
 use Rattle.exact.specs.Fraction.{Fraction, frac, whole, _≤F_, _<F_, _≈_, _+F_, _-F_, Within, Unit01}
 use Rattle.exact.specs.Surface.{floorF, partF, mix, lin}
 use Rattle.exact.proofs.Scale.{at-le, le-at, lt-at, at-eq, eq-at, at-add, at-sub, common}
-use Rattle.exact.proofs.Near.{le-refl, le-total, add-same, lt-le, le-antisym, eq-le, within-at, at-within, within-sym, within-more, within-trans, le-trans}
-use Rattle.exact.proofs.Products.{eq-refl, _⨟_, back, at-zero, at-one, lt-or-le, add-zero, le-same, unit-zero, unit-one}
+use Rattle.exact.proofs.Near.{le-refl, le-total, add-same, lt-le, le-antisym, within-at, at-within, within-sym, within-more, within-trans, le-trans}
+use Rattle.exact.proofs.Products.{eq-refl, _⨟_, back, at-zero, at-one, lt-or-le, add-zero, unit-zero}
 use Rattle.exact.proofs.NearProducts.{within-like, within-unit}
-use Rattle.exact.proofs.Floor.{at-whole, whole-next, floor-le, floor-lt, part-unit, part-add, split-only}
+use Rattle.exact.proofs.Floor.{whole-next, floor-le, floor-lt, part-unit, part-add, split-only}
 use Rattle.exact.proofs.Mix.{mix-same, mix-zero, mix-one, mix-unit, mix-near, mix-slope}
 
 pub lin-unit : (a : ℤ → Fraction) (x : Fraction) → ((k : ℤ) → Unit01 (a k)) → Unit01 (lin a x)

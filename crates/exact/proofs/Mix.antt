@@ -1,15 +1,15 @@
 -- The mix (1 - t) a + t b of two values: it is a + t (b - a), and it is monotone, so it lies where a and b lie and moves no further than they do;
 -- as t moves it moves by at most as much, where a and b are from 0 to 1.
 -- Provides: `mix-same`, `mix-line`, `mix-fixed`, `mix-zero`, `mix-one`, `mix-le`, `mix-unit`, `mix-within`, `mix-near`, `mix-slope`. Assumes nothing.
-use mathlib.Core.List.{List, [], _∷_}
-use Prim.Native.Nat.{ℕ, _+_, _*_, _≤_, _<_}
+use mathlib.Core.List.{[], _∷_}
+use Prim.Native.Nat.{_*_}
 use native.Mathlib.Nat.{mul-pos}
 use native.Mathlib.Omega.{arith}
 use Rattle.exact.specs.Fraction.{Fraction, frac, _≤F_, _≈_, _+F_, _-F_, _*F_, absF, distance, Within, Unit01}
 use Rattle.exact.specs.Surface.{mix}
 use Rattle.exact.proofs.Scale.{at-eq, at-more, at-add, at-sub, at-mul, common}
 use Rattle.exact.proofs.Near.{le-refl, add-same, add-mono, within-same, within-add}
-use Rattle.exact.proofs.Products.{eq-refl, _⨟_, back, at-zero, at-one, mul-same, sub-same, mul-one, add-zero, add-comm, le-same, mul-le, unit-rest, unit-zero, unit-one}
+use Rattle.exact.proofs.Products.{eq-refl, _⨟_, back, at-zero, at-one, mul-same, sub-same, mul-one, add-zero, add-comm, le-same, mul-le, unit-rest}
 use Rattle.exact.proofs.NearProducts.{within-like, within-unit, within-mul-by, within-scale}
 
 pub mix-same : {t t' a a' b b' : Fraction} → t ≈ t' → a ≈ a' → b ≈ b' → mix t a b ≈ mix t' a' b'

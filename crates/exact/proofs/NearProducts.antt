@@ -2,16 +2,15 @@
 -- then x y - x' y' is (x - x') y + x' (y - y').
 -- Provides: `abs-at`, `at-abs-le` (the working form of |x| ≤ a, both ways), `abs-open`, `abs-close`, `abs-unit`, `abs-near`, `abs-mul`, `abs-nonneg`;
 -- `within-like` (equal parts), `within-unit`, `mul-within`, `within-mul-by`, `within-scale`, `within-mul`, `within-mul-unit`, `within-nonneg`. Assumes nothing.
-use mathlib.Core.Path.{_≡_}
-use mathlib.Core.List.{List, [], _∷_}
+use mathlib.Core.List.{[], _∷_}
 use mathlib.Core.Logic.{⊎-elim}
 use Prim.Native.Nat.{ℕ, _+_, _*_, _≤_, _<_}
 use native.Mathlib.Nat.{mul-pos}
 use native.Mathlib.Omega.{arith}
 use Rattle.exact.specs.Fraction.{Fraction, frac, _≤F_, _≈_, negF, _+F_, _-F_, _*F_, absF, distance, Within, Unit01}
-use Rattle.exact.proofs.Scale.{At, at-le, le-at, eq-at, at-neg, at-add, at-sub, at-mul, common}
+use Rattle.exact.proofs.Scale.{At, at-le, le-at, eq-at, at-neg, at-add, at-mul, common}
 use Rattle.exact.proofs.Near.{at-abs, within-at, at-within, within-trans, add-same}
-use Rattle.exact.proofs.Products.{at-zero, at-one, eq-refl, back, rearrange, le-same, mul-comm, mul-one, one-mul, mul-sub}
+use Rattle.exact.proofs.Products.{at-zero, at-one, eq-refl, rearrange, mul-comm, mul-one, one-mul, mul-sub}
 
 -- ---- |x| ≤ a
 module _ (D : ℕ) (D0 : 0 < D) {x a : Fraction} {p n r s : ℕ} (X : At D x p n) (A : At D a r s) where

@@ -4,17 +4,17 @@
 -- `mul-comm`, `mul-assoc`, `mul-one`, `one-mul`, `mul-zero`, `mul-add`, `add-mul`, `mul-sub`, `sub-mul`, `sub-neg`, `add-zero`, `add-comm`,
 -- `add-assoc`; the order: `lt-or-le`, `lt-le-trans`, `le-lt-trans`, `le-same`, `rearrange`, `mul-le`, `le-mul`, `mul-mono`, `nonneg-mul`, `mul-cancel-le`; from 0 to 1: `unit-zero`, `unit-one`, `unit-same`,
 -- `unit-mul`, `unit-rest` (1 - t). Assumes nothing.
-use mathlib.Core.Path.{_≡_, refl, sym, ap, _∙_, subst}
-use mathlib.Core.List.{List, [], _∷_}
+use mathlib.Core.Path.{_≡_, refl, ap, _∙_, subst}
+use mathlib.Core.List.{[], _∷_}
 use mathlib.Core.Logic.{_⊎_, inl, inr, ⊎-elim}
 use mathlib.Core.Bool.{Bool, true, false, not}
-use Prim.Native.Nat.{ℕ, suc, _+_, _-_, _*_, _≤_, _<_}
+use Prim.Native.Nat.{ℕ, _+_, _-_, _*_, _≤_, _<_}
 use native.Mathlib.Nat.{mul-le-mul-right, mul-pos, le-of-mul-le-mul-right}
 use native.Mathlib.Omega.{arith}
 use lib.Dec.{T, ltb, ltb→lt, nltb→le}
 use Rattle.exact.specs.Fraction.{Fraction, over, frac, _≤F_, _<F_, _≈_, negF, _+F_, _-F_, _*F_, Unit01}
 use Rattle.exact.proofs.Scale.{At, at-le, le-at, at-lt, lt-at, at-eq, eq-at, at-more, at-add, at-sub, at-mul, common}
-use Rattle.exact.proofs.Near.{eq-sym, eq-trans, eq-le, le-refl, le-trans}
+use Rattle.exact.proofs.Near.{eq-sym, eq-trans, eq-le, le-trans}
 
 -- ---- equality in chains
 pub eq-refl : (x : Fraction) → x ≈ x

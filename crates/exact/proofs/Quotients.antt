@@ -2,16 +2,16 @@
 -- follow by multiplying with a divisor above 0.
 -- Provides: `at-div`, `at-div-neg` (the working form); `div-mul-pos`, `div-mul-neg`, `div-mul` (x / y times y is x), `div-le`, `le-of-div-le`,
 -- `le-div`, `le-of-le-div`, `div-only`, `div-same`, `within-cancel`, `within-div`. Assumes nothing.
-use mathlib.Core.Path.{_≡_, refl, sym, ap, _∙_, subst}
-use mathlib.Core.List.{List, [], _∷_}
+use mathlib.Core.Path.{_≡_, sym, ap, _∙_, subst}
+use mathlib.Core.List.{[], _∷_}
 use mathlib.Core.Logic.{⊎-elim}
 use mathlib.Core.Bool.{Bool, true, false, not, cond}
-use Prim.Native.Nat.{ℕ, suc, _+_, _-_, _*_, _≤_, _<_}
+use Prim.Native.Nat.{ℕ, _+_, _-_, _*_, _≤_, _<_}
 use native.Mathlib.Nat.{mul-pos, eq-of-mul-eq-mul-right}
 use native.Mathlib.Nat as N
 use native.Mathlib.Omega.{arith}
 use lib.Dec.{T, ltb, ltb→lt, nltb→le}
-use Rattle.exact.specs.Fraction.{Fraction, over, ratio, frac, _≤F_, _<F_, _≈_, _+F_, _-F_, _*F_, _/F_, absF, Within}
+use Rattle.exact.specs.Fraction.{Fraction, over, ratio, frac, _≤F_, _<F_, _≈_, _+F_, _*F_, _/F_, absF, Within}
 use Rattle.exact.proofs.Scale.{At, lt-at, at-eq, at-more, at-ratio, at-mul, over-pos, common}
 use Rattle.exact.proofs.Near.{le-refl, le-trans, lt-le, le-antisym, eq-le, add-mono, within-open, within-close, within-trans, within-sym}
 use Rattle.exact.proofs.Products.{eq-refl, _⨟_, back, at-zero, lt-or-le, lt-le-trans, le-same, mul-same, mul-comm, mul-zero, add-mul, mul-le, le-mul, mul-cancel-le}

@@ -1,25 +1,17 @@
 -- The blend. Its weights are not negative and add up to 1, so it lies where the corners lie and moves no further than they do. One axis
--- folds into the corners, dot (parted t ws) vs = dot ws (folded t vs), so a blend along n axes is n mixes, one inside the other; hence
--- it moves by at most the sum of its fractions' moves, and along two axes it is the surface in a cell.
--- Provides: `blend-unit`, `blend-near`, `blend-fold`, `blend-one`, `blend-move`, `bilinear`, `trilinear`, `four-taps`, `surface-blend`. Assumes nothing.
-use mathlib.Core.Path.{refl}
+-- folds into the corners, dot (parted t ws) vs = dot ws (folded t vs), so a blend along n axes is n mixes, one inside the other, and
+-- moves by at most the sum of its fractions' moves.
+-- Provides: `blend-unit`, `blend-near`, `blend-fold`, `blend-one`, `blend-move`. Assumes nothing.
 use mathlib.Core.List.{List, [], _∷_}
-use native.Mathlib.Omega.{arith}
-use mathlib.Core.Bool.{Bool, false, cond, _&&_}
-use Prim.Native.Nat.{ℕ}
-use lib.Dec.{eqb}
-use lib.IntN.{ℤ, pos, negsuc, sucℤ}
-use Rattle.exact.specs.Fraction.{Fraction, frac, ratio, whole, _≤F_, _≈_, _+F_, _-F_, _*F_, distance, Within, Unit01}
-use Rattle.exact.specs.Surface.{mix, surface}
+use Rattle.exact.specs.Fraction.{Fraction, frac, _≤F_, _≈_, _+F_, _-F_, _*F_, distance, Within, Unit01}
+use Rattle.exact.specs.Surface.{mix}
 use Rattle.exact.specs.Blend.{parted, weights, dot, blend, folded, apart, Each, Pairwise}
-use Rattle.exact.proofs.Scale.{at-eq, at-add, common}
 use Rattle.exact.proofs.Near.{le-refl, add-same, within-same, within-trans}
-use Rattle.exact.proofs.Products.{eq-refl, _⨟_, back, at-zero, mul-same, mul-comm, mul-assoc, one-mul, mul-zero, mul-add, add-zero, add-assoc, le-same, unit-zero, unit-mul, unit-rest}
+use Rattle.exact.proofs.Products.{eq-refl, _⨟_, back, mul-same, mul-comm, mul-assoc, one-mul, mul-zero, mul-add, add-zero, add-assoc, le-same, unit-zero, unit-mul, unit-rest}
 use Rattle.exact.proofs.NearProducts.{within-like, within-nonneg}
 use Rattle.exact.proofs.Mix.{mix-unit, mix-slope}
-use Rattle.exact.proofs.Surface.{surface-eval}
-use Rattle.exact.proofs.Weights.{weights-unit, weights-total, weights-two}
-use Rattle.exact.proofs.Dot.{NonNeg, each-map, dot-none, dot-same, dot-nonneg, dot-le, dot-near}
+use Rattle.exact.proofs.Weights.{weights-unit, weights-total}
+use Rattle.exact.proofs.Dot.{NonNeg, each-map, dot-none, dot-nonneg, dot-le, dot-near}
 
 -- ---- the blend of values from 0 to 1, and of two lists of values
 module _ (ts : List Fraction) (u : Each Unit01 ts) where
@@ -99,60 +91,3 @@ blend-move (t ∷ ts) (u ∷ us) vs p h =
     lefts [] (u ∷ us) p = tt
     lefts (t ∷ ts) [] p = absurd p
     lefts (t ∷ ts) (u ∷ us) p = (p .0 .0, lefts ts us (p .1))
-
--- ---- two axes and three
-pub bilinear : (t s a b c d : Fraction) → blend (t ∷ s ∷ []) (a ∷ b ∷ c ∷ d ∷ []) ≈ mix s (mix t a b) (mix t c d)
-unfolding folded
-bilinear t s a b c d =
-    blend-fold t (s ∷ []) (a ∷ b ∷ c ∷ d ∷ []) ⨟ blend-fold s [] (mix t a b ∷ mix t c d ∷ []) ⨟ blend-one (mix s (mix t a b) (mix t c d))
-
-pub trilinear : (t s r a b c d a' b' c' d' : Fraction)
-    → blend (t ∷ s ∷ r ∷ []) (a ∷ b ∷ c ∷ d ∷ a' ∷ b' ∷ c' ∷ d' ∷ []) ≈ mix r (mix s (mix t a b) (mix t c d)) (mix s (mix t a' b') (mix t c' d'))
-unfolding folded
-trilinear t s r a b c d a' b' c' d' =
-    blend-fold t (s ∷ r ∷ []) (a ∷ b ∷ c ∷ d ∷ a' ∷ b' ∷ c' ∷ d' ∷ []) ⨟ bilinear s r (mix t a b) (mix t c d) (mix t a' b') (mix t c' d')
-
--- the sum of four taps, from the left
-pub four-taps : (t s a b c d : Fraction)
-    → blend (t ∷ s ∷ []) (a ∷ b ∷ c ∷ d ∷ []) ≈ (frac 1 1 -F t) *F (frac 1 1 -F s) *F a +F t *F (frac 1 1 -F s) *F b +F (frac 1 1 -F t) *F s *F c +F t *F s *F d
-unfolding blend dot
-four-taps t s a b c d =
-    let t' : Fraction = frac 1 1 -F t in
-    let s' : Fraction = frac 1 1 -F s in
-    dot-same (weights (t ∷ s ∷ [])) ((t' *F s') ∷ (t *F s') ∷ (t' *F s) ∷ (t *F s) ∷ []) (a ∷ b ∷ c ∷ d ∷ []) (a ∷ b ∷ c ∷ d ∷ []) (weights-two t s)
-    (eq-refl a, (eq-refl b, (eq-refl c, (eq-refl d, tt))))
-    ⨟ left (t' *F s' *F a) (t *F s' *F b) (t' *F s *F c) (t *F s *F d)
-  where
-    left : (x y z w : Fraction) → x +F (y +F (z +F (w +F frac 0 1))) ≈ x +F y +F z +F w
-    left x y z w =
-        common (x ∷ y ∷ z ∷ w ∷ [])
-        (λ D D0 ((_, _, X), ((_, _, Y), ((_, _, Z), ((_, _, W), _)))). at-eq D D0 (at-add X (at-add Y (at-add Z (at-add W (at-zero D))))) (at-add (at-add (at-add X Y) Z) W) (omega arith))
-
--- the surface is the blend of the four values around the point, in any cell that the point touches
-pub surface-blend : (a : ℤ → ℤ → Fraction) (x y t s : Fraction) (k l : ℤ) → Unit01 t → Unit01 s → x ≈ whole k +F t → y ≈ whole l +F s
-    → surface a x y ≈ blend (t ∷ s ∷ []) (a k l ∷ a (sucℤ k) l ∷ a k (sucℤ l) ∷ a (sucℤ k) (sucℤ l) ∷ [])
-surface-blend a x y t s k l u v h g =
-    surface-eval a x y t s k l u v h g ⨟ back (bilinear t s (a k l) (a (sucℤ k) l) (a k (sucℤ l)) (a (sucℤ k) (sucℤ l)))
-
--- ---- by example
-halfway : blend (frac 1 2 ∷ frac 1 4 ∷ []) (frac 0 1 ∷ frac 1 1 ∷ frac 0 1 ∷ frac 1 1 ∷ []) ≈ frac 1 2
-unfolding blend
-halfway = record { eq = refl }
-
--- the second corner's weight is t (1 - s)
-second : blend (frac 1 4 ∷ frac 1 3 ∷ []) (frac 0 1 ∷ frac 1 1 ∷ frac 0 1 ∷ frac 0 1 ∷ []) ≈ frac 1 6
-unfolding blend
-second = record { eq = refl }
-
--- 1 at column 0 and row 2, and 0 elsewhere: at (-1/4, 5/3) the surface is 3/4 of 2/3
-is : ℕ → ℤ → Bool
-is n (pos m) = eqb m n
-is n (negsuc m) = false
-
-peak : ℤ → ℤ → Fraction
-unfolding is
-peak i j = cond (is 0 i && is 2 j) (frac 1 1) (frac 0 1)
-
-beside : surface peak (ratio 0 1 4) (frac 5 3) ≈ frac 1 2
-unfolding surface peak
-beside = record { eq = refl }

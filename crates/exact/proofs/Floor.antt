@@ -114,12 +114,22 @@ module _ (x t : Fraction) (k : ℤ) (h : x ≈ whole k +F t) where
   part-of : whole k ≤F x → x <F whole (sucℤ k) → (frac 0 1 ≤F t) × (t <F frac 1 1)
   part-of l u =
       common (x ∷ t ∷ whole k ∷ whole (sucℤ k) ∷ [])
-      (λ D D0 ((_, _, X), ((_, _, T), ((_, _, K), ((_, _, J), _)))). let a = eq-at D D0 X (at-add K T) h in let b = eq-at D D0 J (at-add K (at-one D)) (whole-next k) in let c = le-at D D0 K X l in let d = lt-at D D0 X J u in (at-le D D0 (at-zero D) T (omega arith), at-lt D D0 T (at-one D) (omega arith)))
+      (λ D D0 ((_, _, X), ((_, _, T), ((_, _, K), ((_, _, J), _)))).
+      let a = eq-at D D0 X (at-add K T) h in
+      let b = eq-at D D0 J (at-add K (at-one D)) (whole-next k) in
+      let c = le-at D D0 K X l in
+      let d = lt-at D D0 X J u in
+      (at-le D D0 (at-zero D) T (omega arith), at-lt D D0 T (at-one D) (omega arith)))
 
-  pub split-ends : frac 0 1 ≤F t → t <F frac 1 1 → (whole k ≤F x) × (x <F whole (sucℤ k))
+  split-ends : frac 0 1 ≤F t → t <F frac 1 1 → (whole k ≤F x) × (x <F whole (sucℤ k))
   split-ends l u =
       common (x ∷ t ∷ whole k ∷ whole (sucℤ k) ∷ [])
-      (λ D D0 ((_, _, X), ((_, _, T), ((_, _, K), ((_, _, J), _)))). let a = eq-at D D0 X (at-add K T) h in let b = eq-at D D0 J (at-add K (at-one D)) (whole-next k) in let c = le-at D D0 (at-zero D) T l in let d = lt-at D D0 T (at-one D) u in (at-le D D0 K X (omega arith), at-lt D D0 X J (omega arith)))
+      (λ D D0 ((_, _, X), ((_, _, T), ((_, _, K), ((_, _, J), _)))).
+      let a = eq-at D D0 X (at-add K T) h in
+      let b = eq-at D D0 J (at-add K (at-one D)) (whole-next k) in
+      let c = le-at D D0 (at-zero D) T l in
+      let d = lt-at D D0 T (at-one D) u in
+      (at-le D D0 K X (omega arith), at-lt D D0 X J (omega arith)))
 
   pub split-only : frac 0 1 ≤F t → t <F frac 1 1 → (floorF x ≡ k) × (partF x ≈ t)
   unfolding partF

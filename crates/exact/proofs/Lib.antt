@@ -13,3 +13,4 @@ pub mod Surface
 pub mod Weights
 pub mod Dot
 pub mod Blend
+pub mod Taps

@@ -72,13 +72,18 @@ module _ (a : ℤ → Fraction) where
         there : (z : Fraction) → In k z → lin a z ≈ mix (z -F whole k) (a k) (a (sucℤ k))
         there z i =
             common (z ∷ whole k ∷ whole (sucℤ k) ∷ [])
-            (λ D D0 ((_, _, Z), ((_, _, K), ((_, _, J), _))). let b = eq-at D D0 J (at-add K (at-one D)) (whole-next k) in let c = le-at D D0 K Z (i .0) in let e = le-at D D0 Z J (i .1) in
+            (λ D D0 ((_, _, Z), ((_, _, K), ((_, _, J), _))).
+            let b = eq-at D D0 J (at-add K (at-one D)) (whole-next k) in
+            let c = le-at D D0 K Z (i .0) in
+            let e = le-at D D0 Z J (i .1) in
             lin-eval z (z -F whole k) k (at-le D D0 (at-zero D) (at-sub Z K) (omega arith), at-le D D0 (at-sub Z K) (at-one D) (omega arith)) (at-eq D D0 Z (at-add K (at-sub Z K)) (omega arith)))
 
         moved : Within (x -F whole k) (y -F whole k) d
         moved =
             common (x ∷ y ∷ d ∷ whole k ∷ [])
-            (λ D D0 ((_, _, X), ((_, _, Y), ((_, _, E), ((_, _, K), _)))). let b = within-at D D0 X Y E w in at-within D D0 (at-sub X K) (at-sub Y K) E (omega arith) (omega arith))
+            (λ D D0 ((_, _, X), ((_, _, Y), ((_, _, E), ((_, _, K), _)))).
+            let b = within-at D D0 X Y E w in
+            at-within D D0 (at-sub X K) (at-sub Y K) E (omega arith) (omega arith))
 
     -- x in the cell of k, and y above x: in the same cell, in the next, or further on
     module _ (k : ℤ) (x y d : Fraction) (i : In k x) (l : x ≤F y) (w : Within x y d) where

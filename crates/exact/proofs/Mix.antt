@@ -22,26 +22,30 @@ module _ (t a b : Fraction) where
   unfolding mix
   mix-line =
       common (t ∷ a ∷ b ∷ [])
-      (λ D D0 ((_, _, T), ((_, _, A), ((_, _, B), _))). at-eq (D * D) (mul-pos D0 D0) (at-add (at-mul (at-sub (at-one D) T) A) (at-mul T B)) (at-add (at-more D D A) (at-mul T (at-sub B A))) (omega arith))
+      (λ D D0 ((_, _, T), ((_, _, A), ((_, _, B), _))).
+      at-eq (D * D) (mul-pos D0 D0) (at-add (at-mul (at-sub (at-one D) T) A) (at-mul T B)) (at-add (at-more D D A) (at-mul T (at-sub B A))) (omega arith))
 
 pub mix-fixed : (t a : Fraction) → mix t a a ≈ a
 unfolding mix
 mix-fixed t a =
     common (t ∷ a ∷ [])
-    (λ D D0 ((_, _, T), ((_, _, A), _)). at-eq (D * D) (mul-pos D0 D0) (at-add (at-mul (at-sub (at-one D) T) A) (at-mul T A)) (at-more D D A) (omega arith))
+    (λ D D0 ((_, _, T), ((_, _, A), _)).
+    at-eq (D * D) (mul-pos D0 D0) (at-add (at-mul (at-sub (at-one D) T) A) (at-mul T A)) (at-more D D A) (omega arith))
 
 module _ (a b : Fraction) where
   pub mix-zero : mix (frac 0 1) a b ≈ a
   unfolding mix
   mix-zero =
       common (a ∷ b ∷ [])
-      (λ D D0 ((_, _, A), ((_, _, B), _)). at-eq (D * D) (mul-pos D0 D0) (at-add (at-mul (at-sub (at-one D) (at-zero D)) A) (at-mul (at-zero D) B)) (at-more D D A) (omega arith))
+      (λ D D0 ((_, _, A), ((_, _, B), _)).
+      at-eq (D * D) (mul-pos D0 D0) (at-add (at-mul (at-sub (at-one D) (at-zero D)) A) (at-mul (at-zero D) B)) (at-more D D A) (omega arith))
 
   pub mix-one : mix (frac 1 1) a b ≈ b
   unfolding mix
   mix-one =
       common (a ∷ b ∷ [])
-      (λ D D0 ((_, _, A), ((_, _, B), _)). at-eq (D * D) (mul-pos D0 D0) (at-add (at-mul (at-sub (at-one D) (at-one D)) A) (at-mul (at-one D) B)) (at-more D D B) (omega arith))
+      (λ D D0 ((_, _, A), ((_, _, B), _)).
+      at-eq (D * D) (mul-pos D0 D0) (at-add (at-mul (at-sub (at-one D) (at-one D)) A) (at-mul (at-one D) B)) (at-more D D B) (omega arith))
 
 -- ---- at one t from 0 to 1
 module _ (t : Fraction) (u : Unit01 t) where

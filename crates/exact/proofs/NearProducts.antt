@@ -1,6 +1,6 @@
 -- Products of nearby fractions: |u| ≤ e and |v| ≤ b give |u v| ≤ e b, since (e - u) (b + v) and its three kin are not negative;
 -- then x y - x' y' is (x - x') y + x' (y - y').
--- Provides: `abs-at`, `at-abs-le` (the working form of |x| ≤ a, both ways), `abs-open`, `abs-close`, `abs-unit`, `abs-near`, `abs-mul`, `abs-nonneg`;
+-- Provides: `abs-at`, `at-abs-le` (the working form of |x| ≤ a, both ways), `abs-open`, `abs-close`, `abs-unit`, `abs-self`, `abs-near`, `abs-mul`, `abs-nonneg`;
 -- `within-like` (equal parts), `within-unit`, `mul-within`, `within-mul-by`, `within-scale`, `within-mul`, `within-mul-unit`, `within-nonneg`. Assumes nothing.
 use mathlib.Core.List.{[], _∷_}
 use mathlib.Core.Logic.{⊎-elim}
@@ -46,13 +46,20 @@ abs-self x h = common (x ∷ []) (λ D D0 ((_, _, X), _). let a = le-at D D0 (at
 pub abs-near : (x y e a : Fraction) → Within x y e → absF y ≤F a → absF x ≤F a +F e
 abs-near x y e a h k =
     common (x ∷ y ∷ e ∷ a ∷ [])
-    (λ D D0 ((_, _, X), ((_, _, Y), ((_, _, E), ((_, _, A), _)))). let g = within-at D D0 X Y E h in let l = abs-at D D0 Y A k in at-abs-le D D0 X (at-add A E) (omega arith) (omega arith))
+    (λ D D0 ((_, _, X), ((_, _, Y), ((_, _, E), ((_, _, A), _)))).
+    let g = within-at D D0 X Y E h in
+    let l = abs-at D D0 Y A k in
+    at-abs-le D D0 X (at-add A E) (omega arith) (omega arith))
 
 -- ---- |u v| ≤ e b
 pub abs-mul : (u v e b : Fraction) → absF u ≤F e → absF v ≤F b → absF (u *F v) ≤F e *F b
 abs-mul u v e b h k =
     common (u ∷ v ∷ e ∷ b ∷ [])
-    (λ D D0 ((p, n, U), ((q, m, W), ((r, s, E), ((c, f, B), _)))). let x = abs-at D D0 U E h in let y = abs-at D D0 W B k in let g = go p n q m r s c f (x .0) (x .1) (y .0) (y .1) in at-abs-le (D * D) (mul-pos D0 D0) (at-mul U W) (at-mul E B) (g .0) (g .1))
+    (λ D D0 ((p, n, U), ((q, m, W), ((r, s, E), ((c, f, B), _)))).
+    let x = abs-at D D0 U E h in
+    let y = abs-at D D0 W B k in
+    let g = go p n q m r s c f (x .0) (x .1) (y .0) (y .1) in
+    at-abs-le (D * D) (mul-pos D0 D0) (at-mul U W) (at-mul E B) (g .0) (g .1))
   where
     go : (p n q m r s c f : ℕ) → p + s ≤ r + n → n + s ≤ r + p → q + f ≤ c + m → m + f ≤ c + q
         → (p * q + n * m + (r * f + s * c) ≤ r * c + s * f + (p * m + n * q)) × (p * m + n * q + (r * f + s * c) ≤ r * c + s * f + (p * q + n * m))
@@ -65,12 +72,22 @@ abs-mul u v e b h k =
 pub within-like : {x x' y y' e e' : Fraction} → x ≈ x' → y ≈ y' → e ≈ e' → Within x y e → Within x' y' e'
 within-like {x} {x'} {y} {y'} {e} {e'} h k l w =
     common (x ∷ x' ∷ y ∷ y' ∷ e ∷ e' ∷ [])
-    (λ D D0 ((_, _, X), ((_, _, X'), ((_, _, Y), ((_, _, Y'), ((_, _, E), ((_, _, E'), _)))))). let a = eq-at D D0 X X' h in let b = eq-at D D0 Y Y' k in let c = eq-at D D0 E E' l in let g = within-at D D0 X Y E w in at-within D D0 X' Y' E' (omega arith) (omega arith))
+    (λ D D0 ((_, _, X), ((_, _, X'), ((_, _, Y), ((_, _, Y'), ((_, _, E), ((_, _, E'), _)))))).
+    let a = eq-at D D0 X X' h in
+    let b = eq-at D D0 Y Y' k in
+    let c = eq-at D D0 E E' l in
+    let g = within-at D D0 X Y E w in
+    at-within D D0 X' Y' E' (omega arith) (omega arith))
 
 pub within-unit : (x y : Fraction) → Unit01 x → Unit01 y → Within x y (frac 1 1)
 within-unit x y h k =
     common (x ∷ y ∷ [])
-    (λ D D0 ((_, _, X), ((_, _, Y), _)). let a = le-at D D0 (at-zero D) X (h .0) in let b = le-at D D0 X (at-one D) (h .1) in let c = le-at D D0 (at-zero D) Y (k .0) in let d = le-at D D0 Y (at-one D) (k .1) in at-within D D0 X Y (at-one D) (omega arith) (omega arith))
+    (λ D D0 ((_, _, X), ((_, _, Y), _)).
+    let a = le-at D D0 (at-zero D) X (h .0) in
+    let b = le-at D D0 X (at-one D) (h .1) in
+    let c = le-at D D0 (at-zero D) Y (k .0) in
+    let d = le-at D D0 Y (at-one D) (k .1) in
+    at-within D D0 X Y (at-one D) (omega arith) (omega arith))
 
 module _ (x y e : Fraction) where
   pub within-nonneg : Within x y e → frac 0 1 ≤F e

@@ -2,8 +2,8 @@
 -- of order is one omega from the rearrangement p a + n b ≤ p b + n a (n ≤ p, a ≤ b).
 -- Provides: `eq-refl`, `_⨟_`, `back` (equality in chains); `at-zero`, `at-one` (0 and 1 at any scale); the ring: `mul-same`, `sub-same`,
 -- `mul-comm`, `mul-assoc`, `mul-one`, `one-mul`, `mul-zero`, `mul-add`, `add-mul`, `mul-sub`, `sub-mul`, `sub-neg`, `add-zero`, `add-comm`,
--- `add-assoc`; the order: `lt-or-le`, `lt-le-trans`, `le-lt-trans`, `le-same`, `rearrange`, `mul-le`, `le-mul`, `mul-mono`, `nonneg-mul`, `mul-cancel-le`; from 0 to 1: `unit-zero`, `unit-one`, `unit-same`,
--- `unit-mul`, `unit-rest` (1 - t). Assumes nothing.
+-- `add-assoc`; the order: `lt-or-le`, `lt-le-trans`, `le-lt-trans`, `le-same`, `rearrange`, `mul-le`, `le-mul`, `mul-mono`, `nonneg-mul`,
+-- `mul-cancel-le`; from 0 to 1: `unit-zero`, `unit-one`, `unit-same`, `unit-mul`, `unit-rest` (1 - t). Assumes nothing.
 use mathlib.Core.Path.{_≡_, refl, ap, _∙_, subst}
 use mathlib.Core.List.{[], _∷_}
 use mathlib.Core.Logic.{_⊎_, inl, inr, ⊎-elim}
@@ -100,22 +100,26 @@ module _ (x y z : Fraction) where
   pub mul-add : x *F (y +F z) ≈ x *F y +F x *F z
   mul-add =
       common (x ∷ y ∷ z ∷ [])
-      (λ D D0 ((_, _, X), ((_, _, Y), ((_, _, Z), _))). at-eq (D * D) (mul-pos D0 D0) (at-mul X (at-add Y Z)) (at-add (at-mul X Y) (at-mul X Z)) (omega arith))
+      (λ D D0 ((_, _, X), ((_, _, Y), ((_, _, Z), _))).
+      at-eq (D * D) (mul-pos D0 D0) (at-mul X (at-add Y Z)) (at-add (at-mul X Y) (at-mul X Z)) (omega arith))
 
   pub mul-sub : x *F (y -F z) ≈ x *F y -F x *F z
   mul-sub =
       common (x ∷ y ∷ z ∷ [])
-      (λ D D0 ((_, _, X), ((_, _, Y), ((_, _, Z), _))). at-eq (D * D) (mul-pos D0 D0) (at-mul X (at-sub Y Z)) (at-sub (at-mul X Y) (at-mul X Z)) (omega arith))
+      (λ D D0 ((_, _, X), ((_, _, Y), ((_, _, Z), _))).
+      at-eq (D * D) (mul-pos D0 D0) (at-mul X (at-sub Y Z)) (at-sub (at-mul X Y) (at-mul X Z)) (omega arith))
 
   pub add-mul : (x +F y) *F z ≈ x *F z +F y *F z
   add-mul =
       common (x ∷ y ∷ z ∷ [])
-      (λ D D0 ((_, _, X), ((_, _, Y), ((_, _, Z), _))). at-eq (D * D) (mul-pos D0 D0) (at-mul (at-add X Y) Z) (at-add (at-mul X Z) (at-mul Y Z)) (omega arith))
+      (λ D D0 ((_, _, X), ((_, _, Y), ((_, _, Z), _))).
+      at-eq (D * D) (mul-pos D0 D0) (at-mul (at-add X Y) Z) (at-add (at-mul X Z) (at-mul Y Z)) (omega arith))
 
   pub sub-mul : (x -F y) *F z ≈ x *F z -F y *F z
   sub-mul =
       common (x ∷ y ∷ z ∷ [])
-      (λ D D0 ((_, _, X), ((_, _, Y), ((_, _, Z), _))). at-eq (D * D) (mul-pos D0 D0) (at-mul (at-sub X Y) Z) (at-sub (at-mul X Z) (at-mul Y Z)) (omega arith))
+      (λ D D0 ((_, _, X), ((_, _, Y), ((_, _, Z), _))).
+      at-eq (D * D) (mul-pos D0 D0) (at-mul (at-sub X Y) Z) (at-sub (at-mul X Z) (at-mul Y Z)) (omega arith))
 
 -- ---- the order
 pub lt-or-le : (x y : Fraction) → (x <F y) ⊎ (y ≤F x)
@@ -206,4 +210,7 @@ unit-mul {x} {y} h k = (nonneg-mul (h .0) (k .0), le-same (eq-refl (x *F y)) (mu
 pub unit-rest : {t : Fraction} → Unit01 t → Unit01 (frac 1 1 -F t)
 unit-rest {t} h =
     common (t ∷ [])
-    (λ D D0 ((_, _, X), _). let a = le-at D D0 (at-zero D) X (h .0) in let b = le-at D D0 X (at-one D) (h .1) in (at-le D D0 (at-zero D) (at-sub (at-one D) X) (omega arith), at-le D D0 (at-sub (at-one D) X) (at-one D) (omega arith)))
+    (λ D D0 ((_, _, X), _).
+    let a = le-at D D0 (at-zero D) X (h .0) in
+    let b = le-at D D0 X (at-one D) (h .1) in
+    (at-le D D0 (at-zero D) (at-sub (at-one D) X) (omega arith), at-le D D0 (at-sub (at-one D) X) (at-one D) (omega arith)))

@@ -2,6 +2,7 @@
 -- their weights. The first fraction's corners come fastest: for two it is (0,0), (1,0), (0,1), (1,1), as `Bilinear` takes its
 -- taps; for three it is a cube with the first axis fastest. Assumes nothing.
 use mathlib.Core.List.{List, [], _∷_}
+use lib.IntN.{ℤ, sucℤ}
 use Rattle.exact.specs.Fraction.{Fraction, frac, _+F_, _-F_, _*F_, distance}
 use Rattle.exact.specs.Surface.{mix}
 
@@ -25,7 +26,11 @@ dot (w ∷ ws) (v ∷ vs) = w *F v +F dot ws vs
 
 unfoldable pub blend : List Fraction → List Fraction → Fraction
 unfolding weights dot
-blend ts corners = dot (weights ts) corners
+blend ts vs = dot (weights ts) vs
+
+-- the four values around a point of the cell of column k and row l
+abbrev pub corners : (ℤ → ℤ → Fraction) → ℤ → ℤ → List Fraction
+corners a k l = a k l ∷ a (sucℤ k) l ∷ a k (sucℤ l) ∷ a (sucℤ k) (sucℤ l) ∷ []
 
 -- ---- what the laws of the blend speak of
 unfoldable pub total : List Fraction → Fraction

@@ -11,3 +11,14 @@ pub mod Rounded
 pub mod Scale
 pub mod UnitPatterns
 pub mod Value
+pub mod Products
+pub mod NearProducts
+pub mod Quotients
+pub mod Floor
+pub mod Mix
+pub mod Line
+pub mod Surface
+pub mod Weights
+pub mod Dot
+pub mod Blend
+pub mod Taps

@@ -1,0 +1,3 @@
+-- The laws, each file under its subject.
+pub mod FloorNear
+pub mod FloorRound

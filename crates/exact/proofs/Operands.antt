@@ -2,14 +2,15 @@
 -- exchanged for these two fractions. Assumes nothing.
 use mathlib.Core.Path.{_≡_, refl, sym, ap, _∙_, subst}
 use Prim.Native.Nat.{ℕ, zero, suc, _+_, _-_, _*_, _≤_, _<_}
-use native.Mathlib.Nat.{mul-comm, mul-right-comm, mul-assoc, mul-sub, mul-pos, mul-lt-mul-of-pos-right, lt-of-mul-lt-mul-right}
+use native.Mathlib.Nat.{le-antisymm, mul-comm, mul-right-comm, mul-assoc, mul-sub, mul-pos, mul-lt-mul-of-pos-right, lt-of-mul-lt-mul-right}
 use native.Mathlib.Omega.{arith}
 use mathlib.Core.Bool.{Bool, true, false, not, _&&_, cond, Bool·beq}
-use lib.Dec.{T, ltb, ltb→lt, lt→ltb}
-use lib.Ieee.{Float, nan, inf, fin, Format, up, down, round, sum, add, sub, neg, below, lt}
+use lib.Dec.{T, ltb, ltb→lt, lt→ltb, nltb→le}
+use lib.Ieee.{Float, nan, inf, fin, Format, up, down, round, sum, add, sub, neg, below, lt, fits}
 use lib.Ieee.Fits.{down-pos}
 use lib.Ieee.Exact.{HasValue}
 use lib.Ieee.Scale.{round-same}
+use Rattle.exact.proofs.Value.{unique}
 
 pub same-test : (p q : Bool) → (T p → T q) → (T q → T p) → p ≡ q
 same-test true true f g = refl
@@ -82,3 +83,15 @@ lt-values (fin u m e) (fin r n d) s t a b c C v w =
     (λ i. below (v .0 i) (m * up e * down d) (w .0 i) (n * up d * down e))
     ∙ below-same s t (m * up e * down d) (n * up d * down e) (down e * down d) a b c (mul-pos (down-pos e) (down-pos d)) C
     (wide (m * up e) (down e) (down d) a c (v .1)) (wide' (n * up d) (down e) (down d) b c (w .1))
+
+-- ---- neither is below the other: then they are one float, but for two zeros
+pub not-apart : (f g : Format) (x y : Float) (s t : Bool) (a b c : ℕ) → 0 < c → 0 < a → T (fits f x) → T (fits g y) → HasValue x s a c → HasValue y t b c
+    → T (not (lt x y)) → T (not (lt y x)) → x ≡ y
+not-apart f g x y s t a b c C A p q v w h k =
+    go s t v w (subst (λ (u : Bool). T (not u)) (lt-values x y s t a b c C v w) h) (subst (λ (u : Bool). T (not u)) (lt-values y x t s b a c C w v) k)
+  where
+    go : (s t : Bool) → HasValue x s a c → HasValue y t b c → T (not (below s a t b)) → T (not (below t b s a)) → x ≡ y
+    go false false v w h k = unique f g x y false a c C p q v (subst (λ (n : ℕ). HasValue y false n c) (le-antisymm (nltb→le a b h) (nltb→le b a k)) w)
+    go false true v w h k = let l = nltb→le 0 (b + a) k in absurd (omega arith)
+    go true false v w h k = let l = nltb→le 0 (a + b) h in absurd (omega arith)
+    go true true v w h k = unique f g x y true a c C p q v (subst (λ (n : ℕ). HasValue y true n c) (le-antisymm (nltb→le a b k) (nltb→le b a h)) w)

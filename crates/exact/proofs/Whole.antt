@@ -7,16 +7,17 @@ use native.Mathlib.Nat.{le-trans, le-of-eq, lt-of-lt-of-le, lt-of-le-of-lt, lt-o
 use native.Mathlib.Omega.{arith}
 use mathlib.Core.Bool.{Bool, true, false, not, _&&_, cond, Bool·beq}
 use lib.IntN.{ℤ, pos, negsuc, negℤ, natAbs, subℕ, _+ℤ_, _-ℤ_, +ℤ-idr}
+use lib.Signed.{mag}
 use lib.Dec.{T, ltb, leb, ltb→lt, lt→ltb, nltb→le, leb→le, lit≤, lit<}
 use lib.Pow.{pow-add, pow-pos, pow-mono, pow-lt}
-use lib.Ieee.{Float, nan, inf, fin, Format, binary32, binary64, prec, emax, low, up, down, size, units, round, sum, add, sub, neg, below, lt, ofInt, inFloat}
+use lib.Ieee.{Float, nan, inf, fin, Format, binary32, binary64, prec, emax, low, up, down, size, units, round, sum, add, sub, neg, below, lt, ofInt, inFloat, inSigned, toSigned}
 use lib.Ieee.Digits.{size-lt, size-le}
 use lib.Ieee.Fits.{nearest-le, round-is, down-pos}
 use lib.Ieee.Exact.{HasValue, units-val}
 use lib.Ieee.Nearest.{closest, closest-same}
 use lib.Ieee.Order.{drop}
 use lib.Ieee.Scale.{round-same}
-use lib.Ieee.Back.{round-whole}
+use lib.Ieee.Back.{round-whole, positive-back, negative-back}
 use Rattle.exact.proofs.Value.{rescale}
 use Rattle.exact.proofs.Operands.{same-test, add-values, sub-values}
 
@@ -129,3 +130,8 @@ ofInt-sub f z w p q = sub-values f (ofInt f z) (ofInt f w) (negative z) (negativ
     flip (pos zero) = sum-zero f z ∙ ap (ofInt f) (sym (+ℤ-idr z))
     flip (pos (suc b)) = sum-int f z (negsuc b)
     flip (negsuc b) = sum-int f z (pos (suc b))
+
+-- and back
+pub ofInt-back : (f : Format) (h : ℕ) (z : ℤ) → T (inFloat f z) → mag z < 2 ^ h → T (inSigned f h (ofInt f z)) × (toSigned h (ofInt f z) ≡ z)
+ofInt-back f h (pos n) t r = positive-back f h n t r
+ofInt-back f h (negsuc n) t r = negative-back f h n t r

@@ -1,3 +1,4 @@
 -- The laws, each file under its subject.
 pub mod FloorNear
 pub mod FloorRound
+pub mod FloorCode

@@ -19,26 +19,6 @@ use Rattle.number.specs.Floor.{floorℤ, inDomain, isZero}
 use Rattle.number.proofs.FloorNear.{shift, floorOf, floor-shift}
 use Rattle.number.proofs.FloorRound.{K, C, near-is, near-small, near-lt, in-float}
 
--- ---- x by its value
-abbrev num : Float → ℕ
-num nan = 0
-num (inf s) = 0
-num (fin s m e) = m * up e
-
-abbrev den : Float → ℕ
-den nan = 1
-den (inf s) = 1
-den (fin s m e) = down e
-
-abbrev sign : Float → Bool
-sign nan = false
-sign (inf s) = s
-sign (fin s m e) = s
-
--- the whole number that r is
-abbrev pub nearℤ : Float → ℤ
-nearℤ x = subℕ (closest (shift (sign x) (num x) (den x) K) (den x)) K
-
 pred-sub : (w : ℕ) → subℕ (suc w) K -ℤ pos 1 ≡ subℕ w K
 pred-sub w = -ℤ-one (subℕ (suc w) K) ∙ ap predℤ (sucℤ-+ℤ (pos w) (negsuc 6755399441055743)) ∙ pred-suc (subℕ w K)
 
@@ -59,3 +39,42 @@ module _ (s : Bool) (a c : ℕ) (P : 0 < c) (A : a ≤ 2147483648 * c) where
       let N = shift s a c K in
       sym (floor-shift s a c K (closest N c) P at-most h
       (lt-of-lt-of-le (div-lt-iff-lt-mul P .0 (le-refl (suc (N / c)))) (mul-le-mul-right c (suc-le-suc (nearest-ge (N / c) (compare (N % c * 2) c))))))
+
+-- ---- of x in the domain
+pub record Rounded (x : Float) : Type 0 where
+  pub z : ℤ
+  pub is : x ⊕ C ⊖ C ≡ ofInt binary64 z
+  pub small : mag z ≤ 2251799813685248
+  pub above : T (lt x (x ⊕ C ⊖ C)) → z -ℤ pos 1 ≡ floorℤ x
+  pub right : T (not (lt x (x ⊕ C ⊖ C))) → z ≡ floorℤ x
+  pub none : T (isZero x) → z ≡ pos 0
+
+floor-of : (s : Bool) (m : ℕ) (e : ℤ) → floorOf s (m * up e) (down e) ≡ floorℤ (fin s m e)
+unfolding floorℤ
+floor-of false m e = refl
+floor-of true m e = refl
+
+shift-none : (s : Bool) (a c : ℕ) → a ≡ 0 → shift s a c K * 1 ≡ K * c
+shift-none false a c z = omega arith
+shift-none true a c z = omega arith
+
+module _ (s : Bool) (m : ℕ) (e : ℤ) (A : m * up e ≤ 2147483648 * down e) where
+  rounded-fin : (T (isZero (fin s m e)) → m ≡ 0) → Rounded (fin s m e)
+  rounded-fin zr =
+      let a = m * up e in
+      let c = down e in
+      let N = shift s a c K in
+      record {
+        z = subℕ (closest N c) K;
+        is = near-is (fin s m e) s a c (down-pos e) A (refl, refl);
+        small = near-small (fin s m e) s a c (down-pos e) A (refl, refl);
+        above = λ h. above s a c (down-pos e) A (ltb→lt N (closest N c * c) (subst T (near-lt (fin s m e) s a c (down-pos e) A (refl, refl)) h)) ∙ floor-of s m e;
+        right = λ h. right s a c (down-pos e) A (nltb→le N (closest N c * c) (subst (λ (u : Bool). T (not u)) (near-lt (fin s m e) s a c (down-pos e) A (refl, refl)) h)) ∙ floor-of s m e;
+        none = λ t. ap (λ (n : ℕ). subℕ n K) (closest-same N c K 1 (down-pos e) (zero-lt-suc 0) (shift-none s a c (ap (λ (n : ℕ). n * up e) (zr t) ∙ zero-mul (up e))));
+      }
+
+pub rounded : (x : Float) → T (inDomain x) → Rounded x
+unfolding inDomain isZero
+rounded nan d = absurd d
+rounded (inf s) d = absurd d
+rounded (fin s m e) d = rounded-fin s m e (leb→le (m * up e) (2147483648 * down e) d) (eqb→eq m 0)

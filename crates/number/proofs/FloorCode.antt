@@ -4,7 +4,8 @@ use mathlib.Core.Path.{_≡_, refl, sym, ap, _∙_, subst}
 use Prim.Native.Nat.{ℕ, zero, suc, _+_, _-_, _*_, _/_, _%_, _^_, _≤_, _<_, compare, suc-le-suc}
 use native.Mathlib.Nat.{le-antisymm, lt-of-lt-of-le, lt-of-le-of-lt, le-trans, zero-lt-suc, mul-one, zero-mul, mul-le-mul-right, div-mul-le-self, div-lt-iff-lt-mul, lt-of-mul-lt-mul-right, le-refl}
 use native.Mathlib.Omega.{arith}
-use mathlib.Core.Bool.{Bool, true, false, not}
+use mathlib.Core.Bool.{Bool, true, false, not, true≢false}
+use borrow.Author.Tests.{not-true}
 use lib.IntN.{ℤ, pos, negsuc, subℕ, _+ℤ_, _-ℤ_, sucℤ, predℤ, pred-suc, sucℤ-+ℤ, -ℤ-one}
 use lib.Signed.{mag}
 use lib.Dec.{T, ltb, leb→le, ltb→lt, nltb→le, eqb→eq}
@@ -78,3 +79,11 @@ unfolding inDomain isZero
 rounded nan d = absurd d
 rounded (inf s) d = absurd d
 rounded (fin s m e) d = rounded-fin s m e (leb→le (m * up e) (2147483648 * down e) d) (eqb→eq m 0)
+
+-- ---- the test that both functions begin with
+pub inside : (x : Float) (b : Bool) → b ≡ inDomain x → not b ≡ false → T (inDomain x)
+inside x true e h = subst T e tt
+inside x false e h = absurd (true≢false h)
+
+pub outside : (x : Float) (b : Bool) → b ≡ inDomain x → not b ≡ true → inDomain x ≡ false
+outside x b e h = sym e ∙ not-true b h

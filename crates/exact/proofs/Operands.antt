@@ -103,9 +103,9 @@ le-order a b = go (ltb a b) (eqb a b) (ltb b a) (ltb→lt a b) (eqb→eq a b) (l
 le-apart : (a b : ℕ) → (eqb a b && eqb a 0) ≡ not (ltb 0 (b + a))
 le-apart a b = same-test (eqb a b && eqb a 0) (not (ltb 0 (b + a)))
     (λ t. let x = eqb→eq a b (and-l (eqb a b) (eqb a 0) t) in let y = eqb→eq a 0 (and-r (eqb a b) (eqb a 0) t) in
-        not-T (ltb 0 (b + a)) (λ h. let z = ltb→lt 0 (b + a) h in omega arith))
+    not-T (ltb 0 (b + a)) (λ h. let z = ltb→lt 0 (b + a) h in omega arith))
     (λ t. let z = nltb→le 0 (b + a) t in
-        and-i (eqb a b) (eqb a 0) (equal a b (omega arith)) (equal a 0 (omega arith)))
+    and-i (eqb a b) (eqb a 0) (equal a b (omega arith)) (equal a 0 (omega arith)))
 
 either : (u : Bool) → (u || not u) ≡ true
 either true = refl

@@ -42,6 +42,7 @@ drop-low p l a c P C lo hi = all-low (size (a * 2 ^ l / c)) p l P (size-le (a * 
   where
     lo' : 2 ^ (p - 1 + l) * c ≤ a * 2 ^ l
     lo' = le-trans (le-of-eq (ap (λ (x : ℕ). x * c) (pow-add 2 (p - 1) l) ∙ mul-right-comm (2 ^ (p - 1)) (2 ^ l) c)) (mul-le-mul-right (2 ^ l) lo)
+
     hi' : a * 2 ^ l < 2 ^ (p + l) * c
     hi' = lt-of-lt-of-le (mul-lt-mul-of-pos-right hi (pow-pos l)) (le-of-eq (mul-right-comm (2 ^ p) c (2 ^ l) ∙ ap (λ (x : ℕ). x * c) (sym (pow-add 2 p l))))
 

@@ -34,8 +34,10 @@ sub-split n k = go (ltb n k) (ltb→lt n k) (nltb→le n k)
   where
     up-by : (n k : ℕ) → k ≤ n → n ≡ k + (n - k)
     up-by n k h = omega arith
+
     down-by : (n k : ℕ) → n < k → k ≡ n + suc (k - suc n)
     down-by n k h = omega arith
+
     go : (u : Bool) → (T u → n < k) → (T (not u) → k ≤ n)
         → ((j : ℕ) × (n ≡ k + j) × (cond u (negsuc (k - suc n)) (pos (n - k)) ≡ pos j)) ⊎ ((j : ℕ) × (k ≡ n + suc j) × (cond u (negsuc (k - suc n)) (pos (n - k)) ≡ negsuc j))
     go true h g = inr (k - suc n, down-by n k (h tt), refl)
@@ -53,6 +55,7 @@ floor-up true a c k (suc j) w e C A lo hi = absurd (no-more (j * c) a c (k * c) 
   where
     spread : (k j c : ℕ) → (k + suc j) * c ≡ k * c + j * c + c
     spread k j c = omega arith
+
     no-more : (u a c v w : ℕ) → 0 < c → w ≤ v - a → w ≡ v + u + c → ⊥
     no-more u a c v w C h e = omega arith
 

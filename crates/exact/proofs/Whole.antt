@@ -8,7 +8,7 @@ use native.Mathlib.Omega.{arith}
 use mathlib.Core.Bool.{Bool, true, false, not, _&&_, cond, Bool·beq}
 use lib.IntN.{ℤ, pos, negsuc, negℤ, natAbs, subℕ, _+ℤ_, _-ℤ_, +ℤ-idr}
 use lib.Signed.{mag}
-use lib.Dec.{T, ltb, leb, ltb→lt, lt→ltb, nltb→le, leb→le, lit≤, lit<}
+use lib.Dec.{T, ltb, leb, ltb→lt, lt→ltb, nltb→le, leb→le, le→leb, lit<}
 use lib.Pow.{pow-add, pow-pos, pow-mono, pow-lt}
 use lib.Ieee.{Float, nan, inf, fin, Format, binary32, binary64, prec, emax, low, up, down, size, units, round, sum, add, sub, neg, below, lt, ofInt, inFloat, inSigned, toSigned}
 use lib.Ieee.Digits.{size-lt, size-le}
@@ -66,6 +66,11 @@ round-to-whole f s a c C lo hi =
 abbrev pub negative : ℤ → Bool
 negative (pos n) = false
 negative (negsuc n) = true
+
+pub counted : (f : Format) (z : ℤ) → natAbs z ≤ 2 ^ prec f → T (inFloat f z)
+unfolding inFloat
+counted f (pos n) h = le→leb n (2 ^ prec f) h
+counted f (negsuc n) h = lt→ltb n (2 ^ prec f) h
 
 pub ofInt-value : (f : Format) (z : ℤ) → T (inFloat f z) → HasValue (ofInt f z) (negative z) (natAbs z) 1
 unfolding inFloat ofInt

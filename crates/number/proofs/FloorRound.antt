@@ -2,12 +2,11 @@
 -- so it rounds to a whole number n, next to the shifted value, and the difference of two whole numbers is exact. Assumes nothing.
 use mathlib.Core.Path.{_≡_, refl, sym, ap, _∙_, subst}
 use Prim.Native.Nat.{ℕ, zero, suc, _+_, _-_, _*_, _/_, _%_, _^_, _≤_, _<_, compare}
-use native.Mathlib.Nat.{add-comm, le-trans, lt-of-le-of-lt, zero-lt-suc, mul-one, div-lt-iff-lt-mul, le-div-iff-mul-le}
+use native.Mathlib.Nat.{add-comm, le-refl, le-trans, le-of-lt, lt-of-le-of-lt, div-mul-le-self, zero-lt-suc, mul-one, div-lt-iff-lt-mul, le-div-iff-mul-le}
 use native.Mathlib.Omega.{arith}
 use mathlib.Core.Bool.{Bool, true, false, not, cond}
 use lib.IntN.{ℤ, pos, negsuc, negℤ, natAbs, subℕ, _-ℤ_}
 use mathlib.Core.Logic.{inl, inr}
-use lib.Signed.{mag}
 use lib.Dec.{T, ltb, ltb→lt, lt→ltb, le→leb, nltb→le, lit≤, lit<}
 use lib.Ieee.{Float, fin, binary64, prec, round, sum, below, lt, ofBits, ofInt, inFloat}
 use lib.Ieee.Fits.{round-fits, ofInt-fits, nearest-le}
@@ -17,8 +16,8 @@ use lib.Ieee.Back.{whole-unique}
 use Rattle.exact.specs.Double.{_⊕_, _⊖_}
 use Rattle.exact.proofs.Value.{rescale}
 use Rattle.exact.proofs.Operands.{same-test, add-values, lt-values}
-use Rattle.exact.proofs.Whole.{negative, round-to-whole, ofInt-value, ofInt-sub}
-use Rattle.number.proofs.FloorNear.{shift, sub-split, below-shift}
+use Rattle.exact.proofs.Whole.{negative, round-to-whole, counted, ofInt-value, ofInt-sub}
+use Rattle.number.proofs.FloorNear.{shift, floorOf, floor-shift, sub-split, below-shift}
 
 -- 1.5 * 2 ^ 52, as a number and as the code's constant
 abbrev pub K : ℕ
@@ -51,34 +50,28 @@ shift-hi : (s : Bool) (a c : ℕ) → 0 < c → a ≤ 2147483648 * c → shift s
 shift-hi false a c P A = omega arith
 shift-hi true a c P A = omega arith
 
-closest-le : (a c b : ℕ) → 0 < c → a < b * c → closest a c ≤ b
-closest-le a c b P h = le-trans (nearest-le (a / c) (compare (a % c * 2) c)) (div-lt-iff-lt-mul P .1 h)
-
-counted : (n : ℕ) → n ≤ 9007199254740992 → T (inFloat binary64 (pos n))
-unfolding inFloat
-counted n h = le→leb n (2 ^ 53) h
-
-closest-ge : (a c b : ℕ) → 0 < c → b * c ≤ a → b ≤ closest a c
-closest-ge a c b P h = le-trans (le-div-iff-mul-le P .1 h) (nearest-ge (a / c) (compare (a % c * 2) c))
-
--- an integer that is less than 2 ^ 52 away from 0
-small : (n : ℕ) → 4503599627370496 ≤ n → n ≤ 9007199254740992 → mag (subℕ n K) ≤ 2251799813685248
+-- n - K is at most 2 ^ 51 either way
+small : (n : ℕ) → 4503599627370496 ≤ n → n ≤ 9007199254740992 → natAbs (subℕ n K) ≤ 2251799813685248
 small n lo hi = elim (sub-split n K) [
-  | inl (j, e, z) ↦ subst (λ (i : ℤ). mag i ≤ 2251799813685248) (sym z) (omega arith)
-  | inr (j, e, z) ↦ subst (λ (i : ℤ). mag i ≤ 2251799813685248) (sym z) (omega arith)
+  | inl (j, e, z) ↦ subst (λ (i : ℤ). natAbs i ≤ 2251799813685248) (sym z) (omega arith)
+  | inr (j, e, z) ↦ subst (λ (i : ℤ). natAbs i ≤ 2251799813685248) (sym z) (omega arith)
 ]
 
-pub in-float : (z : ℤ) → mag z ≤ 2251799813685248 → T (inFloat binary64 z)
-unfolding inFloat
-in-float (pos n) h = le→leb n (2 ^ 53) (le-trans h (lit≤ tt))
-in-float (negsuc n) h = lt→ltb n (2 ^ 53) (lt-of-le-of-lt h (lit< tt))
+pub counts : (z : ℤ) → natAbs z ≤ 2251799813685248 → T (inFloat binary64 z)
+counts z h = counted binary64 z (le-trans h (lit≤ tt))
 
 module _ (x : Float) (s : Bool) (a c : ℕ) (P : 0 < c) (A : a ≤ 2147483648 * c) (v : HasValue x s a c) where
+  quotient-lo : 4503599627370496 ≤ shift s a c K / c
+  quotient-lo = le-div-iff-mul-le P .1 (shift-lo s a c P A)
+
+  quotient-hi : shift s a c K / c < 9007199254740992
+  quotient-hi = div-lt-iff-lt-mul P .1 (shift-hi s a c P A)
+
   near-lo : 4503599627370496 ≤ closest (shift s a c K) c
-  near-lo = closest-ge (shift s a c K) c 4503599627370496 P (shift-lo s a c P A)
+  near-lo = le-trans quotient-lo (nearest-ge (shift s a c K / c) (compare (shift s a c K % c * 2) c))
 
   near-hi : closest (shift s a c K) c ≤ 9007199254740992
-  near-hi = closest-le (shift s a c K) c 9007199254740992 P (shift-hi s a c P A)
+  near-hi = le-trans (nearest-le (shift s a c K / c) (compare (shift s a c K % c * 2) c)) quotient-hi
 
   sum-is : x ⊕ C ≡ ofInt binary64 (pos (closest (shift s a c K) c))
   sum-is =
@@ -87,22 +80,26 @@ module _ (x : Float) (s : Bool) (a c : ℕ) (P : 0 < c) (A : a ≤ 2147483648 * 
       ∙ whole-unique binary64 (round binary64 false (shift s a c K) c) (ofInt binary64 (pos (closest (shift s a c K) c))) false (closest (shift s a c K) c)
       (round-fits binary64 false (shift s a c K) c) (ofInt-fits binary64 (pos (closest (shift s a c K) c)))
       (round-to-whole binary64 false (shift s a c K) c P (shift-lo s a c P A) (shift-hi s a c P A))
-      (ofInt-value binary64 (pos (closest (shift s a c K) c)) (counted (closest (shift s a c K) c) near-hi))
+      (ofInt-value binary64 (pos (closest (shift s a c K) c)) (counted binary64 (pos (closest (shift s a c K) c)) near-hi))
 
   pub near-is : x ⊕ C ⊖ C ≡ ofInt binary64 (subℕ (closest (shift s a c K) c) K)
   near-is =
       (λ i. sum-is i ⊖ C-is i)
-      ∙ ofInt-sub binary64 (pos (closest (shift s a c K) c)) (pos K) (counted (closest (shift s a c K) c) near-hi) (counted K (lit≤ tt))
+      ∙ ofInt-sub binary64 (pos (closest (shift s a c K) c)) (pos K) (counted binary64 (pos (closest (shift s a c K) c)) near-hi) (counted binary64 (pos K) (lit≤ tt))
 
-  pub near-small : mag (subℕ (closest (shift s a c K) c) K) ≤ 2251799813685248
+  pub near-small : natAbs (subℕ (closest (shift s a c K) c) K) ≤ 2251799813685248
   near-small = small (closest (shift s a c K) c) near-lo near-hi
 
-  -- x is below it where the shifted value is
-  pub near-lt : lt x (x ⊕ C ⊖ C) ≡ ltb (shift s a c K) (closest (shift s a c K) c * c)
-  near-lt =
-      let n = closest (shift s a c K) c in
+  pub quotient-small : natAbs (subℕ (shift s a c K / c) K) ≤ 2251799813685248
+  quotient-small = small (shift s a c K / c) quotient-lo (le-of-lt quotient-hi)
+
+  pub floor-is : floorOf s a c ≡ subℕ (shift s a c K / c) K
+  floor-is = floor-shift s a c K (shift s a c K / c) P (omega arith) (div-mul-le-self (shift s a c K) c) (div-lt-iff-lt-mul P .0 (le-refl (suc (shift s a c K / c))))
+
+  -- x is below a whole number where the shifted value is below the shifted number
+  pub lt-whole : (n : ℕ) → natAbs (subℕ n K) ≤ 2251799813685248 → lt x (ofInt binary64 (subℕ n K)) ≡ ltb (shift s a c K) (n * c)
+  lt-whole n h =
       let z : ℤ = subℕ n K in
-      ap (lt x) near-is
-      ∙ lt-values x (ofInt binary64 z) s (negative z) a (natAbs z * c) c P v
-      (rescale (ofInt binary64 z) (negative z) (natAbs z) 1 (natAbs z * c) c (zero-lt-suc 0) (sym (mul-one (natAbs z * c))) (ofInt-value binary64 z (in-float z near-small)))
+      lt-values x (ofInt binary64 z) s (negative z) a (natAbs z * c) c P v
+      (rescale (ofInt binary64 z) (negative z) (natAbs z) 1 (natAbs z * c) c (zero-lt-suc 0) (sym (mul-one (natAbs z * c))) (ofInt-value binary64 z (counts z h)))
       ∙ below-shift s a c K n (omega arith) P

@@ -2,3 +2,4 @@
 pub mod FloorNear
 pub mod FloorRound
 pub mod FloorCode
+pub mod FloorLaws

@@ -1,7 +1,8 @@
 // Floor, toward minus infinity: -0.25 gives -1. The domain is the finite x of magnitude at most 2^31; outside it the
 // answer is i64::MIN, or NaN. Assumes nothing of x.
 ghost use mathlib.Core.Path.{_≡_};
-ghost use lib.Ieee.{ofBits, binary64};
+ghost use mathlib.Core.Bool.{cond};
+ghost use lib.Ieee.{ofBits, binary64, lt};
 ghost use Rattle.exact.specs.Double.{_⊕_, _⊖_};
 ghost use Rattle.number.specs.Floor.{inDomain, floorI64, floorF64};
 
@@ -19,6 +20,13 @@ fn whole_near(x: f64) -> f64
     x + 6755399441055744.0 - 6755399441055744.0
 }
 
+// Whether x is below r, as the number to take from r. A choice of two constants needs no jump.
+fn excess(x: f64, r: f64) -> f64
+    ensures { λ d. ⌜ d ≡ cond (lt x r) (ofBits binary64 0x3ff0_0000_0000_0000) (ofBits binary64 0) ⌝ }
+{
+    if x < r { 1.0 } else { 0.0 }
+}
+
 pub fn floor_i64(x: f64) -> i64
     ensures { λ r. ⌜ r ≡ floorI64 x ⌝ }
 {
@@ -26,14 +34,10 @@ pub fn floor_i64(x: f64) -> i64
         return i64::MIN;
     }
     let r = whole_near(x);
-    let n = r as i64;
-    if x < r {
-        return n - 1;
-    }
-    n
+    (r as i64) - ((x < r) as i64)
 }
 
-// The sign of a zero is kept, as `f64::floor` of Rust has it.
+// The last choice is x only where the two are equal: it keeps the sign of a zero, as `f64::floor` of Rust does.
 pub fn floor(x: f64) -> f64
     ensures { λ r. ⌜ r ≡ floorF64 x ⌝ }
 {
@@ -41,11 +45,9 @@ pub fn floor(x: f64) -> f64
         return 0.0 / 0.0;
     }
     let r = whole_near(x);
-    if x < r {
-        return r - 1.0;
-    }
-    if r < x {
-        return r;
+    let f = r - excess(x, r);
+    if f < x {
+        return f;
     }
     x
 }

@@ -15,42 +15,40 @@ use Rattle.exact.proofs.Value.{rescale}
 use Rattle.exact.proofs.Operands.{lt-values, not-apart}
 use Rattle.exact.proofs.Whole.{negative, ofInt-value, ofInt-sub}
 use Rattle.number.specs.Floor.{inDomain, isZero, floorℤ, floorF64}
-use Rattle.number.proofs.FloorRound.{C, in-float}
+use Rattle.number.proofs.FloorRound.{C, counts}
 use Rattle.number.proofs.FloorCode.{Rounded, rounded, inside, outside}
+use Rattle.number.proofs.FloorLaws.{floor-none, floor-counted, floor-zero, floor-float, floor-float-out}
 use Rattle.number.proofs.floor.floor.Statement.{statement}
 use Rattle.number.proofs.floor.floor.Tie as tie
 
--- ---- the definition, at its three answers
-out : (x : Float) → inDomain x ≡ false → div binary64 (ofBits binary64 0) (ofBits binary64 0) ≡ floorF64 x
-unfolding floorF64 div ofBits
-out x e = ap (λ (b : Bool). cond b (cond (isZero x) x (ofInt binary64 (floorℤ x))) nan) (sym e)
-
 at : (x y : Float) → T (inDomain x) → (T (isZero x) → y ≡ x) → (T (not (isZero x)) → y ≡ ofInt binary64 (floorℤ x)) → y ≡ floorF64 x
-unfolding floorF64
-at x y d z n = go (inDomain x) d (isZero x) z n
+at x y d z n = go (isZero x) z n (floor-zero x d) (floor-float x d)
   where
-    go : (b : Bool) → T b → (u : Bool) → (T u → y ≡ x) → (T (not u) → y ≡ ofInt binary64 (floorℤ x)) → y ≡ cond b (cond u x (ofInt binary64 (floorℤ x))) nan
-    go true t true z n = z tt
-    go true t false z n = n tt
-    go false t u z n = absurd t
+    go : (u : Bool) → (T u → y ≡ x) → (T (not u) → y ≡ ofInt binary64 (floorℤ x)) → (T u → floorF64 x ≡ x) → (T (not u) → floorF64 x ≡ ofInt binary64 (floorℤ x)) → y ≡ floorF64 x
+    go true z n f g = z tt ∙ sym (f tt)
+    go false z n f g = n tt ∙ sym (g tt)
 
--- ---- a zero is level with 0
-level : (x : Float) → T (isZero x) → (lt x (ofInt binary64 (pos 0)) ≡ false) × (lt (ofInt binary64 (pos 0)) x ≡ false)
+quiet : div binary64 (ofBits binary64 0) (ofBits binary64 0) ≡ nan
+unfolding div ofBits
+quiet = refl
+
+-- ---- a zero's floor is 0, and is not below it
+right : (s : Bool) → below false 0 s 0 ≡ false
+right true = refl
+right false = refl
+
+level : (s : Bool) (m : ℕ) (e : ℤ) → m ≡ 0 → lt (ofInt binary64 (pos 0)) (fin s m e) ≡ false
+level s m e z =
+    lt-values (ofInt binary64 (pos 0)) (fin s m e) false s 0 0 1 (zero-lt-suc 0) (ofInt-value binary64 (pos 0) (counts (pos 0) (lit≤ tt)))
+    (refl, ap (λ (n : ℕ). n * up e * 1) z ∙ ap (λ (n : ℕ). n * 1) (zero-mul (up e)) ∙ sym (zero-mul (down e)))
+    ∙ right s
+
+-- ---- a zero is not above 0, which is its floor
+zero-floor : (x : Float) → T (isZero x) → (floorℤ x ≡ pos 0) × (lt (ofInt binary64 (pos 0)) x ≡ false)
 unfolding isZero
-level nan z = absurd z
-level (inf s) z = absurd z
-level (fin s m e) z =
-    let v : HasValue (fin s m e) s 0 1 = (refl, ap (λ (n : ℕ). n * up e * 1) (eqb→eq m 0 z) ∙ ap (λ (n : ℕ). n * 1) (zero-mul (up e)) ∙ sym (zero-mul (down e))) in
-    let w = ofInt-value binary64 (pos 0) (in-float (pos 0) (lit≤ tt)) in
-    (lt-values (fin s m e) (ofInt binary64 (pos 0)) s false 0 0 1 (zero-lt-suc 0) v w ∙ left s, lt-values (ofInt binary64 (pos 0)) (fin s m e) false s 0 0 1 (zero-lt-suc 0) w v ∙ right s)
-  where
-    left : (s : Bool) → below s 0 false 0 ≡ false
-    left true = refl
-    left false = refl
-
-    right : (s : Bool) → below false 0 s 0 ≡ false
-    right true = refl
-    right false = refl
+zero-floor nan z = absurd z
+zero-floor (inf s) z = absurd z
+zero-floor (fin s m e) z = (floor-none s m e z, level s m e (eqb→eq m 0 z))
 
 -- ---- what is no zero, and neither below nor above a whole number, is that number
 alike : (x : Float) (z : ℤ) → T (inFloat binary64 z) → T (fits binary64 x) → T (inDomain x) → T (not (isZero x)) → T (not (lt x (ofInt binary64 z))) → T (not (lt (ofInt binary64 z) x)) → x ≡ ofInt binary64 z
@@ -63,69 +61,55 @@ alike (fin s (suc m) e) z f p d n h g =
     (rescale (ofInt binary64 z) (negative z) (natAbs z) 1 (natAbs z * down e) (down e) (zero-lt-suc 0) (sym (mul-one (natAbs z * down e))) (ofInt-value binary64 z f))
     h g
 
-one-is : ofBits binary64 0x3ff0_0000_0000_0000 ≡ ofInt binary64 (pos 1)
+-- ---- what is taken from r
+excess-is : (b : Bool) → cond b (ofBits binary64 0x3ff0_0000_0000_0000) (ofBits binary64 0) ≡ ofInt binary64 (cond b (pos 1) (pos 0))
 unfolding ofBits ofInt
-one-is = refl
+excess-is true = refl
+excess-is false = refl
 
-module _ (x r : Float) (e : r ≡ x ⊕ C ⊖ C) (d : T (inDomain x)) where
-  r-is : r ≡ ofInt binary64 (rounded x d .z)
-  r-is = e ∙ rounded x d .is
+counted : (b : Bool) → T (inFloat binary64 (cond b (pos 1) (pos 0)))
+counted true = counts (pos 1) (lit≤ tt)
+counted false = counts (pos 0) (lit≤ tt)
 
-  r-zero : T (isZero x) → r ≡ ofInt binary64 (pos 0)
-  r-zero t = r-is ∙ ap (ofInt binary64) (rounded x d .none t)
+module _ (x r q : Float) (e : r ≡ x ⊕ C ⊖ C) (g : q ≡ cond (lt x r) (ofBits binary64 0x3ff0_0000_0000_0000) (ofBits binary64 0)) (d : T (inDomain x)) where
+  difference : r ⊖ q ≡ ofInt binary64 (floorℤ x)
+  difference =
+      (λ i. (e ∙ rounded x d .is) i ⊖ (g ∙ ap (λ (y : Float). cond (lt x y) (ofBits binary64 0x3ff0_0000_0000_0000) (ofBits binary64 0)) e ∙ excess-is (lt x (x ⊕ C ⊖ C))) i)
+      ∙ ofInt-sub binary64 (rounded x d .z) (cond (lt x (x ⊕ C ⊖ C)) (pos 1) (pos 0)) (counts (rounded x d .z) (rounded x d .small)) (counted (lt x (x ⊕ C ⊖ C)))
+      ∙ ap (ofInt binary64) (rounded x d .fall)
 
-  not-zero-above : lt x r ≡ true → T (isZero x) → ⊥
-  not-zero-above h t = true≢false (sym h ∙ ap (lt x) (r-zero t) ∙ level x t .0)
+  taken : lt (r ⊖ q) x ≡ true → r ⊖ q ≡ floorF64 x
+  taken h = at x (r ⊖ q) d (λ t. absurd (true≢false (sym h ∙ ap (λ (y : Float). lt y x) (difference ∙ ap (ofInt binary64) (zero-floor x t .0)) ∙ zero-floor x t .1))) (λ t. difference)
 
-  not-zero-below : lt r x ≡ true → T (isZero x) → ⊥
-  not-zero-below h t = true≢false (sym h ∙ ap (λ (y : Float). lt y x) (r-zero t) ∙ level x t .1)
-
-  less : lt x r ≡ true → r ⊖ ofBits binary64 0x3ff0_0000_0000_0000 ≡ floorF64 x
-  less h = at x (r ⊖ ofBits binary64 0x3ff0_0000_0000_0000) d (λ t. absurd (not-zero-above h t)) (λ t.
-      (λ i. r-is i ⊖ one-is i)
-      ∙ ofInt-sub binary64 (rounded x d .z) (pos 1) (in-float (rounded x d .z) (rounded x d .small)) (in-float (pos 1) (lit≤ tt))
-      ∙ ap (ofInt binary64) (rounded x d .above (subst (λ (y : Float). T (lt x y)) e (subst T (sym h) tt))))
-
-  same-z : lt x r ≡ false → r ≡ ofInt binary64 (floorℤ x)
-  same-z h = r-is ∙ ap (ofInt binary64) (rounded x d .right (subst (λ (y : Float). T (not (lt x y))) e (subst (λ (b : Bool). T (not b)) (sym h) tt)))
-
-  same : lt x r ≡ false → lt r x ≡ true → r ≡ floorF64 x
-  same h g = at x r d (λ t. absurd (not-zero-below g t)) (λ t. same-z h)
-
-  own : T (fits binary64 x) → lt x r ≡ false → lt r x ≡ false → x ≡ floorF64 x
-  own p h g = at x x d (λ t. refl) (λ t.
-      alike x (rounded x d .z) (in-float (rounded x d .z) (rounded x d .small)) p d t
-      (subst (λ (y : Float). T (not (lt x y))) r-is (subst (λ (b : Bool). T (not b)) (sym h) tt))
-      (subst (λ (y : Float). T (not (lt y x))) r-is (subst (λ (b : Bool). T (not b)) (sym g) tt))
-      ∙ sym r-is ∙ same-z h)
+  own : T (fits binary64 x) → lt (r ⊖ q) x ≡ false → x ≡ floorF64 x
+  own p h = at x x d (λ t. refl) (λ t.
+      alike x (floorℤ x) (floor-counted x d) p d t (rounded x d .under) (subst (λ (y : Float). T (not (lt y x))) difference (subst (λ (b : Bool). T (not b)) (sym h) tt)))
 
 in-domain-requires : tie.Need-in-domain-requires
 in-domain-requires c κs = search needs
 
 returns : tie.Need-returns
-returns c = out (c .before .before .args .x) (outside (c .before .before .args .x) (c .before .in-domain .result) (c .before .in-domain .ensures) (c .if1 .taken))
+returns c = quiet ∙ sym (floor-float-out (c .before .before .args .x) (outside (c .before .before .args .x) (c .before .in-domain .result) (c .before .in-domain .ensures) (c .if1 .taken)))
 
 whole-near-requires : tie.Need-whole-near-requires
 whole-near-requires c κs = search needs
 
+excess-requires : tie.Need-excess-requires
+excess-requires c κs = search needs
+
 returns-2 : tie.Need-returns-2
 returns-2 c =
-    let w = c .before in
+    let w = c .before .before in
     let d = w .before .before in
-    less (d .before .args .x) (w .whole-near .result) (w .whole-near .ensures) (inside (d .before .args .x) (d .in-domain .result) (d .in-domain .ensures) (w .before .if1 .left)) (c .if2 .taken)
+    taken (d .before .args .x) (w .whole-near .result) (c .before .excess .result) (w .whole-near .ensures) (c .before .excess .ensures)
+    (inside (d .before .args .x) (d .in-domain .result) (d .in-domain .ensures) (w .before .if1 .left)) (c .if2 .taken)
 
 returns-3 : tie.Need-returns-3
 returns-3 c =
     let w = c .before .before in
     let d = w .before .before in
-    same (d .before .args .x) (w .whole-near .result) (w .whole-near .ensures) (inside (d .before .args .x) (d .in-domain .result) (d .in-domain .ensures) (w .before .if1 .left)) (c .before .if2 .left) (c .if3 .taken)
-
-returns-4 : tie.Need-returns-4
-returns-4 c =
-    let w = c .before .before in
-    let d = w .before .before in
-    own (d .before .args .x) (w .whole-near .result) (w .whole-near .ensures) (inside (d .before .args .x) (d .in-domain .result) (d .in-domain .ensures) (w .before .if1 .left))
-    (subst T (sym (d .before .good .0 .1)) tt) (c .before .if2 .left) (c .if3 .left)
+    own (d .before .args .x) (w .whole-near .result) (c .before .excess .result) (w .whole-near .ensures) (c .before .excess .ensures)
+    (inside (d .before .args .x) (d .in-domain .result) (d .in-domain .ensures) (w .before .if1 .left)) (subst T (sym (d .before .good .0 .1)) tt) (c .if2 .left)
 
 pub floor-spec : {M : Type 1} → statement M
-floor-spec = tie.close (tie.spec in-domain-requires returns whole-near-requires returns-2 returns-3 returns-4)
+floor-spec = tie.close (tie.spec in-domain-requires returns whole-near-requires excess-requires returns-2 returns-3)

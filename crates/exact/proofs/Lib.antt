@@ -2,4 +2,6 @@
 pub mod Loop
 pub mod Value
 pub mod Whole
+pub mod Integer
 pub mod Operands
+pub mod Order

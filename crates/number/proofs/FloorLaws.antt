@@ -1,16 +1,14 @@
 -- What the floor is, for those who use it: where it stands beside x, its size, and its two answers. Each comes from the definition,
 -- by the division with remainder that it is. Assumes nothing.
-use mathlib.Core.Path.{_≡_, refl, sym, ap, _∙_, subst}
-use Prim.Native.Nat.{ℕ, zero, suc, _+_, _-_, _*_, _/_, _^_, _≤_, _<_}
-use native.Mathlib.Nat.{lt-irrefl, le-trans, div-eq-of-lt, le-div-iff-mul-le, le-of-suc-le-suc, div-mul-le-self, div-lt-iff-lt-mul, le-refl, zero-mul, mul-pos, zero-lt-suc}
+use mathlib.Core.Path.{_≡_, refl, sym, _∙_, subst}
+use Prim.Native.Nat.{ℕ, zero, suc, _+_, _-_, _*_, _/_, _≤_, _<_}
+use native.Mathlib.Nat.{le-of-suc-le-suc, div-mul-le-self, div-lt-iff-lt-mul, le-refl}
 use native.Mathlib.Omega.{arith}
 use mathlib.Core.Bool.{Bool, true, false, not, cond}
 use lib.IntN.{ℤ, pos, negsuc, negℤ, natAbs}
-use lib.Dec.{T, leb→le, eqb→eq, lit≤}
-use lib.Ieee.{Float, nan, inf, fin, binary64, up, down, ofInt, inFloat}
-use lib.Ieee.Fits.{up-pos, down-pos}
-use lib.Ieee.Exact.{HasValue}
-use Rattle.exact.proofs.Whole.{negative, counted, ofInt-value}
+use lib.Dec.{T, leb→le}
+use lib.Ieee.{Float, nan, inf, fin, binary64, up, down, ofBits, ofInt}
+use lib.Ieee.Fits.{down-pos}
 use Rattle.number.specs.Floor.{ceilDiv, floorℤ, inDomain, isZero, floorI64, floorF64}
 
 -- an integer is plus z - less z, and one of the two is 0
@@ -65,85 +63,40 @@ floor-size (fin true m e) d =
     subst (λ (q : ℕ). q ≤ 2147483648) (sym (abs-neg (ceilDiv (m * up e) (down e)))) (le-of-suc-le-suc (div-lt-iff-lt-mul (down-pos e) .1 (omega arith)))
 
 -- ---- the two answers, in the domain and outside it
-pub floor-integer : (x : Float) → T (inDomain x) → floorI64 x ≡ floorℤ x
-unfolding floorI64
-floor-integer x d = go (inDomain x) d
-  where
-    go : (b : Bool) → T b → cond b (floorℤ x) (negsuc 9223372036854775807) ≡ floorℤ x
-    go true t = refl
-    go false t = absurd t
+yes-of : {A : Type 0} (b : Bool) (x y : A) → T b → cond b x y ≡ x
+yes-of true x y t = refl
+yes-of false x y t = absurd t
 
-pub floor-integer-out : (x : Float) → inDomain x ≡ false → floorI64 x ≡ negsuc 9223372036854775807
-unfolding floorI64
-floor-integer-out x e = ap (λ (b : Bool). cond b (floorℤ x) (negsuc 9223372036854775807)) e
+no-of : {A : Type 0} (b : Bool) (x y : A) → T (not b) → cond b x y ≡ y
+no-of true x y t = absurd t
+no-of false x y t = refl
 
-pub floor-float : (x : Float) → T (inDomain x) → T (not (isZero x)) → floorF64 x ≡ ofInt binary64 (floorℤ x)
-unfolding floorF64
-floor-float x d n = go (inDomain x) (isZero x) d n
-  where
-    go : (b u : Bool) → T b → T (not u) → cond b (cond u x (ofInt binary64 (floorℤ x))) nan ≡ ofInt binary64 (floorℤ x)
-    go true true t n = absurd n
-    go true false t n = refl
-    go false u t n = absurd t
+module _ (x : Float) where
+  pub floor-integer : T (inDomain x) → floorI64 x ≡ floorℤ x
+  unfolding floorI64
+  floor-integer d = yes-of (inDomain x) (floorℤ x) (negsuc 9223372036854775807) d
 
-pub floor-zero : (x : Float) → T (inDomain x) → T (isZero x) → floorF64 x ≡ x
-unfolding floorF64
-floor-zero x d z = go (inDomain x) (isZero x) d z
-  where
-    go : (b u : Bool) → T b → T u → cond b (cond u x (ofInt binary64 (floorℤ x))) nan ≡ x
-    go true true t n = refl
-    go true false t n = absurd n
-    go false u t n = absurd t
+  pub floor-integer-out : T (not (inDomain x)) → floorI64 x ≡ negsuc 9223372036854775807
+  unfolding floorI64
+  floor-integer-out d = no-of (inDomain x) (floorℤ x) (negsuc 9223372036854775807) d
 
-pub floor-float-out : (x : Float) → inDomain x ≡ false → floorF64 x ≡ nan
-unfolding floorF64
-floor-float-out x e = ap (λ (b : Bool). cond b (cond (isZero x) x (ofInt binary64 (floorℤ x))) nan) e
+  pub floor-float : T (inDomain x) → T (not (isZero x)) → floorF64 x ≡ ofInt binary64 (floorℤ x)
+  unfolding floorF64
+  floor-float d n = yes-of (inDomain x) (cond (isZero x) x (ofInt binary64 (floorℤ x))) nan d ∙ no-of (isZero x) x (ofInt binary64 (floorℤ x)) n
 
-pub floor-counted : (x : Float) → T (inDomain x) → T (inFloat binary64 (floorℤ x))
-floor-counted x d = counted binary64 (floorℤ x) (le-trans (floor-size x d) (lit≤ tt))
+  pub floor-zero : T (inDomain x) → T (isZero x) → floorF64 x ≡ x
+  unfolding floorF64
+  floor-zero d z = yes-of (inDomain x) (cond (isZero x) x (ofInt binary64 (floorℤ x))) nan d ∙ yes-of (isZero x) x (ofInt binary64 (floorℤ x)) z
 
--- ---- a zero's floor is 0
-no-digits : (m : ℕ) (e : ℤ) → m ≡ 0 → m * up e ≡ 0
-no-digits m e z = ap (λ (n : ℕ). n * up e) z ∙ zero-mul (up e)
+  pub floor-float-out : T (not (inDomain x)) → floorF64 x ≡ nan
+  unfolding floorF64
+  floor-float-out d = no-of (inDomain x) (cond (isZero x) x (ofInt binary64 (floorℤ x))) nan d
 
-small-quotient : (a c : ℕ) → a ≡ 0 → 0 < c → (a / c ≡ 0) × (ceilDiv a c ≡ 0)
-small-quotient a c z p =
-    let h : a < c = omega arith in
-    let g : a + (c - 1) < c = omega arith in
-    (div-eq-of-lt h, div-eq-of-lt g)
+-- ---- -0.25 gives -1, and -0 stays -0
+quarter : floorI64 (ofBits binary64 0xbfd0_0000_0000_0000) ≡ negsuc 0
+unfolding floorI64 floorℤ inDomain ofBits
+quarter = refl
 
-pub floor-none : (s : Bool) (m : ℕ) (e : ℤ) → T (isZero (fin s m e)) → floorℤ (fin s m e) ≡ pos 0
-unfolding floorℤ isZero
-floor-none false m e z = ap pos (small-quotient (m * up e) (down e) (no-digits m e (eqb→eq m 0 z)) (down-pos e) .0)
-floor-none true m e z = ap (λ (q : ℕ). negℤ (pos q)) (small-quotient (m * up e) (down e) (no-digits m e (eqb→eq m 0 z)) (down-pos e) .1)
-
--- ---- the float has the sign of x, and the value of the whole number
-sign-neg : (q : ℕ) → 0 < q → negative (negℤ (pos q)) ≡ true
-sign-neg zero h = absurd (lt-irrefl 0 h)
-sign-neg (suc q) h = refl
-
-floor-sign : (s : Bool) (m : ℕ) (e : ℤ) → T (not (isZero (fin s m e))) → negative (floorℤ (fin s m e)) ≡ s
-unfolding floorℤ isZero
-floor-sign false m e n = refl
-floor-sign true zero e n = absurd n
-floor-sign true (suc m) e n =
-    let h : 0 < suc m * up e = mul-pos (zero-lt-suc m) (up-pos e) in
-    let p = down-pos e in
-    sign-neg (ceilDiv (suc m * up e) (down e)) (le-div-iff-mul-le (down-pos e) .1 (omega arith))
-
-pub floor-value : (s : Bool) (m : ℕ) (e : ℤ) → T (inDomain (fin s m e)) → HasValue (floorF64 (fin s m e)) s (natAbs (floorℤ (fin s m e))) 1
-floor-value s m e d = go (isZero (fin s m e)) (floor-zero (fin s m e) d) (floor-none s m e) (digits s m e) (floor-float (fin s m e) d) (floor-sign s m e)
-  where
-    x : Float
-    x = fin s m e
-
-    digits : (s : Bool) (m : ℕ) (e : ℤ) → T (isZero (fin s m e)) → m ≡ 0
-    digits s m e z = unfold isZero in eqb→eq m 0 z
-
-    go : (b : Bool) → (T b → floorF64 x ≡ x) → (T b → floorℤ x ≡ pos 0) → (T b → m ≡ 0) → (T (not b) → floorF64 x ≡ ofInt binary64 (floorℤ x)) → (T (not b) → negative (floorℤ x) ≡ s) → HasValue (floorF64 x) s (natAbs (floorℤ x)) 1
-    go true a b c f g =
-        subst (λ (y : Float). HasValue y s (natAbs (floorℤ x)) 1) (sym (a tt))
-        (subst (λ (z : ℤ). HasValue x s (natAbs z) 1) (sym (b tt)) (refl, ap (λ (n : ℕ). n * 1) (no-digits m e (c tt)) ∙ sym (zero-mul (down e))))
-    go false a b c f g =
-        subst (λ (y : Float). HasValue y s (natAbs (floorℤ x)) 1) (sym (f tt))
-        (subst (λ (t : Bool). HasValue (ofInt binary64 (floorℤ x)) t (natAbs (floorℤ x)) 1) (g tt) (ofInt-value binary64 (floorℤ x) (floor-counted x d)))
+minus-zero : floorF64 (ofBits binary64 0x8000_0000_0000_0000) ≡ ofBits binary64 0x8000_0000_0000_0000
+unfolding floorF64 floorℤ inDomain isZero ofBits
+minus-zero = refl

@@ -1,19 +1,16 @@
--- A value ±a / c is kept as the natural fraction `shift s a c k` / c, which is k more. So the floor is a division, k less; a whole
--- number n is below the value where n * c is below the shifted numerator; and the sum with k, rounded, is one of the two whole
--- numbers around. Assumes nothing.
-use mathlib.Core.Path.{_≡_, refl, sym, ap, _∙_, subst}
+-- Signs without cases: the value ±a / c is k less than the fraction `shift s a c k` / c of naturals. So its floor is a quotient of
+-- naturals less k, and a whole number n - k is above it where n * c is above the shifted numerator. Assumes nothing.
+use mathlib.Core.Path.{_≡_, refl, sym, ap, _∙_}
 use mathlib.Core.Logic.{_⊎_, inl, inr}
-use Prim.Native.Nat.{ℕ, zero, suc, _+_, _-_, _*_, _/_, _%_, _^_, _≤_, _<_, compare}
+use Prim.Native.Nat.{ℕ, zero, suc, _+_, _-_, _*_, _/_, _≤_, _<_}
 use native.Mathlib.Nat.{le-antisymm, le-of-suc-le-suc, le-div-iff-mul-le, div-lt-iff-lt-mul}
 use native.Mathlib.Omega.{arith}
 use mathlib.Core.Bool.{Bool, true, false, not, cond}
-use lib.IntN.{ℤ, pos, negsuc, negℤ, natAbs, subℕ, _-ℤ_}
+use lib.IntN.{ℤ, pos, negsuc, negℤ, natAbs, subℕ}
 use lib.Dec.{T, ltb, ltb→lt, lt→ltb, nltb→le}
-use lib.Ieee.{Float, fin, binary64, below, lt, ofBits, ofInt, inFloat}
-use lib.Ieee.Exact.{HasValue}
-use lib.Ieee.Nearest.{closest, closest-same}
+use lib.Ieee.{below}
 use Rattle.exact.proofs.Operands.{same-test}
-use Rattle.exact.proofs.Whole.{negative}
+use Rattle.exact.proofs.Integer.{negative}
 use Rattle.number.specs.Floor.{ceilDiv}
 
 -- ±a / c + k, over c
@@ -76,7 +73,7 @@ floor-shift s a c k w C A lo hi = elim (sub-split w k) [
   | inr (j, e, z) ↦ floor-down s a c k j w e C A lo hi ∙ sym z
 ]
 
--- ---- a whole number n - k compares with the value as n with the shifted value
+-- ---- the value is below the whole number n - k where the shifted value is below n
 below-split : (s : Bool) (a c k n : ℕ) (z : ℤ) → a ≤ k * c → 0 < c → ((j : ℕ) × (n ≡ k + j) × (z ≡ pos j)) ⊎ ((j : ℕ) × (k ≡ n + suc j) × (z ≡ negsuc j))
     → below s a (negative z) (natAbs z * c) ≡ ltb (shift s a c k) (n * c)
 below-split s a c k n z A C (inl (j, e, i)) = ap (λ (z : ℤ). below s a (negative z) (natAbs z * c)) i ∙ go s (ap (λ (z : ℕ). z * c) e)

@@ -1,5 +1,6 @@
 -- The laws, each file under its subject.
+pub mod FloorLaws
+pub mod FloorValue
 pub mod FloorNear
 pub mod FloorRound
 pub mod FloorCode
-pub mod FloorLaws

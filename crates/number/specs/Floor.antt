@@ -1,6 +1,6 @@
 -- Floor: the largest whole number that is not above x, for the finite x of magnitude at most 2^31, which are the domain.
 -- Outside it the whole number is i64::MIN and the float is NaN. Assumes nothing.
-use Prim.Native.Nat.{ℕ, suc, _+_, _-_, _*_, _/_, _^_}
+use Prim.Native.Nat.{ℕ, _+_, _-_, _*_, _/_, _^_}
 use mathlib.Core.Bool.{Bool, true, false, cond}
 use lib.Dec.{leb, eqb}
 use lib.IntN.{ℤ, pos, negsuc, negℤ}
@@ -28,10 +28,10 @@ isZero nan = false
 isZero (inf s) = false
 isZero (fin s m e) = eqb m 0
 
--- the floor as an i64
+-- the floor as an i64: -2^63, which is i64::MIN, outside the domain
 unfoldable pub floorI64 : Float → ℤ
 floorI64 x = cond (inDomain x) (floorℤ x) (negsuc (2 ^ 63 - 1))
 
--- the floor as an f64: a zero is its own floor, with its sign
+-- the floor as an f64: a zero is its own floor, with its sign. NaN outside the domain
 unfoldable pub floorF64 : Float → Float
 floorF64 x = cond (inDomain x) (cond (isZero x) x (ofInt binary64 (floorℤ x))) nan

@@ -1,26 +1,28 @@
--- `number::floor::floor` meets its contract: r is a whole number z, the floor or one above; r - 1 is exact; where neither of x and
--- r is below the other they are one float, but for zeros. A zero is never below its r nor above it. Assumes nothing.
+-- `number::floor::floor` meets its contract: r less the excess is the floor as a float, exactly, and x is not below it. Where it is
+-- not below x either, the two are one float, but for zeros; a zero is its own floor. Assumes nothing.
 use mathlib.Core.Path.{_≡_, refl, sym, ap, _∙_, subst}
-use Prim.Native.Nat.{ℕ, zero, suc, _*_, _<_}
+use Prim.Native.Nat.{ℕ, zero, suc, _*_}
 use native.Mathlib.Nat.{zero-lt-suc, mul-one, mul-pos, zero-mul}
 use mathlib.Core.Bool.{Bool, true, false, not, cond, true≢false}
 use borrow.Author.Needs.{needs}
-use lib.IntN.{ℤ, pos, natAbs, _-ℤ_}
-use lib.Dec.{T, eqb, eqb→eq, lit≤}
+use lib.IntN.{ℤ, pos, natAbs}
+use lib.Dec.{T, eqb→eq, lit≤}
 use lib.Ieee.{Float, nan, inf, fin, binary64, up, down, below, lt, fits, div, ofBits, ofInt, inFloat}
 use lib.Ieee.Fits.{up-pos, down-pos, ofInt-fits}
-use lib.Ieee.Exact.{HasValue}
 use Rattle.exact.specs.Double.{_⊕_, _⊖_}
 use Rattle.exact.proofs.Value.{rescale}
-use Rattle.exact.proofs.Operands.{lt-values, not-apart}
-use Rattle.exact.proofs.Whole.{negative, ofInt-value, ofInt-sub}
+use Rattle.exact.proofs.Operands.{lt-values}
+use Rattle.exact.proofs.Order.{not-apart}
+use Rattle.exact.proofs.Integer.{negative, ofInt-value, ofInt-sub}
 use Rattle.number.specs.Floor.{inDomain, isZero, floorℤ, floorF64}
 use Rattle.number.proofs.FloorRound.{C, counts}
-use Rattle.number.proofs.FloorCode.{Rounded, rounded, inside, outside}
-use Rattle.number.proofs.FloorLaws.{floor-none, floor-counted, floor-zero, floor-float, floor-float-out}
+use Rattle.number.proofs.FloorCode.{rounded, inside, outside}
+use Rattle.number.proofs.FloorLaws.{floor-zero, floor-float, floor-float-out}
+use Rattle.number.proofs.FloorValue.{floor-none, floor-counted}
 use Rattle.number.proofs.floor.floor.Statement.{statement}
 use Rattle.number.proofs.floor.floor.Tie as tie
 
+-- ---- the definition's answers
 at : (x y : Float) → T (inDomain x) → (T (isZero x) → y ≡ x) → (T (not (isZero x)) → y ≡ ofInt binary64 (floorℤ x)) → y ≡ floorF64 x
 at x y d z n = go (isZero x) z n (floor-zero x d) (floor-float x d)
   where
@@ -32,18 +34,17 @@ quiet : div binary64 (ofBits binary64 0) (ofBits binary64 0) ≡ nan
 unfolding div ofBits
 quiet = refl
 
--- ---- a zero's floor is 0, and is not below it
-right : (s : Bool) → below false 0 s 0 ≡ false
-right true = refl
-right false = refl
-
+-- ---- a zero's floor is 0, which is not below it
 level : (s : Bool) (m : ℕ) (e : ℤ) → m ≡ 0 → lt (ofInt binary64 (pos 0)) (fin s m e) ≡ false
 level s m e z =
     lt-values (ofInt binary64 (pos 0)) (fin s m e) false s 0 0 1 (zero-lt-suc 0) (ofInt-value binary64 (pos 0) (counts (pos 0) (lit≤ tt)))
     (refl, ap (λ (n : ℕ). n * up e * 1) z ∙ ap (λ (n : ℕ). n * 1) (zero-mul (up e)) ∙ sym (zero-mul (down e)))
-    ∙ right s
+    ∙ none s
+  where
+    none : (s : Bool) → below false 0 s 0 ≡ false
+    none true = refl
+    none false = refl
 
--- ---- a zero is not above 0, which is its floor
 zero-floor : (x : Float) → T (isZero x) → (floorℤ x ≡ pos 0) × (lt (ofInt binary64 (pos 0)) x ≡ false)
 unfolding isZero
 zero-floor nan z = absurd z
@@ -71,6 +72,7 @@ counted : (b : Bool) → T (inFloat binary64 (cond b (pos 1) (pos 0)))
 counted true = counts (pos 1) (lit≤ tt)
 counted false = counts (pos 0) (lit≤ tt)
 
+-- ---- x, r and the excess q
 module _ (x r q : Float) (e : r ≡ x ⊕ C ⊖ C) (g : q ≡ cond (lt x r) (ofBits binary64 0x3ff0_0000_0000_0000) (ofBits binary64 0)) (d : T (inDomain x)) where
   difference : r ⊖ q ≡ ofInt binary64 (floorℤ x)
   difference =

@@ -1,10 +1,9 @@
 -- `number::floor::floor_i64` meets its contract: r is a whole number z of fewer than 53 digits, so that the cast gives z and z - 1
 -- fits, and `x < r` says which of the two is the floor. Assumes nothing.
 use mathlib.Core.Path.{_≡_, refl, sym, ap, _∙_, subst}
-use Prim.Native.Nat.{ℕ, zero, suc, _-_, _^_, _≤_, _<_, suc-le-suc}
+use Prim.Native.Nat.{zero, suc, _^_, _≤_, _<_}
 use native.Mathlib.Nat.{le-refl, le-suc, le-trans, lt-of-le-of-lt}
-use native.Mathlib.Omega.{arith}
-use mathlib.Core.Bool.{Bool, true, false, not, cond}
+use mathlib.Core.Bool.{Bool, true, false, cond}
 use borrow.Author.Needs.{needs}
 use mir.Syntax.{w64}
 use mir.Val.{SFits, toZ, ofZ, boolByte}
@@ -12,13 +11,13 @@ use mir.ValLaws.{toZ-ofZ}
 use lib.IntN.{ℤ, pos, negsuc, natAbs, _-ℤ_, predℤ, -ℤ-one, +ℤ-idr}
 use lib.Signed.{mag}
 use lib.Dec.{T, lit<}
-use lib.Ieee.{Float, binary64, lt, ofInt, inSigned, toSigned}
+use lib.Ieee.{Float, binary64, lt, inSigned, toSigned}
 use Rattle.exact.specs.Double.{_⊕_, _⊖_}
-use Rattle.exact.proofs.Whole.{ofInt-back}
-use Rattle.number.specs.Floor.{inDomain, floorℤ, floorI64}
+use Rattle.exact.proofs.Integer.{ofInt-back}
+use Rattle.number.specs.Floor.{inDomain, floorI64}
 use Rattle.number.proofs.FloorRound.{C, counts}
 use Rattle.number.proofs.FloorLaws.{floor-integer, floor-integer-out}
-use Rattle.number.proofs.FloorCode.{Rounded, rounded, inside, outside}
+use Rattle.number.proofs.FloorCode.{rounded, inside, outside}
 use Rattle.number.proofs.floor.floor_i64.Statement.{statement}
 use Rattle.number.proofs.floor.floor_i64.Tie as tie
 

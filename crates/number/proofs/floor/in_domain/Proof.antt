@@ -1,16 +1,14 @@
 -- `number::floor::in_domain` meets its contract: by the kind of float, and of a finite one by its sign. One of the two comparisons
 -- always passes, and the other is one of naturals. Assumes nothing.
-use mathlib.Core.Path.{_≡_, refl, sym, ap, _∙_, subst}
-use Prim.Native.Nat.{ℕ, _+_, _*_, _≤_, _<_}
-use native.Mathlib.Nat.{eq-or-lt-of-le, le-of-eq, le-of-lt, mul-one}
+use mathlib.Core.Path.{_≡_, refl, _∙_}
+use Prim.Native.Nat.{ℕ, _*_}
 use native.Mathlib.Omega.{arith}
-use mathlib.Core.Logic.{inl, inr}
-use mathlib.Core.Bool.{Bool, true, false, not, _&&_, _||_}
+use mathlib.Core.Bool.{Bool, true, false, not, _&&_}
 use lib.IntN.{pos}
-use lib.Dec.{T, ltb, leb, eqb, ltb→lt, lt→ltb, leb→le, le→leb, nltb→le, not-T}
+use lib.Dec.{ltb, leb, ltb→lt, leb→le, le→leb, nltb→le, not-T}
 use lib.Ieee.{Float, nan, inf, fin, binary64, up, down, le, neg, ofBits}
-use lib.Ieee.Fits.{down-pos}
-use Rattle.exact.proofs.Operands.{same-test, le-flip}
+use Rattle.exact.proofs.Operands.{same-test}
+use Rattle.exact.proofs.Order.{le-flip}
 use Rattle.number.specs.Floor.{inDomain}
 use Rattle.number.proofs.floor.in_domain.Statement.{statement}
 use Rattle.number.proofs.floor.in_domain.Tie as tie

@@ -1,14 +1,13 @@
 -- The code's r, for x in the domain, is a whole number z; where x is below r the floor is z - 1, and otherwise it is z. And x is
 -- not below its floor. Assumes nothing.
-use mathlib.Core.Path.{_≡_, refl, sym, ap, _∙_, subst}
-use Prim.Native.Nat.{ℕ, suc, _*_, _/_, _%_, _≤_, _<_, compare}
-use native.Mathlib.Nat.{not-le-of-lt, le-div-iff-mul-le, le-antisymm, lt-of-le-of-lt, div-mul-le-self, lt-of-mul-lt-mul-right}
+use mathlib.Core.Path.{_≡_, refl, sym, _∙_, subst}
+use Prim.Native.Nat.{ℕ, _*_, _≤_}
 use mathlib.Core.Bool.{Bool, true, false, not, cond, true≢false}
-use lib.IntN.{ℤ, pos, negsuc, natAbs, subℕ, _-ℤ_, predℤ, pred-suc, sucℤ-+ℤ, -ℤ-one, +ℤ-idr}
-use lib.Dec.{T, ltb, leb→le, ltb→lt, nltb→le, not-T}
+use lib.IntN.{ℤ, pos, natAbs, subℕ, _-ℤ_}
+use lib.Dec.{T, leb→le}
 use lib.Ieee.{Float, nan, inf, fin, binary64, up, down, lt, ofInt}
-use lib.Ieee.Fits.{down-pos, nearest-le}
-use lib.Ieee.Nearest.{closest, nearest-ge}
+use lib.Ieee.Fits.{down-pos}
+use lib.Ieee.Nearest.{closest}
 use Rattle.exact.specs.Double.{_⊕_, _⊖_}
 use Rattle.number.specs.Floor.{floorℤ, inDomain}
 use Rattle.number.proofs.FloorNear.{shift, floorOf}

@@ -2,9 +2,10 @@
 // answer is i64::MIN, or NaN. Assumes nothing of x.
 ghost use mathlib.Core.Path.{_≡_};
 ghost use mathlib.Core.Bool.{cond};
-ghost use lib.Ieee.{ofBits, binary64, lt};
+ghost use lib.Dec.{T};
+ghost use lib.Ieee.{ofBits, ofInt, binary64, lt};
 ghost use Rattle.exact.specs.Double.{_⊕_, _⊖_};
-ghost use Rattle.number.specs.Floor.{inDomain, floorI64, floorF64};
+ghost use Rattle.number.specs.Floor.{inDomain, floorℤ, floorI64, floorF64};
 
 fn in_domain(x: f64) -> bool
     ensures { λ r. ⌜ r ≡ inDomain x ⌝ }
@@ -27,14 +28,22 @@ fn excess(x: f64, r: f64) -> f64
     if x < r { 1.0 } else { 0.0 }
 }
 
+// The floor of an x in the domain, +0 for a zero: the whole number next to x, or one less.
+fn whole_below(x: f64) -> f64
+    requires { ⌜ T (inDomain x) ⌝ }
+    ensures { λ f. ⌜ f ≡ ofInt binary64 (floorℤ x) ⌝ }
+{
+    let r = whole_near(x);
+    r - excess(x, r)
+}
+
 pub fn floor_i64(x: f64) -> i64
-    ensures { λ r. ⌜ r ≡ floorI64 x ⌝ }
+    ensures { λ n. ⌜ n ≡ floorI64 x ⌝ }
 {
     if !in_domain(x) {
         return i64::MIN;
     }
-    let r = whole_near(x);
-    (r as i64) - ((x < r) as i64)
+    whole_below(x) as i64
 }
 
 // The last choice is x only where the two are equal: it keeps the sign of a zero, as `f64::floor` of Rust does.
@@ -44,8 +53,7 @@ pub fn floor(x: f64) -> f64
     if !in_domain(x) {
         return 0.0 / 0.0;
     }
-    let r = whole_near(x);
-    let f = r - excess(x, r);
+    let f = whole_below(x);
     if f < x {
         return f;
     }

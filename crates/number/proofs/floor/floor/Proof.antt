@@ -1,21 +1,20 @@
--- `number::floor::floor` meets its contract: r less the excess is the floor as a float, exactly, and x is not below it. Where it is
--- not below x either, the two are one float, but for zeros; a zero is its own floor. Assumes nothing.
+-- `number::floor::floor` meets its contract: f is the floor as a float, and x is not below it. Where f is not below x either, the
+-- two are one float, but for zeros; a zero is its own floor. Assumes nothing.
 use mathlib.Core.Path.{_≡_, refl, sym, ap, _∙_, subst}
 use Prim.Native.Nat.{ℕ, zero, suc, _*_}
 use native.Mathlib.Nat.{zero-lt-suc, mul-one, mul-pos, zero-mul}
-use mathlib.Core.Bool.{Bool, true, false, not, cond, true≢false}
+use mathlib.Core.Bool.{Bool, true, false, not, true≢false}
 use borrow.Author.Needs.{needs}
 use lib.IntN.{ℤ, pos, natAbs}
 use lib.Dec.{T, eqb→eq, lit≤}
 use lib.Ieee.{Float, nan, inf, fin, binary64, up, down, below, lt, fits, div, ofBits, ofInt, inFloat}
 use lib.Ieee.Fits.{up-pos, down-pos, ofInt-fits}
-use Rattle.exact.specs.Double.{_⊕_, _⊖_}
 use Rattle.exact.proofs.Value.{rescale}
 use Rattle.exact.proofs.Operands.{lt-values}
 use Rattle.exact.proofs.Order.{not-apart}
-use Rattle.exact.proofs.Integer.{negative, ofInt-value, ofInt-sub}
+use Rattle.exact.proofs.Integer.{negative, ofInt-value}
 use Rattle.number.specs.Floor.{inDomain, isZero, floorℤ, floorF64}
-use Rattle.number.proofs.FloorRound.{C, counts}
+use Rattle.number.proofs.FloorRound.{counts}
 use Rattle.number.proofs.FloorCode.{rounded, inside, outside}
 use Rattle.number.proofs.FloorLaws.{floor-zero, floor-float, floor-float-out}
 use Rattle.number.proofs.FloorValue.{floor-none, floor-counted}
@@ -62,30 +61,13 @@ alike (fin s (suc m) e) z f p d n h g =
     (rescale (ofInt binary64 z) (negative z) (natAbs z) 1 (natAbs z * down e) (down e) (zero-lt-suc 0) (sym (mul-one (natAbs z * down e))) (ofInt-value binary64 z f))
     h g
 
--- ---- what is taken from r
-excess-is : (b : Bool) → cond b (ofBits binary64 0x3ff0_0000_0000_0000) (ofBits binary64 0) ≡ ofInt binary64 (cond b (pos 1) (pos 0))
-unfolding ofBits ofInt
-excess-is true = refl
-excess-is false = refl
+-- ---- x and its floor f
+module _ (x f : Float) (e : f ≡ ofInt binary64 (floorℤ x)) (d : T (inDomain x)) where
+  below-x : lt f x ≡ true → f ≡ floorF64 x
+  below-x h = at x f d (λ t. absurd (true≢false (sym h ∙ ap (λ (y : Float). lt y x) (e ∙ ap (ofInt binary64) (zero-floor x t .0)) ∙ zero-floor x t .1))) (λ t. e)
 
-counted : (b : Bool) → T (inFloat binary64 (cond b (pos 1) (pos 0)))
-counted true = counts (pos 1) (lit≤ tt)
-counted false = counts (pos 0) (lit≤ tt)
-
--- ---- x, r and the excess q
-module _ (x r q : Float) (e : r ≡ x ⊕ C ⊖ C) (g : q ≡ cond (lt x r) (ofBits binary64 0x3ff0_0000_0000_0000) (ofBits binary64 0)) (d : T (inDomain x)) where
-  difference : r ⊖ q ≡ ofInt binary64 (floorℤ x)
-  difference =
-      (λ i. (e ∙ rounded x d .is) i ⊖ (g ∙ ap (λ (y : Float). cond (lt x y) (ofBits binary64 0x3ff0_0000_0000_0000) (ofBits binary64 0)) e ∙ excess-is (lt x (x ⊕ C ⊖ C))) i)
-      ∙ ofInt-sub binary64 (rounded x d .z) (cond (lt x (x ⊕ C ⊖ C)) (pos 1) (pos 0)) (counts (rounded x d .z) (rounded x d .small)) (counted (lt x (x ⊕ C ⊖ C)))
-      ∙ ap (ofInt binary64) (rounded x d .fall)
-
-  taken : lt (r ⊖ q) x ≡ true → r ⊖ q ≡ floorF64 x
-  taken h = at x (r ⊖ q) d (λ t. absurd (true≢false (sym h ∙ ap (λ (y : Float). lt y x) (difference ∙ ap (ofInt binary64) (zero-floor x t .0)) ∙ zero-floor x t .1))) (λ t. difference)
-
-  own : T (fits binary64 x) → lt (r ⊖ q) x ≡ false → x ≡ floorF64 x
-  own p h = at x x d (λ t. refl) (λ t.
-      alike x (floorℤ x) (floor-counted x d) p d t (rounded x d .under) (subst (λ (y : Float). T (not (lt y x))) difference (subst (λ (b : Bool). T (not b)) (sym h) tt)))
+  own : T (fits binary64 x) → lt f x ≡ false → x ≡ floorF64 x
+  own p h = at x x d (λ t. refl) (λ t. alike x (floorℤ x) (floor-counted x d) p d t (rounded x d .under) (subst (λ (y : Float). T (not (lt y x))) e (subst (λ (b : Bool). T (not b)) (sym h) tt)))
 
 in-domain-requires : tie.Need-in-domain-requires
 in-domain-requires c κs = search needs
@@ -93,25 +75,21 @@ in-domain-requires c κs = search needs
 returns : tie.Need-returns
 returns c = quiet ∙ sym (floor-float-out (c .before .before .args .x) (outside (c .before .before .args .x) (c .before .in-domain .result) (c .before .in-domain .ensures) (c .if1 .taken)))
 
-whole-near-requires : tie.Need-whole-near-requires
-whole-near-requires c κs = search needs
-
-excess-requires : tie.Need-excess-requires
-excess-requires c κs = search needs
+whole-below-requires : tie.Need-whole-below-requires
+whole-below-requires c κs = inside (c .before .before .args .x) (c .before .in-domain .result) (c .before .in-domain .ensures) (c .if1 .left)
 
 returns-2 : tie.Need-returns-2
 returns-2 c =
-    let w = c .before .before in
+    let w = c .before in
     let d = w .before .before in
-    taken (d .before .args .x) (w .whole-near .result) (c .before .excess .result) (w .whole-near .ensures) (c .before .excess .ensures)
-    (inside (d .before .args .x) (d .in-domain .result) (d .in-domain .ensures) (w .before .if1 .left)) (c .if2 .taken)
+    below-x (d .before .args .x) (w .whole-below .result) (w .whole-below .ensures) (inside (d .before .args .x) (d .in-domain .result) (d .in-domain .ensures) (w .before .if1 .left)) (c .if2 .taken)
 
 returns-3 : tie.Need-returns-3
 returns-3 c =
-    let w = c .before .before in
+    let w = c .before in
     let d = w .before .before in
-    own (d .before .args .x) (w .whole-near .result) (c .before .excess .result) (w .whole-near .ensures) (c .before .excess .ensures)
-    (inside (d .before .args .x) (d .in-domain .result) (d .in-domain .ensures) (w .before .if1 .left)) (subst T (sym (d .before .good .0 .1)) tt) (c .if2 .left)
+    own (d .before .args .x) (w .whole-below .result) (w .whole-below .ensures) (inside (d .before .args .x) (d .in-domain .result) (d .in-domain .ensures) (w .before .if1 .left))
+    (subst T (sym (d .before .good .0 .1)) tt) (c .if2 .left)
 
 pub floor-spec : {M : Type 1} → statement M
-floor-spec = tie.close (tie.spec in-domain-requires returns whole-near-requires excess-requires returns-2 returns-3)
+floor-spec = tie.close (tie.spec in-domain-requires returns whole-below-requires returns-2 returns-3)

@@ -19,7 +19,7 @@ use Rattle.exact.proofs.Scale.{At, lt-at, at-eq, at-add, at-mul}
 use Rattle.exact.proofs.Near.{add-same}
 use Rattle.exact.proofs.Signed.{has-value, has-finite, finite-both, neg-value, neg-finite}
 use Rattle.exact.proofs.Magnitude.{Sized, sized-signed, sized-more, abs-sized}
-use Rattle.exact.proofs.Quotient.{at-div, at-div-neg}
+use Rattle.exact.proofs.Quotients.{at-div, at-div-neg}
 use Rattle.exact.proofs.Rounds.{rounds-self, rounds-along, rounds-within}
 
 -- ---- what `round` is handed, against the exact result at its scale

@@ -2,6 +2,11 @@
 pub mod BytesLaws
 pub mod FloatBits
 pub mod FloatBytes
+pub mod FloorCode
+pub mod FloorLaws
+pub mod FloorNear
+pub mod FloorRound
+pub mod FloorValue
 pub mod MagnitudeLaws
 pub mod NarrowBits
 pub mod NarrowLaws

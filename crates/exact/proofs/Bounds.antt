@@ -17,7 +17,7 @@ use Rattle.exact.specs.Fraction.{Fraction, frac, value, _≤F_, _<F_, _�
 use Rattle.exact.specs.Rounds.{Rounds, Close, power, fine}
 use Rattle.exact.proofs.Near.{le-trans, eq-le, eq-sym}
 use Rattle.exact.proofs.Signed.{signed-le, signed-eq}
-use Rattle.exact.proofs.Magnitude.{abs-mono}
+use Rattle.exact.proofs.NearProducts.{abs-unit}
 use Rattle.exact.proofs.Rounds.{rounds-self, rounds-within}
 use Rattle.exact.proofs.Monotone.{rounds-nonneg, rounds-at-most, rounds-within-size}
 use Rattle.exact.proofs.Steps.{close-more}
@@ -52,10 +52,14 @@ unfolding fits
 one-fits binary32 = tt
 one-fits binary64 = tt
 
+one-size : frac 1 1 ≤F absF (frac 1 1)
+unfolding absF
+one-size = record { le = lit≤ tt }
+
 pub rounds-unit : {f : Format} {r : Float} {X : Fraction} → Rounds f r X → Unit01 X → T (finite r) × Unit01 (value r)
 rounds-unit {f} {r} {X} R h =
     let one = fin false 1 (pos 0) in
-    let t = rounds-within-size R one (one-fits f) tt (abs-mono X (frac 1 1) (h .0) (h .1)) .0 in
+    let t = rounds-within-size R one (one-fits f) tt (le-trans (absF X) (frac 1 1) (absF (frac 1 1)) (abs-unit X h) one-size) .0 in
     (t, (rounds-nonneg R t (h .0), rounds-at-most R one (one-fits f) tt t (h .1)))
 
 -- ---- examples

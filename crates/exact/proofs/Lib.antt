@@ -8,6 +8,7 @@ pub mod GridOrder
 pub mod Held
 pub mod Integer
 pub mod Line
+pub mod Linear
 pub mod Loop
 pub mod Magnitude
 pub mod Mix

@@ -1,17 +1,18 @@
 -- Sizes: a fraction at a scale with one part 0 is a sign and a size, and then |x| ≤ b and, for one sign, |x - y| ≤ e are comparisons of sizes.
--- Provides: `at-same` (equal fractions stand alike at a scale); `Sized`, `sized-signed`, `sized-same`, `sized-more`; `size-le`, `le-size`; `abs-sized`, `abs-mono`, `abs-alike`;
+-- Provides: `at-same` (equal fractions stand alike at a scale); `Sized`, `sized-signed`, `sized-same`, `sized-more`; `size-le`, `le-size`; `abs-sized`, `abs-alike`;
 -- `sized-within`, `near-sized`. Assumes nothing.
 use mathlib.Core.Path.{_≡_, sym, ap, subst}
 use mathlib.Core.List.{[], _∷_}
-use mathlib.Core.Logic.{_⊎_, inl, inr, ⊎-elim}
+use mathlib.Core.Logic.{⊎-elim}
 use mathlib.Core.Bool.{Bool, true, false, cond}
 use Prim.Native.Nat.{ℕ, _+_, _*_, _≤_, _<_}
 use native.Mathlib.Nat.{eq-of-mul-eq-mul-right, mul-comm, mul-pos}
 use native.Mathlib.Omega.{arith}
-use Rattle.exact.specs.Fraction.{Fraction, over, frac, _≤F_, _≈_, absF, Within}
+use Rattle.exact.specs.Fraction.{Fraction, over, _≤F_, _≈_, absF, Within}
 use Rattle.exact.specs.Rounds.{signed}
 use Rattle.exact.proofs.Scale.{At, at-le, le-at, at-ratio, at-more, over-pos, common}
-use Rattle.exact.proofs.Near.{at-abs, at-within}
+use Rattle.exact.proofs.Near.{at-abs, at-within, le-refl}
+use Rattle.exact.proofs.NearProducts.{abs-at, at-abs-le}
 
 -- ---- equal fractions stand alike
 pub at-same : {D : ℕ} {x y : Fraction} {p n : ℕ} → x ≈ y → At D x p n → At D y p n
@@ -70,29 +71,10 @@ abs-sized D D0 s a {x} X = ⊎-elim (λ (h : At D (absF x) (cond s 0 a) (cond s 
     minus true X h = X
     minus false X h = zero-here h X
 
--- of two that are not negative the larger has the larger size, and equal ones have one size
-pub abs-mono : (x y : Fraction) → frac 0 1 ≤F x → x ≤F y → absF x ≤F absF y
-abs-mono x y z h =
-    common (x ∷ y ∷ frac 0 1 ∷ [])
-    (λ D D0 A. go D D0 (at-abs x (A .0 .2)) (at-abs y (A .1 .0 .2)) (above D D0 (A .1 .1 .0 .2) (A .0 .2)) (le-at D D0 (A .0 .2) (A .1 .0 .2) h))
-  where
-    above : (D : ℕ) → 0 < D → {u v p n : ℕ} → At D (frac 0 1) u v → At D x p n → n ≤ p
-    above D D0 O X = let e = O .at in let k = le-at D D0 O X z in omega arith
-
-    go : (D : ℕ) → 0 < D → {p n q m : ℕ} → (At D (absF x) p n × (n ≤ p)) ⊎ (At D (absF x) n p × (p ≤ n)) → (At D (absF y) q m × (m ≤ q)) ⊎ (At D (absF y) m q × (q ≤ m)) → n ≤ p → p + m ≤ q + n → absF x ≤F absF y
-    go D D0 (inl a) (inl b) l k = at-le D D0 (a .0) (b .0) (omega arith)
-    go D D0 (inl a) (inr b) l k = let h = b .1 in at-le D D0 (a .0) (b .0) (omega arith)
-    go D D0 (inr a) (inl b) l k = let h = a .1 in at-le D D0 (a .0) (b .0) (omega arith)
-    go D D0 (inr a) (inr b) l k = let h = a .1 in let g = b .1 in at-le D D0 (a .0) (b .0) (omega arith)
-
 pub abs-alike : (x y : Fraction) → x ≈ y → absF x ≤F absF y
-abs-alike x y e = common (x ∷ []) (λ D D0 A. go D D0 (at-abs x (A .0 .2)) (at-abs y (at-same e (A .0 .2))))
-  where
-    go : (D : ℕ) → 0 < D → {p n : ℕ} → (At D (absF x) p n × (n ≤ p)) ⊎ (At D (absF x) n p × (p ≤ n)) → (At D (absF y) p n × (n ≤ p)) ⊎ (At D (absF y) n p × (p ≤ n)) → absF x ≤F absF y
-    go D D0 (inl a) (inl b) = at-le D D0 (a .0) (b .0) (omega arith)
-    go D D0 (inl a) (inr b) = let h = a .1 in let k = b .1 in at-le D D0 (a .0) (b .0) (omega arith)
-    go D D0 (inr a) (inl b) = let h = a .1 in let k = b .1 in at-le D D0 (a .0) (b .0) (omega arith)
-    go D D0 (inr a) (inr b) = at-le D D0 (a .0) (b .0) (omega arith)
+abs-alike x y e =
+    common (x ∷ absF y ∷ [])
+    (λ D D0 ((_, _, X), ((_, _, A), _)). let k = abs-at D D0 (at-same e X) A (le-refl (absF y) (absF y)) in at-abs-le D D0 X A (k .0) (k .1))
 
 -- ---- |x - y| ≤ e, for two of one sign
 pub sized-within : (D : ℕ) → 0 < D → (s : Bool) {x y e : Fraction} (a b r : ℕ) → Sized D x s a → Sized D y s b → At D e r 0 → a ≤ b + r → b ≤ a + r → Within x y e

@@ -3,7 +3,7 @@
 -- Provides: `signed-at`, `signed-le`, `le-signed`, `signed-lt`, `lt-signed`, `signed-eq`, `eq-signed` (the order, both ways), `signed-scale` (equal
 -- fractions), `has-value` (from the library's words), `neg-value`, `finite-both`, and `lt-value`, `eq-value`, `le-value`: what the comparisons of
 -- finite floats say of their values, both ways and for both signs. Assumes nothing.
-use mathlib.Core.Path.{_≡_, refl, subst}
+use mathlib.Core.Path.{_≡_, subst}
 use mathlib.Core.Logic.{_⊎_, inl, inr, ⊎-elim, _↔_}
 use mathlib.Core.Bool.{Bool, true, false, _||_, cond}
 use Prim.Native.Nat.{ℕ, _+_, _*_, _≤_, _<_}
@@ -15,10 +15,11 @@ use lib.Ieee.{Float, nan, inf, fin, up, down, neg, below, level, lt, eq, le}
 use lib.Ieee.Fits.{down-pos, eq→eqb, and-i, and-l, and-r}
 use lib.Ieee.Exact.{HasValue}
 use lib.Ieee.Scale.{finite}
-use Rattle.exact.specs.Fraction.{Fraction, ratio, value, negF, _≤F_, _<F_, _≈_}
+use Rattle.exact.specs.Fraction.{ratio, value, negF, _≤F_, _<F_, _≈_}
 use Rattle.exact.specs.Rounds.{signed}
 use Rattle.exact.proofs.Scale.{At, at-le, le-at, at-lt, lt-at, at-eq, eq-at, at-more, at-ratio}
 use Rattle.exact.proofs.Near.{lt-le, eq-le}
+use Rattle.exact.proofs.Products.{eq-refl}
 
 -- ---- at a scale
 pub signed-at : (s : Bool) (a c k : ℕ) → 0 < c → At (c * k) (signed s a c) (cond s 0 (a * k)) (cond s (a * k) 0)
@@ -80,15 +81,12 @@ has-finite nan s a c v = absurd v
 has-finite (inf t) s a c v = absurd v
 has-finite (fin t m e) s a c v = tt
 
-refl≈ : (x : Fraction) → x ≈ x
-refl≈ x = record { eq = refl }
-
 pub neg-value : (x : Float) → value (neg x) ≈ negF (value x)
 unfolding neg negF
-neg-value nan = refl≈ (value nan)
-neg-value (inf s) = refl≈ (value nan)
-neg-value (fin true m e) = refl≈ (value (fin false m e))
-neg-value (fin false m e) = refl≈ (value (fin true m e))
+neg-value nan = eq-refl (value nan)
+neg-value (inf s) = eq-refl (value nan)
+neg-value (fin true m e) = eq-refl (value (fin false m e))
+neg-value (fin false m e) = eq-refl (value (fin true m e))
 
 pub neg-finite : (x : Float) → T (finite x) → T (finite (neg x))
 unfolding neg

@@ -4,7 +4,7 @@ ghost use mathlib.Core.Path.{_≡_};
 ghost use Prim.Native.Nat.{_+_, _*_, _≤_};
 ghost use lib.ListN.{length};
 ghost use lib.Ieee.{binary32, binary64, ofBits, toBits};
-ghost use Rattle.number.specs.Bytes.{u32At, u64At, f32At, f64At, putU32, putU64, putF32, putF64, within};
+ghost use Rattle.number.specs.Bytes.{u32At, u64At, f32At, f64At, putU32, putU64, putI64, putF32, putF64, twosComplement, within};
 
 // Four bytes as a number, the lowest first.
 fn joined(b0: u8, b1: u8, b2: u8, b3: u8) -> u32
@@ -43,6 +43,23 @@ pub fn put_u64(s: &mut [u8], at: usize, n: u64)
 {
     put_u32(s, at, (n % 4294967296) as u32);
     put_u32(s, at + 4, (n / 4294967296) as u32);
+}
+
+// The bits of a signed number. Of a negative one, -1 - n is a number of 63 bits, and its bits are the others.
+pub fn bits_of_i64(n: i64) -> u64
+    ensures { λ r. ⌜ r ≡ twosComplement n ⌝ }
+{
+    if n < 0 {
+        return 18446744073709551615 - (-1 - n) as u64;
+    }
+    n as u64
+}
+
+pub fn put_i64(s: &mut [u8], at: usize, n: i64)
+    requires { ⌜ at + 8 ≤ length (now s) ⌝ }
+    ensures { λ _. ⌜ now (s .exit) ≡ putI64 (now (s .entry)) at n ⌝ }
+{
+    put_u64(s, at, bits_of_i64(n));
 }
 
 // The float of a pattern. A NaN's pattern may not be made a float as it is, so each gives the one NaN.

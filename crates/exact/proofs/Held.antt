@@ -2,9 +2,9 @@
 -- value's own fraction gives the value back, and a sum with zero or a difference from zero is exact.
 -- Assumes nothing.
 use mathlib.Core.Path.{_≡_, refl, sym, ap, _∙_, subst}
-use mathlib.Core.Bool.{Bool, true, false, not, _&&_, cond}
+use mathlib.Core.Bool.{Bool, _&&_, cond}
 use Prim.Native.Nat.{ℕ, zero, suc, _+_, _-_, _*_, _/_, _%_, _^_, _≤_, _<_}
-use native.Mathlib.Nat.{mul-assoc, mul-comm, mul-right-comm, mul-left-comm, mul-one, one-mul, lt-of-not-le, lt-irrefl, lt-of-lt-of-le, le-of-suc-le-suc, lt-of-mul-lt-mul-right, mul-lt-mul-of-pos-right, zero-mul, pow-succ'}
+use native.Mathlib.Nat.{mul-assoc, mul-comm, mul-right-comm, mul-one, one-mul, lt-of-not-le, lt-irrefl, lt-of-lt-of-le, le-of-suc-le-suc, lt-of-mul-lt-mul-right, mul-lt-mul-of-pos-right, zero-mul, pow-succ'}
 use native.Mathlib.Omega.{arith}
 use lib.IntN.{ℤ, pos, negsuc}
 use lib.Dec.{T, leb, ltb, eqb, eqb→eq, ltb→lt, leb→le}

@@ -2,3 +2,4 @@
 pub mod Held
 pub mod Loop
 pub mod Pattern
+pub mod PatternOrder

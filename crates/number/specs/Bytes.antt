@@ -1,12 +1,10 @@
 -- How bytes are numbers and floats, for the whole product: a number has its lowest byte first, and a float is its
 -- IEEE 754 pattern as such a number. A list of bytes reads as 0 past its end. Assumes nothing.
 use Prim.Native.Nat.{ℕ, zero, suc, _+_, _-_, _*_, _/_, _%_, _^_}
-use mathlib.Core.Bool.{Bool}
 use mathlib.Core.List.{List}
 use lib.IntN.{ℤ, pos, negsuc}
 use lib.ListN.{getD, set}
-use lib.Ieee.{Float, Format, binary32, binary64, ofBits, toBits, le}
-use Rattle.number.specs.Magnitude.{abs}
+use lib.Ieee.{Float, Format, binary32, binary64, ofBits, toBits}
 
 -- ---- numbers
 
@@ -60,9 +58,3 @@ sampleAt s k = f32At s (4 * k)
 
 abbrev pub argumentAt : List ℕ → ℕ → Float
 argumentAt s k = f64At s (8 * k)
-
--- ---- limits
-
--- x is at most `limit` in magnitude. A NaN is not, and under a finite limit neither is an infinity.
-unfoldable pub within : Float → Float → Bool
-within limit x = le (abs x) limit

@@ -4,7 +4,7 @@ use mathlib.Core.Path.{_≡_, sym, ap, _∙_, subst}
 use mathlib.Core.Bool.{Bool, true}
 use lib.Dec.{T}
 use lib.Ieee.{Float, binary32, fits, sub, le}
-use Rattle.number.proofs.MagnitudeLaws.{abs-of-difference, abs-otherwise}
+use Rattle.number.proofs.MagnitudeTests.{abs-of-difference, abs-otherwise}
 use Rattle.number.proofs.magnitude.abs_f32.Statement.{statement}
 use Rattle.number.proofs.magnitude.abs_f32.Tie as tie
 

@@ -1,4 +1,4 @@
--- `number::bytes::bits_of_i64` meets its contract. A negative number is `negsuc k`, which is -1 - k; so the code's -1 - n
+-- `number::pattern::bits_of_i64` meets its contract. A negative number is `negsuc k`, which is -1 - k; so the code's -1 - n
 -- is k, and 2^64 - 1 - k are its bits. Assumes nothing.
 use mathlib.Core.Path.{_≡_, refl, sym, ap, _∙_, subst}
 use mathlib.Core.Bool.{Bool, true, false, true≢false, false≢true, cond}
@@ -12,8 +12,8 @@ use mir.Val.{Fits, SFits, ofZ, toZ}
 use mir.Facts.{toZ-ofZ}
 use borrow.Author.Tests.{le-ltb}
 use Rattle.number.specs.Bytes.{twosComplement}
-use Rattle.number.proofs.bytes.bits_of_i64.Statement.{statement}
-use Rattle.number.proofs.bytes.bits_of_i64.Tie as tie
+use Rattle.number.proofs.pattern.bits_of_i64.Statement.{statement}
+use Rattle.number.proofs.pattern.bits_of_i64.Tie as tie
 
 -- what the code makes of z where z is negative
 abbrev rest : ℤ → ℤ

@@ -4,7 +4,7 @@ use Prim.Native.Nat.{ℕ, zero, suc, _+_, _-_, _*_, _/_, _%_, _^_}
 use mathlib.Core.List.{List}
 use lib.IntN.{ℤ, pos, negsuc}
 use lib.ListN.{getD, set}
-use lib.Ieee.{Float, Format, binary32, binary64, ofBits, toBits}
+use lib.Ieee.{Float, binary32, binary64, ofBits, toBits}
 
 -- ---- numbers
 

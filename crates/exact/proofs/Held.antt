@@ -1,6 +1,5 @@
--- A value that a format holds is determined by its sign and size, since its bit pattern is; so rounding such a
--- value's own fraction gives the value back, and a sum with zero or a difference from zero is exact.
--- Assumes nothing.
+-- A value that a format holds is determined by its sign and size, since its bit pattern is (`held-unique`); so rounding
+-- such a value's own fraction gives the value back (`round-held`). Assumes nothing.
 use mathlib.Core.Path.{_≡_, refl, sym, ap, _∙_, subst}
 use mathlib.Core.Bool.{Bool, _&&_, cond}
 use Prim.Native.Nat.{ℕ, zero, suc, _+_, _-_, _*_, _/_, _%_, _^_, _≤_, _<_}

@@ -1,9 +1,9 @@
--- `number::bytes::f64_bits_within` meets its contract. Without signs the order of floats is the order of their
+-- `number::pattern::f64_bits_within` meets its contract. Without signs the order of floats is the order of their
 -- patterns. Assumes nothing.
 use lib.Ieee.{binary64}
 use Rattle.number.proofs.FloatBits.{within-bits}
-use Rattle.number.proofs.bytes.f64_bits_within.Statement.{statement}
-use Rattle.number.proofs.bytes.f64_bits_within.Tie as tie
+use Rattle.number.proofs.pattern.f64_bits_within.Statement.{statement}
+use Rattle.number.proofs.pattern.f64_bits_within.Tie as tie
 
 returns : tie.Need-returns
 returns c = within-bits binary64 (c .args .bits) (c .args .limit) (c .pre)

@@ -1,10 +1,10 @@
--- `number::bytes::f32_of_bits` meets its contract. A pattern above the infinity's, its sign aside, is a NaN's, and so is
+-- `number::pattern::f32_of_bits` meets its contract. A pattern above the infinity's, its sign aside, is a NaN's, and so is
 -- 0 / 0; any other may be made a float. Assumes nothing.
 use mathlib.Core.Path.{sym, _∙_}
 use lib.Ieee.{binary32}
 use Rattle.number.proofs.FloatBits.{zero-by-zero, nan-above, number-below}
-use Rattle.number.proofs.bytes.f32_of_bits.Statement.{statement}
-use Rattle.number.proofs.bytes.f32_of_bits.Tie as tie
+use Rattle.number.proofs.pattern.f32_of_bits.Statement.{statement}
+use Rattle.number.proofs.pattern.f32_of_bits.Tie as tie
 use borrow.Author.Needs.{needs}
 
 returns : tie.Need-returns

@@ -1,10 +1,10 @@
--- `number::bytes::bits_of_f64` meets its contract. What differs from itself is the NaN, whose pattern the code has as a
+-- `number::pattern::bits_of_f64` meets its contract. What differs from itself is the NaN, whose pattern the code has as a
 -- literal; any other float has a pattern of its own. Assumes nothing.
 use mathlib.Core.Path.{sym}
 use lib.Ieee.{binary64}
 use Rattle.number.proofs.FloatBits.{nan-bits, number-bits}
-use Rattle.number.proofs.bytes.bits_of_f64.Statement.{statement}
-use Rattle.number.proofs.bytes.bits_of_f64.Tie as tie
+use Rattle.number.proofs.pattern.bits_of_f64.Statement.{statement}
+use Rattle.number.proofs.pattern.bits_of_f64.Tie as tie
 use borrow.Author.Needs.{needs}
 
 returns : tie.Need-returns

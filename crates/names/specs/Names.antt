@@ -1,6 +1,6 @@
 -- The three `from_name` readers, over bytes: a table of names and codes for each, and one lookup that ignores ASCII case. A code is
 -- the place of the variant in its Rust enum's declaration, from 0; the methods that are absent have theirs too. Assumes nothing.
-use Prim.Native.Nat.{ℕ, _+_}
+use Prim.Native.Nat.{ℕ, _+_, _<_}
 use Prim.Native.Char.{code}
 use Prim.Native.String.{String, [] as none, _∷_ as _then_}
 use mathlib.Core.Bool.{Bool, true, false, cond}
@@ -29,9 +29,15 @@ unfoldable pub lookup : List (List ℕ × ℕ) → List ℕ → Named
 lookup [] s = Refused
 lookup ((name, n) ∷ table) s = cond (sameName s name) (Code n) (lookup table s)
 
--- the number that document 01 gives a refused name
-abbrev pub refusal : ℕ
-refusal = 3
+-- document 01's number of the refusal; a code is none, which is 0 here
+abbrev pub refusal : Named → ℕ
+refusal (Code n) = 0
+refusal Refused = 3
+
+-- a code, if there is one, is below m
+abbrev pub Below : ℕ → Named → Type 0
+Below m (Code n) = n < m
+Below m Refused = Unit
 
 -- the bytes of an ASCII text
 abbrev pub bytes : String → List ℕ

@@ -10,9 +10,6 @@ use Rattle.dihyravo.specs.Answer.{answer}
 use Rattle.dihyravo.proofs.dihyravo_interpolation.Statement.{statement}
 use Rattle.dihyravo.proofs.dihyravo_interpolation.Tie as tie
 
-interpolation-requires : tie.Need-interpolation-requires
-interpolation-requires c κs = search needs
-
 number-requires : tie.Need-number-requires
 number-requires c κs = rw (c .interpolation .ensures) (lookup-below (2 ^ 63) interpolations _ tt)
 
@@ -20,4 +17,4 @@ returns : tie.Need-returns
 returns c = toZ-ofZ {w = w64} (record { sfits = c .number .ok }) ∙ c .number .ensures ∙ ap answer (c .before .interpolation .ensures)
 
 pub dihyravo-interpolation-spec : {M : Type 1} → statement M
-dihyravo-interpolation-spec = tie.close (tie.spec interpolation-requires number-requires returns)
+dihyravo-interpolation-spec = tie.close (tie.spec (λ c κs. search needs) number-requires returns)

@@ -10,9 +10,6 @@ use Rattle.dihyravo.specs.Answer.{answer}
 use Rattle.dihyravo.proofs.dihyravo_method.Statement.{statement}
 use Rattle.dihyravo.proofs.dihyravo_method.Tie as tie
 
-method-requires : tie.Need-method-requires
-method-requires c κs = search needs
-
 number-requires : tie.Need-number-requires
 number-requires c κs = rw (c .method .ensures) (lookup-below (2 ^ 63) methods _ tt)
 
@@ -20,4 +17,4 @@ returns : tie.Need-returns
 returns c = toZ-ofZ {w = w64} (record { sfits = c .number .ok }) ∙ c .number .ensures ∙ ap answer (c .before .method .ensures)
 
 pub dihyravo-method-spec : {M : Type 1} → statement M
-dihyravo-method-spec = tie.close (tie.spec method-requires number-requires returns)
+dihyravo-method-spec = tie.close (tie.spec (λ c κs. search needs) number-requires returns)

@@ -10,9 +10,6 @@ use Rattle.dihyravo.specs.Answer.{answer}
 use Rattle.dihyravo.proofs.dihyravo_policy.Statement.{statement}
 use Rattle.dihyravo.proofs.dihyravo_policy.Tie as tie
 
-policy-requires : tie.Need-policy-requires
-policy-requires c κs = search needs
-
 number-requires : tie.Need-number-requires
 number-requires c κs = rw (c .policy .ensures) (lookup-below (2 ^ 63) policies _ tt)
 
@@ -20,4 +17,4 @@ returns : tie.Need-returns
 returns c = toZ-ofZ {w = w64} (record { sfits = c .number .ok }) ∙ c .number .ensures ∙ ap answer (c .before .policy .ensures)
 
 pub dihyravo-policy-spec : {M : Type 1} → statement M
-dihyravo-policy-spec = tie.close (tie.spec policy-requires number-requires returns)
+dihyravo-policy-spec = tie.close (tie.spec (λ c κs. search needs) number-requires returns)

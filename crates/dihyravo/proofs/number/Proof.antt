@@ -11,15 +11,9 @@ use Rattle.dihyravo.specs.Answer.{answer}
 use Rattle.dihyravo.proofs.number.Statement.{statement}
 use Rattle.dihyravo.proofs.number.Tie as tie
 
-enum-known-r : tie.Need-enum-known-r
-enum-known-r c = search needs
-
 cast-result : tie.Need-cast-result
 cast-result c =
     record { sfits = subst (λ (r : Named). Below (2 ^ 63) r) (c .before .r .given .1) (c .before .before .before .pre) }
-
-enum-told : tie.Need-enum-told
-enum-told c = search needs
 
 returns : tie.Need-returns
 returns c =
@@ -30,4 +24,4 @@ returns-2 : tie.Need-returns-2
 returns-2 c = sym (ap answer (c .enum-told .given .1))
 
 pub number-spec : {M : Type 1} → statement M
-number-spec = tie.close (tie.spec enum-known-r cast-result enum-told returns returns-2)
+number-spec = tie.close (tie.spec (λ c. search needs) cast-result (λ c. search needs) returns returns-2)

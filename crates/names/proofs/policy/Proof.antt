@@ -4,15 +4,9 @@ use Rattle.names.specs.Table.{endsName, nextName, nextCode, split, entri
 use Rattle.names.proofs.policy.Statement.{statement}
 use Rattle.names.proofs.policy.Tie as tie
 
-slice-aggregate-find : tie.Need-slice-aggregate-find
-slice-aggregate-find c = search needs
-
-find-requires : tie.Need-find-requires
-find-requires c κs = search needs
-
 returns : tie.Need-returns
 unfolding endsName nextName nextCode split entries
 returns c = c .find .ensures
 
 pub policy-spec : {M : Type 1} → statement M
-policy-spec = tie.close (tie.spec slice-aggregate-find find-requires returns)
+policy-spec = tie.close (tie.spec (λ c. search needs) (λ c κs. search needs) returns)

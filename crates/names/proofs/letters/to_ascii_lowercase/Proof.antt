@@ -5,9 +5,6 @@ use Rattle.names.specs.Names.{lowercase}
 use Rattle.names.proofs.letters.to_ascii_lowercase.Statement.{statement}
 use Rattle.names.proofs.letters.to_ascii_lowercase.Tie as tie
 
-add-result : tie.Need-add-result
-add-result c = search needs
-
 returns : tie.Need-returns
 unfolding lowercase
 returns c = simp (le-leb _ _ (c .before .if1 .taken), le-leb _ _ (c .if2 .taken))
@@ -21,4 +18,4 @@ unfolding lowercase
 returns-3 c = simp (lt-leb _ _ (c .if1 .left))
 
 pub to-ascii-lowercase-spec : {M : Type 1} → statement M
-to-ascii-lowercase-spec = tie.close (tie.spec add-result returns returns-2 returns-3)
+to-ascii-lowercase-spec = tie.close (tie.spec (λ c. search needs) returns returns-2 returns-3)

@@ -1,7 +1,7 @@
 -- `names::table::find` meets its contract. The invariant: the whole table's answer is that of the entries that are left at `k`, in a
 -- name that started at `from`; the measure is what is left of the text. Assumes nothing.
-use mathlib.Core.Path.{_≡_, refl, sym, ap, _∙_}
-use Prim.Native.Nat.{ℕ, _+_, _-_, _≤_, _<_}
+use mathlib.Core.Path.{_≡_, sym, _∙_}
+use Prim.Native.Nat.{_-_, _≤_}
 use native.Mathlib.Omega.{arith}
 use borrow.Author.Needs.{needs}
 use lib.ListN.{length}
@@ -11,11 +11,6 @@ use Rattle.names.specs.Table.{entries}
 use Rattle.names.proofs.Search.{left, all, over, next-code-le, inside, found, passed}
 use Rattle.names.proofs.table.find.Statement.{statement}
 use Rattle.names.proofs.table.find.Tie as tie
-use Rattle.names.proofs.table.find.Reads as reads
-use Rattle.names.proofs.table.find.Lts as lts
-use Rattle.names.proofs.letters.same_name.Reads as same-name-reads
-use Rattle.names.proofs.table.ends_name.Reads as ends-name-reads
-use Rattle.names.proofs.table.next_code.Reads as next-code-reads
 
 abbrev Inv-loop : tie.InvT-loop
 Inv-loop s text from₀ code₀ k₀ k-end from code k =
@@ -27,24 +22,6 @@ abbrev μ-loop : tie.MeasureT-loop
 loop-holds : tie.Need-loop-holds Inv-loop μ-loop
 loop-holds c = (all _ _, search needs)
 
-shared-slice-read-b : tie.Need-shared-slice-read-b Inv-loop μ-loop
-shared-slice-read-b c = search needs
-
-ends-name-requires : tie.Need-ends-name-requires Inv-loop μ-loop
-ends-name-requires c κs = search needs
-
-sub-same-name : tie.Need-sub-same-name Inv-loop μ-loop
-sub-same-name c = search needs
-
-part-same-name-start : tie.Need-part-same-name-start Inv-loop μ-loop
-part-same-name-start c = search needs
-
-part-same-name-end : tie.Need-part-same-name-end Inv-loop μ-loop
-part-same-name-end c = search needs
-
-same-name-requires : tie.Need-same-name-requires Inv-loop μ-loop
-same-name-requires c κs = search needs
-
 returns : tie.Need-returns Inv-loop μ-loop
 returns c =
     let l = c .before .before .before .before .before .before .before .loop in
@@ -53,18 +30,6 @@ returns c =
     ∙ found _ _ _ _ (l .inv .1 .0) (omega arith) _
     (sym (c .before .before .before .before .ends-name .ensures) ∙ c .before .before .before .if1 .taken)
     (sym (c .before .same-name .ensures) ∙ c .if2 .taken))
-
-add-from : tie.Need-add-from Inv-loop μ-loop
-add-from c = search needs
-
-next-code-requires : tie.Need-next-code-requires Inv-loop μ-loop
-next-code-requires c κs = search needs
-
-add-k : tie.Need-add-k Inv-loop μ-loop
-add-k c = search needs
-
-loop-less : tie.Need-loop-less Inv-loop μ-loop
-loop-less c = search needs
 
 loop-again : tie.Need-loop-again Inv-loop μ-loop
 loop-again c =
@@ -92,16 +57,16 @@ find-spec =
     Inv-loop
     μ-loop
     loop-holds
-    shared-slice-read-b
-    ends-name-requires
-    sub-same-name
-    part-same-name-start
-    part-same-name-end
-    same-name-requires
+    (λ c. search needs)
+    (λ c κs. search needs)
+    (λ c. search needs)
+    (λ c. search needs)
+    (λ c. search needs)
+    (λ c κs. search needs)
     returns
-    add-from
-    next-code-requires
-    add-k
-    loop-less
+    (λ c. search needs)
+    (λ c κs. search needs)
+    (λ c. search needs)
+    (λ c. search needs)
     loop-again
     returns-2)

@@ -5,9 +5,6 @@ use Rattle.names.specs.Table.{nextCode}
 use Rattle.names.proofs.table.next_code.Statement.{statement}
 use Rattle.names.proofs.table.next_code.Tie as tie
 
-add-result : tie.Need-add-result
-add-result c = search needs
-
 returns : tie.Need-returns
 unfolding nextCode
 returns c = simp (eq-eqb _ _ (c .if1 .taken))
@@ -17,4 +14,4 @@ unfolding nextCode
 returns-2 c = simp (ne-eqb _ _ (c .if1 .left))
 
 pub next-code-spec : {M : Type 1} → statement M
-next-code-spec = tie.close (tie.spec add-result returns returns-2)
+next-code-spec = tie.close (tie.spec (λ c. search needs) returns returns-2)

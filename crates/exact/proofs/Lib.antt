@@ -21,6 +21,7 @@ pub mod Order
 pub mod Overflow
 pub mod OwnValue
 pub mod Pattern
+pub mod PatternOrder
 pub mod Patterns
 pub mod Products
 pub mod Quotients

@@ -1,5 +1,6 @@
 -- The laws of the number tools, a file for each subject. Other crates cite the `..Laws`.
 pub mod BytesLaws
+pub mod BytesParts
 pub mod FloatBits
 pub mod FloatBytes
 pub mod FloorCode
@@ -8,6 +9,7 @@ pub mod FloorNear
 pub mod FloorRound
 pub mod FloorValue
 pub mod MagnitudeLaws
+pub mod MagnitudeTests
 pub mod NarrowBits
 pub mod NarrowLaws
 pub mod NarrowLow

@@ -1,8 +1,8 @@
 -- Bounds as closed fractions: a bound b / d that is a power of two and an error e / g are checked against the format's unit by one computed
 -- test, so that a caller writes numbers and `tt`.
 -- Provides: `rounds-bound`, the law for both formats and every power of two; `rounds-unit` (what lies from 0 to 1 rounds so); and examples: `within64-14`,
--- `within32-0`, `third` (1 / 3 in f32), `one-third` (1 / -3 in f64). Assumes nothing.
-use mathlib.Core.Path.{_≡_, refl, ap}
+-- `within32-0`, `third` (1 / 3 in f32), `halfway`, `met` (the bound is reached), `one-third` (1 / -3 in f64). Assumes nothing.
+use mathlib.Core.Path.{_≡_, refl, sym, ap, subst}
 use mathlib.Core.Bool.{Bool, true, false, _&&_}
 use Prim.Native.Nat.{ℕ, _+_, _-_, _*_, _^_, _≤_, _<_}
 use native.Mathlib.Nat.{mul-pos, zero-lt-suc}
@@ -13,13 +13,13 @@ use lib.Pow.{pow-pos}
 use lib.Ieee.{Float, fin, Format, binary32, binary64, prec, emax, low, round, div, fits}
 use lib.Ieee.Scale.{finite}
 use lib.Ieee.Fits.{and-l, and-r}
-use Rattle.exact.specs.Fraction.{Fraction, frac, value, _≤F_, _<F_, _≈_, _/F_, absF, Within, Unit01}
-use Rattle.exact.specs.Rounds.{Rounds, Close, power, fine}
+use Rattle.exact.specs.Fraction.{Fraction, frac, value, _≤F_, _<F_, _≈_, _/F_, absF, distance, Within, Unit01}
+use Rattle.exact.specs.Rounds.{Rounds, Close, power, half-ulp, fine}
 use Rattle.exact.proofs.Near.{le-trans, eq-le, eq-sym}
 use Rattle.exact.proofs.Signed.{signed-le, signed-eq}
 use Rattle.exact.proofs.NearProducts.{abs-unit}
 use Rattle.exact.proofs.Rounds.{rounds-self, rounds-within}
-use Rattle.exact.proofs.Monotone.{rounds-nonneg, rounds-at-most, rounds-within-size}
+use Rattle.exact.proofs.Monotone.{rounds-nonneg, rounds-at-most, rounds-no-larger}
 use Rattle.exact.proofs.Steps.{close-more}
 use Rattle.exact.proofs.Operations.{div-rounds}
 
@@ -59,7 +59,7 @@ one-size = record { le = lit≤ tt }
 pub rounds-unit : {f : Format} {r : Float} {X : Fraction} → Rounds f r X → Unit01 X → T (finite r) × Unit01 (value r)
 rounds-unit {f} {r} {X} R h =
     let one = fin false 1 (pos 0) in
-    let t = rounds-within-size R one (one-fits f) tt (le-trans (absF X) (frac 1 1) (absF (frac 1 1)) (abs-unit X h) one-size) .0 in
+    let t = rounds-no-larger R one (one-fits f) tt (le-trans (absF X) (frac 1 1) (absF (frac 1 1)) (abs-unit X h) one-size) .0 in
     (t, (rounds-nonneg R t (h .0), rounds-at-most R one (one-fits f) tt t (h .1)))
 
 -- ---- examples
@@ -80,6 +80,15 @@ third = rounds-bound (rounds-self binary32 false 1 3 (zero-lt-suc 2)) 148 1 2 1 
 third-is : round binary32 false 1 3 ≡ fin false 11184811 (negsuc 24)
 unfolding round
 third-is = refl
+
+-- the bound is reached: 1 + 2 ^ -24 lies halfway between two f32, and goes to the even one, 1
+halfway : round binary32 false 16777217 16777216 ≡ fin false 1 (pos 0)
+unfolding round
+halfway = refl
+
+met : half-ulp binary32 150 ≤F distance (value (round binary32 false 16777217 16777216)) (frac 16777217 16777216)
+unfolding distance
+met = subst (λ (z : Float). half-ulp binary32 150 ≤F distance (value z) (frac 16777217 16777216)) (sym halfway) (record { le = lit≤ tt })
 
 -- an f64 quotient with a divisor below 0: 1 / -3
 abbrev one : Float

@@ -1,5 +1,5 @@
 -- Sizes: a fraction at a scale with one part 0 is a sign and a size, and then |x| ≤ b and, for one sign, |x - y| ≤ e are comparisons of sizes.
--- Provides: `at-same` (equal fractions stand alike at a scale); `Sized`, `sized-signed`, `sized-same`, `sized-more`; `size-le`, `le-size`; `abs-sized`, `abs-alike`;
+-- Provides: `at-same` (equal fractions stand alike at a scale); `Sized`, `sized-signed`, `sized-same`, `sized-more`, `sized-mul`; `size-le`, `le-size`; `abs-sized`, `abs-alike`;
 -- `sized-within`, `near-sized`. Assumes nothing.
 use mathlib.Core.Path.{_≡_, sym, ap, subst}
 use mathlib.Core.List.{[], _∷_}
@@ -8,9 +8,10 @@ use mathlib.Core.Bool.{Bool, true, false, cond}
 use Prim.Native.Nat.{ℕ, _+_, _*_, _≤_, _<_}
 use native.Mathlib.Nat.{eq-of-mul-eq-mul-right, mul-comm, mul-pos}
 use native.Mathlib.Omega.{arith}
-use Rattle.exact.specs.Fraction.{Fraction, over, _≤F_, _≈_, absF, Within}
+use lib.Ieee.{unlike}
+use Rattle.exact.specs.Fraction.{Fraction, over, _≤F_, _≈_, _*F_, absF, Within}
 use Rattle.exact.specs.Rounds.{signed}
-use Rattle.exact.proofs.Scale.{At, at-le, le-at, at-ratio, at-more, over-pos, common}
+use Rattle.exact.proofs.Scale.{At, at-le, le-at, at-ratio, at-mul, at-more, over-pos, common}
 use Rattle.exact.proofs.Near.{at-abs, at-within, le-refl}
 use Rattle.exact.proofs.NearProducts.{abs-at, at-abs-le}
 
@@ -47,6 +48,18 @@ sized-more false D a k {x} X = subst (λ (z : ℕ). At (D * k) x (a * k) z) (non
   where
     none : (k : ℕ) → 0 * k ≡ 0
     none k = omega arith
+
+pub sized-mul : (D E : ℕ) (s : Bool) (a : ℕ) (t : Bool) (b : ℕ) {x y : Fraction} → Sized D x s a → Sized E y t b → Sized (D * E) (x *F y) (unlike s t) (a * b)
+sized-mul D E s a t b {x} {y} X Y = go s t X Y
+  where
+    here : (p n q m : ℕ) → p ≡ q → n ≡ m → At (D * E) (x *F y) p n → At (D * E) (x *F y) q m
+    here p n q m e h Z = subst (λ (z : ℕ). At (D * E) (x *F y) z m) e (subst (λ (z : ℕ). At (D * E) (x *F y) p z) h Z)
+
+    go : (s t : Bool) → Sized D x s a → Sized E y t b → Sized (D * E) (x *F y) (unlike s t) (a * b)
+    go true true X Y = here (0 * 0 + a * b) (0 * b + a * 0) (a * b) 0 (omega arith) (omega arith) (at-mul X Y)
+    go true false X Y = here (0 * b + a * 0) (0 * 0 + a * b) 0 (a * b) (omega arith) (omega arith) (at-mul X Y)
+    go false true X Y = here (a * 0 + 0 * b) (a * b + 0 * 0) 0 (a * b) (omega arith) (omega arith) (at-mul X Y)
+    go false false X Y = here (a * b + 0 * 0) (a * 0 + 0 * b) (a * b) 0 (omega arith) (omega arith) (at-mul X Y)
 
 -- ---- the order of sizes
 module _ (D : ℕ) (D0 : 0 < D) {x y : Fraction} {a b : ℕ} (X : At D x a 0) (Y : At D y b 0) where

@@ -1,8 +1,8 @@
 -- Rounding keeps the order of exact fractions, both signs and both zeros included, and a float of the format is the rounding of itself. So a float
 -- bounds what rounds to it from the side on which it bounds the exact value, and a value that the format holds comes out unchanged.
--- Provides, of `Rounds f r X` with r finite: `rounds-mono`, `rounds-finite` (from a larger one's), `rounds-value` (one X, one value); `rounds-own`;
--- `rounds-at-most`, `rounds-at-least`, `rounds-exact` (against a float that fits), `rounds-fixed` (X is q 2 ^ j units), `rounds-nonneg`, `rounds-nonpos`,
--- `rounds-fits`. Assumes nothing.
+-- Provides, of `Rounds f r X`: `rounds-mono`, `rounds-abs`, `rounds-finite` (from a larger one's), `rounds-value` (one X, one value); `rounds-own`;
+-- `rounds-at-most`, `rounds-at-least`, `rounds-no-larger`, `rounds-exact` (against a float that fits); `rounds-fixed` (X is q 2 ^ j units); `rounds-nonneg`,
+-- `rounds-nonpos`, `rounds-fits`. Assumes nothing.
 use mathlib.Core.Path.{_≡_, refl, sym, ap, _∙_, subst}
 use mathlib.Core.Bool.{Bool, true, false, cond}
 use Prim.Native.Nat.{ℕ, _*_, _^_, _≤_, _<_}
@@ -133,8 +133,8 @@ module _ {f : Format} {r : Float} {X : Fraction} (R : Rounds f r X) (y : Float) 
   pub rounds-at-least : T (finite r) → value y ≤F X → value y ≤F value r
   rounds-at-least t h = rounds-mono (rounds-own f y p u) R u t h
 
-  pub rounds-within-size : absF X ≤F absF (value y) → T (finite r) × (absF (value r) ≤F absF (value y))
-  rounds-within-size h = let t = rounds-finite R (rounds-own f y p u) u h in (t, rounds-abs R (rounds-own f y p u) t u h)
+  pub rounds-no-larger : absF X ≤F absF (value y) → T (finite r) × (absF (value r) ≤F absF (value y))
+  rounds-no-larger h = let t = rounds-finite R (rounds-own f y p u) u h in (t, rounds-abs R (rounds-own f y p u) t u h)
 
   pub rounds-exact : X ≈ value y → T (finite r) × (value r ≈ value y)
   rounds-exact e =

@@ -15,16 +15,19 @@ use lib.Ieee.Fits.{down-pos}
 use lib.Ieee.Scale.{finite}
 use Rattle.exact.specs.Fraction.{Fraction, frac, whole, value, _≤F_, _<F_, _≈_, negF, _+F_, _-F_, _*F_, _/F_, absF}
 use Rattle.exact.specs.Rounds.{Rounds, Close, power, half-ulp}
-use Rattle.exact.proofs.Scale.{At, lt-at, at-eq, at-add, at-mul}
+use Rattle.exact.proofs.Scale.{At, lt-at, at-eq, at-add}
 use Rattle.exact.proofs.Near.{add-same}
 use Rattle.exact.proofs.Signed.{has-value, has-finite, finite-both, neg-value, neg-finite}
-use Rattle.exact.proofs.Magnitude.{Sized, sized-signed, sized-more, abs-sized}
+use Rattle.exact.proofs.Magnitude.{Sized, sized-signed, sized-more, sized-mul, abs-sized}
 use Rattle.exact.proofs.Quotients.{at-div, at-div-neg}
 use Rattle.exact.proofs.Rounds.{rounds-self, rounds-along, rounds-within}
 
 -- ---- what `round` is handed, against the exact result at its scale
 of-round : (f : Format) (s : Bool) (a c : ℕ) → 0 < c → {Z : Fraction} (p n : ℕ) → At c Z p n → cond s 0 a + n ≡ p + cond s a 0 → Rounds f (round f s a c) Z
 of-round f s a c C p n Z e = record { sign = s; num = a; den = c; den-pos = C; is = refl; exact = at-eq c C (sized-signed s a c C) Z e }
+
+of-sized : (f : Format) (s : Bool) (a c : ℕ) → 0 < c → {Z : Fraction} → Sized c Z s a → Rounds f (round f s a c) Z
+of-sized f s a c C Z = of-round f s a c C (cond s 0 a) (cond s a 0) Z refl
 
 -- ---- the sum
 sum-rounds : (f : Format) (s : Bool) (a : ℕ) (t : Bool) (b c : ℕ) → 0 < c → {x y : Fraction} → Sized c x s a → Sized c y t b → Rounds f (sum f s a t b c) (x +F y)
@@ -66,15 +69,9 @@ sub-rounds f x y p q =
     rounds-along (add-same (value x) (value x) (value (neg y)) (negF (value y)) (record { eq = refl }) (neg-value y)) (add-rounds f x (neg y) p (neg-finite y q))
 
 -- ---- the product
-product-rounds : (f : Format) (s : Bool) (a c : ℕ) (t : Bool) (b d : ℕ) → 0 < c → 0 < d → {x y : Fraction} → Sized c x s a → Sized d y t b → Rounds f (round f (unlike s t) (a * b) (c * d)) (x *F y)
-product-rounds f true a c true b d C D X Y = of-round f false (a * b) (c * d) (mul-pos C D) (0 * 0 + a * b) (0 * b + a * 0) (at-mul X Y) (omega arith)
-product-rounds f true a c false b d C D X Y = of-round f true (a * b) (c * d) (mul-pos C D) (0 * b + a * 0) (0 * 0 + a * b) (at-mul X Y) (omega arith)
-product-rounds f false a c true b d C D X Y = of-round f true (a * b) (c * d) (mul-pos C D) (a * 0 + 0 * b) (a * b + 0 * 0) (at-mul X Y) (omega arith)
-product-rounds f false a c false b d C D X Y = of-round f false (a * b) (c * d) (mul-pos C D) (a * b + 0 * 0) (a * 0 + 0 * b) (at-mul X Y) (omega arith)
-
 pub mul-rounds : (f : Format) (x y : Float) → T (finite x) → T (finite y) → Rounds f (mul f x y) (value x *F value y)
 unfolding mul
-mul-rounds f = finite-both (λ x y. Rounds f (mul f x y) (value x *F value y)) (λ s m e t n d. product-rounds f s (m * up e) (down e) t (n * up d) (down d) (down-pos e) (down-pos d) (own s m e) (own t n d))
+mul-rounds f = finite-both (λ x y. Rounds f (mul f x y) (value x *F value y)) (λ s m e t n d. of-sized f (unlike s t) (m * up e * (n * up d)) (down e * down d) (mul-pos (down-pos e) (down-pos d)) (sized-mul (down e) (down d) s (m * up e) t (n * up d) (own s m e) (own t n d)))
 
 -- ---- the quotient
 quotient-rounds : (f : Format) (s : Bool) (a : ℕ) (t : Bool) (b D : ℕ) → 0 < b → {x y : Fraction} → Sized D x s a → Sized D y t b → Rounds f (round f (unlike s t) a b) (x /F y)
@@ -84,10 +81,10 @@ quotient-rounds f s a t b D B {x} {y} X Y = go s t X Y
     plain p n Z = subst (λ (z : ℕ). At z (x /F y) p n) (sub-zero b) Z
 
     go : (s t : Bool) → Sized D x s a → Sized D y t b → Rounds f (round f (unlike s t) a b) (x /F y)
-    go true true X Y = of-round f false a b B a 0 (plain a 0 (at-div-neg X Y B)) refl
-    go false true X Y = of-round f true a b B 0 a (plain 0 a (at-div-neg X Y B)) refl
-    go true false X Y = of-round f true a b B 0 a (plain 0 a (at-div X Y B)) refl
-    go false false X Y = of-round f false a b B a 0 (plain a 0 (at-div X Y B)) refl
+    go true true X Y = of-sized f false a b B (plain a 0 (at-div-neg X Y B))
+    go false true X Y = of-sized f true a b B (plain 0 a (at-div-neg X Y B))
+    go true false X Y = of-sized f true a b B (plain 0 a (at-div X Y B))
+    go false false X Y = of-sized f false a b B (plain a 0 (at-div X Y B))
 
 -- a divisor that is not 0 has digits
 digits : (t : Bool) (n : ℕ) (d : ℤ) → frac 0 1 <F absF (value (fin t n d)) → 0 < n * up d

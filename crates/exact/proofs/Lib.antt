@@ -25,6 +25,7 @@ pub mod PatternOrder
 pub mod Patterns
 pub mod Products
 pub mod Quotients
+pub mod Relative
 pub mod Rounded
 pub mod Rounding
 pub mod Rounds

@@ -13,7 +13,7 @@ use lib.Pow.{pow-pos, pow-lt}
 use lib.Ieee.{Float, Format, prec, emax, low, round}
 use lib.Ieee.Scale.{grid, finite}
 use Rattle.exact.specs.Fraction.{Fraction, frac, value, _≤F_, _≈_, _+F_, _*F_, absF, Within}
-use Rattle.exact.specs.Rounds.{signed, Rounds, Close, power, half-ulp}
+use Rattle.exact.specs.Rounds.{signed, Rounds, Close, least-normal, power, half-ulp}
 use Rattle.exact.proofs.Scale.{At, at-ratio, at-add, at-mul, at-more}
 use Rattle.exact.proofs.Near.{eq-trans}
 use Rattle.exact.proofs.Ulp.{grid-under, grid-sharp, grid-relative, grid-normal}
@@ -112,7 +112,7 @@ module _ (f : Format) (s : Bool) (a c : ℕ) (C : 0 < c) (X : Fraction) (x : sig
       near-sized s (2 ^ low f) (grid f a c) c a (2 ^ (prec f - 1) * 2) (a * 2 ^ low f + 2 ^ (prec f - 1) * c) (pow-pos (low f)) C (mul-pos (pow-pos (prec f - 1)) (zero-lt-suc 1))
       (round-sized f s a c t) sized (at-add share half-unit) (w .0) (w .1)
 
-  pub round-normal : T (finite (round f s a c)) → frac (2 ^ (prec f - 1)) (2 ^ low f) ≤F absF X → Within (value (round f s a c)) X (absF X *F frac 1 (2 ^ prec f))
+  pub round-normal : T (finite (round f s a c)) → least-normal f ≤F absF X → Within (value (round f s a c)) X (absF X *F frac 1 (2 ^ prec f))
   round-normal t h =
       let w = grid-normal (prec f) (a * 2 ^ low f) c (prec-pos f) C from in
       near-sized s (2 ^ low f) (grid f a c) c a (2 ^ (prec f - 1) * 2) (a * 2 ^ low f) (pow-pos (low f)) C (mul-pos (pow-pos (prec f - 1)) (zero-lt-suc 1))
@@ -135,7 +135,7 @@ module _ {f : Format} {r : Float} {X : Fraction} (R : Rounds f r X) where
       subst (λ (z : Float). Within (value z) X (absF X *F frac 1 (2 ^ prec f) +F frac 1 (2 ^ low f * 2))) (sym (R .is))
       (round-relative f (R .sign) (R .num) (R .den) (R .den-pos) X (R .exact) (subst (λ (z : Float). T (finite z)) (R .is) t))
 
-  pub rounds-normal : T (finite r) → frac (2 ^ (prec f - 1)) (2 ^ low f) ≤F absF X → Within (value r) X (absF X *F frac 1 (2 ^ prec f))
+  pub rounds-normal : T (finite r) → least-normal f ≤F absF X → Within (value r) X (absF X *F frac 1 (2 ^ prec f))
   rounds-normal t h =
       subst (λ (z : Float). Within (value z) X (absF X *F frac 1 (2 ^ prec f))) (sym (R .is))
       (round-normal f (R .sign) (R .num) (R .den) (R .den-pos) X (R .exact) (subst (λ (z : Float). T (finite z)) (R .is) t) h)

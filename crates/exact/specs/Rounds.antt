@@ -6,7 +6,7 @@ use mathlib.Core.Bool.{Bool, _&&_, cond}
 use lib.Dec.{T, leb, ltb, eqb}
 use lib.Ieee.{Float, Format, prec, emax, low, round}
 use lib.Ieee.Scale.{finite}
-use Rattle.exact.specs.Fraction.{Fraction, ratio, frac, value, _≤F_, _≈_, absF, Within}
+use Rattle.exact.specs.Fraction.{Fraction, ratio, frac, value, _≤F_, _≈_, _*F_, absF, Within}
 
 -- a / c with its sign, for a c above 0
 abbrev pub signed : Bool → ℕ → ℕ → Fraction
@@ -26,6 +26,15 @@ pub record Close (r : Float) (X e b : Fraction) : Type 0 where
   pub number : T (finite r)
   pub near : Within (value r) X e
   pub small : absF (value r) ≤F b
+
+-- r is a number, and k 2 ^ -prec of X's size at most away from X
+pub record Relative (f : Format) (r : Float) (X : Fraction) (k : ℕ) : Type 0 where
+  pub number : T (finite r)
+  pub near : Within (value r) X (absF X *F frac k (2 ^ prec f))
+
+-- the least size with all the digits that the format keeps: 2 ^ (prec - 1) of its smallest values
+abbrev pub least-normal : Format → Fraction
+least-normal f = frac (2 ^ (prec f - 1)) (2 ^ low f)
 
 -- 2 ^ K of the format's smallest values, and half an ulp of the numbers below it
 abbrev pub power : Format → ℕ → Fraction

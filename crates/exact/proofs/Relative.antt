@@ -1,14 +1,15 @@
 -- Relative errors, in multiples of u = 2 ^ -prec: a product's is the sum of its factors' and a little more, whatever the sizes, as long as the product
 -- stays in the normal range: (1 + k u) (1 + l u) (1 + u) is at most 1 + (k + l + 2) u while (k + 1) (l + 1) is at most 2 ^ prec.
--- Provides: `relative-own`, `relative-more`, `rounds-share` (one rounding is k = 1), `relative-mul`, `relative-close` (from a size to `Close`). Assumes nothing.
+-- Provides: `relative-own`, `relative-more`, `rounds-share` (one rounding is k = 1), `relative-mul`, `relative-close` (from a size to `Close`); an example, `square`. Assumes nothing.
 use mathlib.Core.Path.{_≡_, sym, ap, _∙_, subst}
 use mathlib.Core.Bool.{Bool, true, false, not, cond}
 use Prim.Native.Nat.{ℕ, suc, _+_, _-_, _*_, _^_, _≤_, _<_, zero-le}
 use native.Mathlib.Nat.{mul-pos, le-of-lt, mul-le-mul-right}
 use native.Mathlib.Omega.{arith}
-use lib.Dec.{T, leb, leb→le, nleb→lt}
+use lib.IntN.{negsuc}
+use lib.Dec.{T, leb, leb→le, nleb→lt, lit≤}
 use lib.Pow.{pow-pos}
-use lib.Ieee.{Float, Format, prec, unlike, mul}
+use lib.Ieee.{Float, fin, Format, binary64, prec, unlike, mul}
 use lib.Ieee.Scale.{finite}
 use Rattle.exact.specs.Fraction.{Fraction, over, frac, value, _≤F_, _+F_, _*F_, absF}
 use Rattle.exact.specs.Rounds.{Rounds, Close, Relative, least-normal}
@@ -161,3 +162,15 @@ module _ {f : Format} {x : Float} {X : Fraction} {k : ℕ} (p : Relative f x X k
           (abs-sized (over Y) (over-pos Y) (negative Y) (size-of Y) (own-sized Y))
           (abs-sized (over X * over Y) (mul-pos D (over-pos Y)) (unlike (negative X) (negative Y)) (size-of X * size-of Y)
           (sized-mul (over X) (over Y) (negative X) (size-of X) (negative Y) (size-of Y) (own-sized X) (own-sized Y))) few
+
+-- ---- an example: 1.5 squared, in f64
+abbrev x : Float
+x = fin false 3 (negsuc 0)
+
+in-range : least-normal binary64 ≤F absF (value x *F value x)
+unfolding absF _*F_
+in-range = record { le = lit≤ tt }
+
+square : Relative binary64 (mul binary64 x x) (value x *F value x) 2
+unfolding mul
+square = relative-mul (relative-own binary64 x tt) (relative-own binary64 x tt) (lit≤ tt) tt in-range

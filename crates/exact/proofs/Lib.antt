@@ -1,3 +1,4 @@
 -- The laws, each file under its subject.
 pub mod Loop
+pub mod Pattern
 pub mod Value

@@ -56,7 +56,9 @@ fn exponent(bits: u64) -> u64 {
 
 // Close to the root of x: 1 / √x from the bit pattern within 4%, then by a polynomial within 2^-30, then one
 // step of Newton's method.
-fn guess(x: f64, bits: u64) -> f64 {
+fn guess(x: f64, bits: u64) -> f64
+    requires { ⌜ bits < 0x7ff0_0000_0000_0000 ⌝ }
+{
     let y = f64::from_bits(0x5fe6_b000_0000_0000 - bits / 2);
     let z = x * y;
     let w = z * y;

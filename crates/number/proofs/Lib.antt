@@ -1,0 +1,4 @@
+-- The laws of the number tools' definitions, each file under its subject.
+pub mod RootWhole
+mod RootDigits
+mod RootExcess

@@ -1,4 +1,5 @@
 -- The laws, each file under its subject.
 pub mod Loop
 pub mod Pattern
+pub mod Units
 pub mod Value

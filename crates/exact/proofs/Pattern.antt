@@ -2,13 +2,18 @@
 -- power of two, in units of 2 ^ -1074. Read off `ofBits` field by field. Assumes nothing.
 use mathlib.Core.Path.{_≡_, refl, sym, ap, _∙_, subst}
 use Prim.Native.Nat.{ℕ, zero, suc, _+_, _-_, _*_, _/_, _%_, _^_, _≤_, _<_}
-use native.Mathlib.Nat.{mul-one, mod-eq-of-lt, not-le-of-lt}
+use native.Mathlib.Nat.{mul-one, mod-eq-of-lt, not-le-of-lt, lt-of-lt-of-le}
 use native.Mathlib.Omega.{arith}
-use mathlib.Core.Bool.{Bool, false, not, cond}
-use lib.Dec.{T, leb, ltb, eqb, leb→le, ltb→lt, eqb→eq, not-T}
-use lib.Ieee.{Float, nan, inf, binary64, odd, ofFields, ofBits, nanBits}
+use mathlib.Core.Bool.{Bool, true, false, not, cond}
+use lib.Dec.{T, leb, ltb, eqb, leb→le, ltb→lt, nltb→le, eqb→eq, not-T, lit≤}
+use lib.Pow.{pow-mono, shl-lt}
+use lib.IntN.{ℤ}
+use lib.Ieee.{Float, nan, inf, fin, binary64, up, down, size, odd, fits, ofFields, ofBits, nanBits, toBits}
 use lib.Ieee.Bits.{is-false, cond-no, nanBits-above}
+use lib.Ieee.Digits.{size-le}
+use lib.Ieee.Fits.{kept-lt}
 use lib.Ieee.Exact.{HasValue, odd-sign}
+use Rattle.exact.proofs.Units.{Units, units, count}
 
 -- 9218868437227405312 is 2047 * 2 ^ 52, the pattern of the infinity
 below-top : (b : ℕ) → b < 9218868437227405312 → b < 2 ^ 63
@@ -81,3 +86,62 @@ normal-value q e lo hi h =
 
     digits : (q e : ℕ) → 4503599627370496 ≤ q → q < 9007199254740992 → 4503599627370496 + (e * 4503599627370496 + q) % 4503599627370496 ≡ q
     digits q e lo hi = omega arith
+
+-- ---- both at once: the digits and the place, by the code's own tests
+abbrev pub digitsOf : ℕ → ℕ
+digitsOf b = cond (ltb b 4503599627370496) b (b % 4503599627370496 + 4503599627370496)
+
+abbrev pub placeOf : ℕ → ℕ
+placeOf b = cond (ltb b 4503599627370496) 0 (b / 4503599627370496 - 1)
+
+pub pattern-units : (b : ℕ) → b < 9218868437227405312 → Units (ofBits binary64 b) false (digitsOf b) (placeOf b)
+pattern-units b h = go (ltb b 4503599627370496) (ltb→lt b 4503599627370496) (nltb→le b 4503599627370496)
+  where
+    whole : (b : ℕ) → 4503599627370496 ≤ b → (b / 4503599627370496 - 1) * 4503599627370496 + (b % 4503599627370496 + 4503599627370496) ≡ b
+    whole b h = omega arith
+
+    place-lt : (b : ℕ) → b < 9218868437227405312 → b / 4503599627370496 - 1 < 2046
+    place-lt b h = omega arith
+
+    place-room : (b : ℕ) → b < 9218868437227405312 → 53 + (b / 4503599627370496 - 1) ≤ 2098
+    place-room b h = omega arith
+
+    digits-lt : (b : ℕ) → b % 4503599627370496 + 4503599627370496 < 9007199254740992
+    digits-lt b = omega arith
+
+    digits-ge : (b : ℕ) → 4503599627370496 ≤ b % 4503599627370496 + 4503599627370496
+    digits-ge b = omega arith
+
+    twice : (b : ℕ) → b < 4503599627370496 → b < 2 ^ 53
+    twice b h = omega arith
+
+    go : (t : Bool) → (T t → b < 4503599627370496) → (T (not t) → 4503599627370496 ≤ b)
+        → Units (ofBits binary64 b) false (cond t b (b % 4503599627370496 + 4503599627370496)) (cond t 0 (b / 4503599627370496 - 1))
+    go true y n = record {
+      short = twice b (y tt);
+      under = lt-of-lt-of-le (shl-lt 53 0 (twice b (y tt))) (lit≤ tt);
+      value = subst (λ (z : ℕ). HasValue (ofBits binary64 b) false z (2 ^ 1074)) (sym (mul-one b)) (subnormal-value b (y tt));
+    }
+    go false y n =
+        let q = b % 4503599627370496 + 4503599627370496 in
+        let e = b / 4503599627370496 - 1 in
+        record {
+          short = digits-lt b;
+          under = lt-of-lt-of-le (shl-lt 53 e (digits-lt b)) (pow-mono (place-room b h));
+          value = subst (λ (z : ℕ). HasValue (ofBits binary64 z) false (q * 2 ^ e) (2 ^ 1074)) (whole b (n tt)) (normal-value q e (digits-ge b) (digits-lt b) (place-lt b h));
+        }
+
+-- ---- and a finite f64 that is not negative has such a pattern
+written : (m : ℕ) (e : ℤ) (n : ℕ) → m * up e * 2 ^ 1074 / down e ≡ n → toBits binary64 (fin false m e) ≡ 0 + (size n - 53) * 4503599627370496 + n / 2 ^ (size n - 53)
+unfolding toBits
+written m e n h = ap (λ (z : ℕ). 0 + (size z - 53) * 4503599627370496 + z / 2 ^ (size z - 53)) h
+
+pub finite-bits : (m : ℕ) (e : ℤ) → T (fits binary64 (fin false m e)) → toBits binary64 (fin false m e) < 9218868437227405312
+finite-bits m e t =
+    let u = units false m e t in
+    let n = m * 2 ^ (u .0) in
+    subst (λ (z : ℕ). z < 9218868437227405312) (sym (written m e n (count false false m e n (u .1 .value))))
+    (room (size n) (n / 2 ^ (size n - 53)) (size-le n 2098 (u .1 .under)) (kept-lt 53 n))
+  where
+    room : (z t : ℕ) → z ≤ 2098 → t < 2 ^ 53 → 0 + (z - 53) * 4503599627370496 + t < 9218868437227405312
+    room z t h k = omega arith

@@ -2,3 +2,7 @@
 pub mod RootWhole
 mod RootDigits
 mod RootExcess
+mod RootScale
+mod RootValue
+mod RootPositive
+mod RootCases

@@ -3,8 +3,11 @@
 // by digit. So the answer does not rest on how good the guess is.
 ghost use mathlib.Core.Path.{_≡_};
 ghost use mathlib.Core.Logic.{_⊎_};
+ghost use mathlib.Core.Bool.{cond};
 ghost use Prim.Native.Nat.{_+_, _-_, _*_, _/_, _%_, _^_, _≤_, _<_};
-ghost use lib.Ieee.{size};
+ghost use lib.Dec.{T, ltb};
+ghost use lib.Ieee.{binary64, toBits};
+ghost use lib.Ieee.Positive as Positive;
 ghost use Rattle.number.specs.Root.{nearestRoot};
 ghost use Rattle.number.specs.Root as Root;
 
@@ -31,7 +34,10 @@ pub fn root(x: f64) -> f64
 // The root of x, which is finite and above 0. Its significand m is moved up by its leading zeros, and once
 // more where the exponent would be odd: then x is n * 2^52 * 4^(half - 589), the root's significand is the
 // nearest root of n * 2^52, and its exponent is half.
-fn positive(x: f64, bits: u64) -> f64 {
+fn positive(x: f64, bits: u64) -> f64
+    requires { ⌜ T (Positive.positive x) × (bits ≡ toBits binary64 x) × (bits < 0x7ff0_0000_0000_0000) ⌝ }
+    ensures { λ r. ⌜ r ≡ Root.root x ⌝ }
+{
     let m = significand(bits);
     let zeros = u64::leading_zeros(m) as u64;
     let lead = exponent(bits) + (63 - zeros);
@@ -42,7 +48,9 @@ fn positive(x: f64, bits: u64) -> f64 {
 }
 
 // The digits of a finite f64 above 0, the leading one with them, and how many places they stand above 2^-1074.
-fn significand(bits: u64) -> u64 {
+fn significand(bits: u64) -> u64
+    ensures { λ r. ⌜ r ≡ cond (ltb bits (2 ^ 52)) bits (bits % 2 ^ 52 + 2 ^ 52) ⌝ }
+{
     if bits < DIGITS {
         bits
     } else {
@@ -50,7 +58,9 @@ fn significand(bits: u64) -> u64 {
     }
 }
 
-fn exponent(bits: u64) -> u64 {
+fn exponent(bits: u64) -> u64
+    ensures { λ r. ⌜ r ≡ cond (ltb bits (2 ^ 52)) 0 (bits / 2 ^ 52 - 1) ⌝ }
+{
     if bits < DIGITS { 0 } else { bits / DIGITS - 1 }
 }
 

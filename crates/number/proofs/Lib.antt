@@ -1,7 +1,7 @@
 -- The laws of the number tools' definitions, each file under its subject.
 pub mod RootWhole
 mod RootDigits
-mod RootExcess
+mod RootSettle
 mod RootScale
 mod RootValue
 mod RootPositive

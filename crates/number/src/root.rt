@@ -1,9 +1,8 @@
 // The square root, rounded to the nearest f64, for every f64. A guess by float arithmetic, of which nothing
-// is proved, is settled by an exact test on whole numbers; where the test fails, the root is worked out digit
-// by digit. So the answer does not rest on how good the guess is.
+// is proved, is settled by an exact test on whole numbers; where no test passes, the root is worked out digit
+// by digit. So the answer does not rest on how good the guess is, only the time does.
 ghost use mathlib.Core.Path.{_≡_};
-ghost use mathlib.Core.Logic.{_⊎_};
-ghost use mathlib.Core.Bool.{cond};
+ghost use mathlib.Core.Bool.{true, cond};
 ghost use Prim.Native.Nat.{_+_, _-_, _*_, _/_, _%_, _^_, _≤_, _<_};
 ghost use lib.Dec.{T, ltb};
 ghost use lib.Ieee.{binary64, toBits};
@@ -64,8 +63,8 @@ fn exponent(bits: u64) -> u64
     if bits < DIGITS { 0 } else { bits / DIGITS - 1 }
 }
 
-// Close to the root of x: 1 / √x from the bit pattern within 4%, then by a polynomial within 2^-30, then one
-// step of Newton's method.
+// Close to the root of x: 1 / √x from the bit pattern within 4%, then by a polynomial within 2^-30; the root g
+// from that, cut to its leading digits so that their square is exact, and a step from there.
 fn guess(x: f64, bits: u64) -> f64
     requires { ⌜ bits < 0x7ff0_0000_0000_0000 ⌝ }
 {
@@ -78,10 +77,14 @@ fn guess(x: f64, bits: u64) -> f64
             * ((5.678322318750966 - 4.130854046499399 * w)
                 + w2 * (1.6354015370325001 - 0.27231693469857376 * w));
     let g = z * p;
-    g + (x - g * g) * (0.5 * y * p)
+    let t = g * 134217729.0;
+    let top = t - (t - g);
+    let half = 0.5 * y * p;
+    let d = (x - top * top) * half;
+    top + (d + d * d * half)
 }
 
-// The whole number nearest to the root of n * 2^52, by the digits of the guess.
+// The whole number nearest to the root of n * 2^52: the digits of the guess or a neighbour, else by digits.
 fn nearest(n: u64, g: f64) -> u64
     requires { ⌜ (2 ^ 52 ≤ n) × (n < 2 ^ 54) ⌝ }
     ensures { λ r. ⌜ r ≡ nearestRoot (n * 2 ^ 52) ⌝ }
@@ -90,50 +93,49 @@ fn nearest(n: u64, g: f64) -> u64
         return by_digits(n);
     }
     let q = f64::to_bits(g) % DIGITS + DIGITS;
-    let e = excess(n, q);
-    if e > 7 * q + 2 {
-        by_digits(n)
-    } else if e > 5 * q {
-        q + 1
-    } else if e > 3 * q {
-        q
-    } else if e > q + 2 {
-        q - 1
-    } else {
-        by_digits(n)
+    if settles(n, q) {
+        return q;
     }
+    if settles(n, q + 1) {
+        return q + 1;
+    }
+    if settles(n, q - 1) {
+        return q - 1;
+    }
+    by_digits(n)
 }
 
-// n * 2^52 + 4 * q - q * q where that is above 0 and not too large for the steps here, and 0 otherwise.
-// With q = h * 2^27 + l it is ((n - 4 * h * h) * 2^24 + 2 * h - h * l) * 2^28 + 4 * l - l * l.
-fn excess(n: u64, q: u64) -> u64
-    requires { ⌜ (n < 2 ^ 54) × (q < 2 ^ 53) ⌝ }
-    ensures { λ r. ⌜ (r ≡ 0) ⊎ (r + q * q ≡ n * 2 ^ 52 + 4 * q) ⌝ }
+// Whether q is that number: whether t = n * 2^52 + q - q * q is above 0 and at most 2 * q, which says that the
+// root lies between q - 1/2 and q + 1/2. With q = h * 2^27 + l, t is ((n - 4 * h * h) * 2^25 + h - 2 * h * l) * 2^27
+// + l - l * l, and each step is small where q is right, so that 64 bits do.
+fn settles(n: u64, q: u64) -> bool
+    requires { ⌜ (2 ^ 52 ≤ n) × (n < 2 ^ 54) × (q ≤ 2 ^ 53) ⌝ }
+    ensures { λ r. ⌜ (r ≡ true → q ≡ nearestRoot (n * 2 ^ 52)) ⌝ }
 {
     let h = q / HALF;
     let l = q % HALF;
     let square = 4 * h * h;
     if square > n {
-        return 0;
+        return false;
     }
     let d = n - square;
     if d >= 0x4000_0000 {
-        return 0;
+        return false;
     }
-    let up = d * 0x100_0000 + 2 * h;
-    let cross = h * l;
+    let up = d * 0x200_0000 + h;
+    let cross = h * (2 * l);
     if cross > up {
-        return 0;
+        return false;
     }
     let f = up - cross;
-    if f >= 0x8_0000_0000 {
-        return 0;
+    if f >= 0x4000_0000 {
+        return false;
     }
-    let last = f * 0x1000_0000 + 4 * l;
-    if l * l > last {
-        return 0;
+    let last = f * HALF + l;
+    if l * l >= last {
+        return false;
     }
-    last - l * l
+    last - l * l <= 2 * q
 }
 
 // The same root, two binary digits of n * 2^52 a turn, from the top: s is the whole root of the digits taken

@@ -6,3 +6,5 @@ mod RootScale
 mod RootValue
 mod RootPositive
 mod RootCases
+mod RootNear
+pub mod RootLaws

@@ -1,9 +1,10 @@
 -- The square root, rounded to the nearest f64 by whole numbers alone: the definition that the code of src/root.rt equals.
 -- No tie can occur, so none is broken here (proofs/RootLaws.antt). Assumes nothing.
-use Prim.Native.Nat.{ℕ, zero, suc, _+_, _-_, _*_, _/_, _^_}
+use Prim.Native.Nat.{ℕ, zero, suc, _+_, _-_, _*_, _/_, _^_, _<_}
 use mathlib.Core.Bool.{Bool, true, false, cond}
 use lib.Dec.{leb, ltb}
 use lib.Ieee.{Float, nan, inf, fin, binary64, up, down, size, round}
+use lib.Ieee.Positive.{num, den}
 
 -- The whole part s of the square root of a, for an a of at most k pairs of binary digits: s * s ≤ a < (s + 1) * (s + 1).
 -- It is twice the root of a without its last pair, or one more where the square of that is still at most a.
@@ -33,3 +34,18 @@ root (inf false) = inf false
 root (fin s zero e) = fin s zero e
 root (fin true (suc m) e) = nan
 root (fin false (suc m) e) = rootOf (suc m * up e * 2 ^ 1074 / down e)
+
+-- ---- the words of the theorems about it
+-- finite, with the sign clear
+abbrev pub unsigned : Float → Bool
+unsigned nan = false
+unsigned (inf s) = false
+unsigned (fin true m e) = false
+unsigned (fin false m e) = true
+
+-- ((y + r) / 2)² < x, and x < ((y + r) / 2)², for such numbers, each the fraction num / den
+abbrev pub MidpointUnder : Float → Float → Float → Type 0
+MidpointUnder y r x = (num y * den r + num r * den y) * (num y * den r + num r * den y) * den x < num x * (2 * (den y * den r)) * (2 * (den y * den r))
+
+abbrev pub MidpointOver : Float → Float → Float → Type 0
+MidpointOver y r x = num x * (2 * (den y * den r)) * (2 * (den y * den r)) < (num y * den r + num r * den y) * (num y * den r + num r * den y) * den x

@@ -1,14 +1,13 @@
 -- Finite floats that are not negative, compared as fractions and as whole numbers of one small unit 1 / w: their order, and on which side of x the square
 -- of r, or of the midpoint of y and r, lies, are those of the numbers of units. All by multiplying out. Assumes nothing.
-use mathlib.Core.Path.{_≡_, refl, sym, ap, ap₂, _∙_, subst}
+use mathlib.Core.Path.{_≡_, sym, ap, ap₂, _∙_, subst}
 use Prim.Native.Nat.{ℕ, _+_, _*_, _≤_, _<_}
-use native.Mathlib.Nat.{le-trans, le-of-eq, lt-of-mul-lt-mul-right, le-of-mul-le-mul-right, mul-lt-mul-of-pos-right, mul-le-mul-right, mul-pos, mul-assoc, mul-comm, mul-left-comm, mul-right-comm, add-mul}
+use native.Mathlib.Nat.{le-trans, le-of-eq, lt-of-mul-lt-mul-right, le-of-mul-le-mul-right, mul-lt-mul-of-pos-right, mul-le-mul-right, mul-pos, mul-assoc, mul-comm, mul-right-comm, add-mul}
 use native.Mathlib.Omega.{arith}
 use mathlib.Core.Bool.{true, false, true≢false}
 use lib.Dec.{T, ltb→lt}
 use lib.Ieee.{Float, nan, inf, fin, up, down, lt}
 use lib.Ieee.Exact.{HasValue}
-use lib.Ieee.Fits.{down-pos}
 use lib.Ieee.Positive.{num, den, den-pos, value→cross}
 
 -- ---- the order

@@ -1,10 +1,11 @@
 -- The laws of the number tools' definitions, each file under its subject.
-pub mod RootWhole
-mod RootDigits
-mod RootSettle
-mod RootScale
-mod RootValue
-mod RootPositive
 mod RootCases
-mod RootNear
+mod RootDigits
 pub mod RootLaws
+mod RootNear
+mod RootNumbers
+mod RootPositive
+mod RootScale
+mod RootSettle
+mod RootValue
+pub mod RootWhole

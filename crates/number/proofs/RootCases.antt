@@ -1,9 +1,9 @@
 -- Which case of the definition the code's tests pick: each test on an f64, taken apart by the float's shape. Assumes nothing.
 use mathlib.Core.Path.{_≡_, refl, sym, ap, _∙_, subst}
-use Prim.Native.Nat.{ℕ, zero, suc, _+_, _*_, _^_, _≤_, _<_}
-use native.Mathlib.Nat.{lt-irrefl, not-le-of-lt, lt-of-le-of-lt, zero-lt-suc, zero-mul, mul-one, mul-pos}
+use Prim.Native.Nat.{ℕ, zero, suc, _*_, _≤_, _<_}
+use native.Mathlib.Nat.{lt-irrefl, not-le-of-lt, lt-of-le-of-lt, zero-lt-suc, zero-mul, mul-pos}
 use Prim.Native.Nat.{zero-le}
-use mathlib.Core.Bool.{Bool, true, false, not, _&&_, _||_, Bool·beq, true≢false, false≢true}
+use mathlib.Core.Bool.{Bool, true, false, not, _&&_, _||_, Bool·beq, true≢false}
 use lib.IntN.{ℤ, pos}
 use lib.Dec.{T, ltb, eqb, ltb→lt, lt→ltb, eqb→eq}
 use lib.Ieee.{Float, nan, inf, fin, binary64, up, down, fits, isNan, toBits, ofBits, lt, eq, div}

@@ -1,12 +1,10 @@
 -- The square root digit by digit. With j turns left, a is the square of the root so far and the remainder, and then j pairs of digits to come:
 -- a turn brings down a pair d, and 4 * (s * s + r) + d is the square of 2 * s + 1 or of 2 * s and the new remainder. Assumes nothing.
-use mathlib.Core.Path.{_≡_, refl, sym, ap, _∙_, subst}
-use Prim.Native.Nat.{ℕ, zero, suc, _+_, _-_, _*_, _/_, _%_, _^_, _≤_, _<_}
+use mathlib.Core.Path.{_≡_, sym, ap, _∙_, subst}
+use Prim.Native.Nat.{ℕ, suc, _+_, _-_, _*_, _/_, _%_, _^_, _≤_, _<_}
 use native.Mathlib.Nat.{pow-succ', le-trans, mul-le-mul-left, mul-one, le-of-eq}
 use native.Mathlib.Omega.{arith}
-use mathlib.Core.Bool.{Bool, true, false, cond}
 use lib.Pow.{pow-pos}
-use Rattle.number.proofs.RootWhole.{Whole}
 
 -- rest holds the digits to come at the upper end of 64
 pub record Digits (a s r rest j : ℕ) : Type 0 where

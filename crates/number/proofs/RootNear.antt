@@ -1,13 +1,12 @@
 -- Why no f64 is nearer: with p = 2 ^ g, the root is q * p units and every f64 from 2 ^ 52 * p units on is a multiple of p. So one below q * p is at most
 -- (q - 1) * p, or q is 2 ^ 52 and a is at least its square; one above is at least (q + 1) * p. The squares of 2 * q - 1 and 2 * q + 1 lie on either side of 4 * a.
 -- Assumes nothing.
-use mathlib.Core.Path.{_≡_, refl, sym, ap, _∙_, subst}
-use mathlib.Core.Logic.{_⊎_, inl, inr}
+use mathlib.Core.Path.{_≡_, sym, ap, _∙_, subst}
 use Prim.Native.Nat.{ℕ, zero, suc, _+_, _-_, _*_, _^_, _≤_, _<_, zero-le}
-use native.Mathlib.Nat.{le-trans, le-of-eq, le-of-lt, le-of-suc-le-suc, lt-of-not-le, not-le-of-lt, lt-of-lt-of-le, lt-of-le-of-lt, lt-irrefl, eq-or-lt-of-le, mul-assoc, mul-le-mul, mul-le-mul-right, mul-pos, mul-lt-mul-of-pos-right, mul-lt-mul-of-pos-left, lt-of-mul-lt-mul-right}
+use native.Mathlib.Nat.{le-trans, le-of-eq, le-of-lt, lt-of-not-le, lt-of-lt-of-le, lt-of-le-of-lt, lt-irrefl, mul-assoc, mul-le-mul, mul-le-mul-right, mul-pos, mul-lt-mul-of-pos-right, mul-lt-mul-of-pos-left, lt-of-mul-lt-mul-right}
 use native.Mathlib.Decide.{decLe}
 use native.Mathlib.Omega.{arith}
-use lib.Pow.{pow-add, pow-pos, pow-mono, shl-lt}
+use lib.Pow.{pow-add, pow-mono, shl-lt}
 use Rattle.number.proofs.RootWhole.{Nearest}
 
 -- ---- a number of 53 digits with zeros after them, from 2 ^ 52 * 2 ^ g on, is a multiple of 2 ^ g

@@ -1,9 +1,9 @@
 -- A finite f64 above 0, by its bit pattern: the code's steps are those of the definition, since the count of the significand's leading zeros gives the
 -- place of its leading digit. Assumes nothing.
-use mathlib.Core.Path.{_≡_, refl, sym, ap, _∙_, subst}
+use mathlib.Core.Path.{_≡_, sym, ap, _∙_, subst}
 use mathlib.Core.Bool.{true, false}
 use Prim.Native.Nat.{ℕ, zero, suc, _+_, _-_, _*_, _/_, _%_, _^_, _≤_, _<_}
-use native.Mathlib.Nat.{le-refl, lt-irrefl, lt-of-lt-of-le, mod-eq-of-lt}
+use native.Mathlib.Nat.{lt-irrefl, lt-of-lt-of-le, mod-eq-of-lt}
 use native.Mathlib.Omega.{arith}
 use lib.Count.{leadingZeros, leading-top}
 use lib.Dec.{T, lit≤, ltb→lt}

@@ -1,6 +1,6 @@
 -- The exact test without a number beyond 64 bits: with q in two halves, t = n * 2 ^ 52 + q - q * q is reached in three steps, each a difference
 -- that is known not to go below 0, and t between 1 and 2 * q says that q is the nearest root. Assumes nothing.
-use mathlib.Core.Path.{_≡_, refl, sym, ap, _∙_, subst}
+use mathlib.Core.Path.{_≡_, sym, ap, _∙_, subst}
 use Prim.Native.Nat.{ℕ, _+_, _-_, _*_, _/_, _%_, _^_, _≤_, _<_}
 use native.Mathlib.Nat.{mul-le-mul}
 use native.Mathlib.Omega.{arith}

@@ -1,9 +1,8 @@
 -- The square root in whole numbers: `wholeRoot` is the one s with s * s ≤ a < (s + 1) * (s + 1), by induction on the pairs of digits; and
 -- `nearestRoot` is the one q with q * q - q < a ≤ q * q + q, which says that the root lies between q - 1/2 and q + 1/2. Assumes nothing.
-use mathlib.Core.Path.{_≡_, refl, sym, ap, _∙_, subst}
-use mathlib.Core.Logic.{_⊎_, inl, inr}
+use mathlib.Core.Path.{_≡_, ap, _∙_, subst}
 use Prim.Native.Nat.{ℕ, zero, suc, _+_, _-_, _*_, _/_, _^_, _≤_, _<_}
-use native.Mathlib.Nat.{le-antisymm, le-trans, lt-of-not-le, not-le-of-lt, mul-le-mul, lt-of-lt-of-le, le-of-suc-le-suc, pow-succ', div-lt-iff-lt-mul, zero-lt-suc, pow-suc, mul-le-mul-right, mul-le-mul-left}
+use native.Mathlib.Nat.{le-antisymm, lt-of-not-le, mul-le-mul, le-of-suc-le-suc, div-lt-iff-lt-mul, zero-lt-suc, pow-suc, mul-le-mul-right, mul-le-mul-left}
 use native.Mathlib.Omega.{arith}
 use mathlib.Core.Bool.{Bool, true, false, not, cond}
 use lib.Dec.{T, leb, ltb, leb→le, nleb→lt, ltb→lt, nltb→le}

@@ -31,8 +31,8 @@ pub fn root(x: f64) -> f64
 }
 
 // The root of x, which is finite and above 0. Its significand m is moved up by its leading zeros, and once
-// more where the exponent would be odd: then x is n * 2^52 * 4^(half - 589), the root's significand is the
-// nearest root of n * 2^52, and its exponent is half.
+// more where the leading digit's place is odd: then x is n * 2^52 * 4^(half - 589), so the root's significand
+// is the nearest root q of n * 2^52, in units of 2^(half - 589).
 fn positive(x: f64, bits: u64) -> f64
     requires { ⌜ T (Positive.positive x) × (bits ≡ toBits binary64 x) × (bits < 0x7ff0_0000_0000_0000) ⌝ }
     ensures { λ r. ⌜ r ≡ Root.root x ⌝ }

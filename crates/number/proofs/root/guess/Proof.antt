@@ -1,6 +1,6 @@
 -- `number::root::guess` is safe: half of a finite pattern can be taken from the constant, and what is left is below the infinity's pattern. Nothing
 -- is said of the result, and nothing rests on it. Assumes nothing.
-use Prim.Native.Nat.{ℕ, _-_, _/_, _<_}
+use Prim.Native.Nat.{_-_, _/_}
 use native.Mathlib.Omega.{arith}
 use borrow.Author.Needs.{needs}
 use Rattle.exact.proofs.Pattern.{no-nan}

@@ -1,7 +1,7 @@
 -- `number::root::positive` meets its contract: the pattern's significand and place are the number's units, and the steps on them are those of the
 -- definition (`RootPositive.antt`). Assumes nothing.
-use mathlib.Core.Path.{_≡_, sym, ap, _∙_, subst}
-use Prim.Native.Nat.{ℕ, _+_, _-_, _*_, _/_, _%_, _^_, _≤_, _<_}
+use mathlib.Core.Path.{sym, ap, _∙_, subst}
+use Prim.Native.Nat.{ℕ, _+_, _-_, _*_, _/_, _^_, _<_}
 use native.Mathlib.Omega.{arith}
 use lib.Dec.{T}
 use lib.Count.{leadingZeros, leading-le}

@@ -1,6 +1,6 @@
 -- `number::root::root` meets its contract: its tests pick the definition's cases (`RootCases.antt`), and the case of a finite number above 0 is
 -- `positive`'s. Assumes nothing.
-use mathlib.Core.Path.{_≡_, refl, sym, subst}
+use mathlib.Core.Path.{refl, sym, subst}
 use lib.Dec.{T}
 use lib.Ieee.{binary64, fits}
 use Rattle.number.proofs.RootCases.{above-no-nan, above-positive, above-infinity, zero-root, no-root}

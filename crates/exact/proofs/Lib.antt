@@ -11,6 +11,7 @@ pub mod Line
 pub mod Linear
 pub mod Loop
 pub mod Magnitude
+pub mod Midpoint
 pub mod Mix
 pub mod Monotone
 pub mod Near
@@ -21,6 +22,7 @@ pub mod Order
 pub mod Overflow
 pub mod OwnValue
 pub mod Pattern
+pub mod PatternDigits
 pub mod PatternOrder
 pub mod Patterns
 pub mod Products
@@ -36,6 +38,7 @@ pub mod Surface
 pub mod Taps
 pub mod Ulp
 pub mod UnitPatterns
+pub mod Units
 pub mod Value
 pub mod Weights
 pub mod Whole

@@ -37,3 +37,8 @@ pub mod UnitPatterns
 pub mod Value
 pub mod Weights
 pub mod Whole
+pub mod Samples
+pub mod Ones
+pub mod FourSum
+pub mod SumQuotient
+pub mod Weighted

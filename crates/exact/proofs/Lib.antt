@@ -42,3 +42,5 @@ pub mod Ones
 pub mod FourSum
 pub mod SumQuotient
 pub mod Weighted
+pub mod Cell
+pub mod Warp

@@ -11,7 +11,7 @@ use lib.Ieee.Scale.{finite}
 use Rattle.exact.specs.Fraction.{Fraction, frac, value, _≤F_, _≈_, _+F_, _-F_, _*F_, Within, Unit01}
 use Rattle.exact.specs.Rounds.{Rounds}
 use Rattle.exact.specs.Single.{_⊖_, _⊗_}
-use Rattle.exact.specs.Weighted.{one, start, units, Unit32, Sample}
+use Rattle.exact.specs.Weighted.{one, start, units24, Unit32, Sample}
 use Rattle.exact.proofs.Scale.{At, at-le, at-eq, at-ratio, at-add}
 use Rattle.exact.proofs.Near.{within-same, within-more, within-trans}
 use Rattle.exact.proofs.Products.{eq-refl, at-zero, sub-same, unit-mul, unit-rest}
@@ -41,10 +41,10 @@ halves-le m n h = at-le (2 ^ 25) two-25 (at-halves m) (at-halves n) (omega arith
 pub halves-nonneg : (n : ℕ) → frac 0 1 ≤F halves n
 halves-nonneg n = at-le (2 ^ 25) two-25 (at-zero (2 ^ 25)) (at-halves n) (omega arith)
 
-pub halves-units : (n : ℕ) → halves (n * 2) ≈ units n
+pub halves-units : (n : ℕ) → halves (n * 2) ≈ units24 n
 halves-units n = at-eq (2 ^ 24 * 2) two-25 (at-halves (n * 2)) (go n) refl
   where
-    go : (n : ℕ) → At (2 ^ 24 * 2) (units n) (n * 2) 0
+    go : (n : ℕ) → At (2 ^ 24 * 2) (units24 n) (n * 2) 0
     go n = record { at = omega arith }
 
 -- ---- the constants

@@ -1,6 +1,6 @@
 -- The f32 blend of four opaque taps against the exact one: the products' sum is within 9 units of the exact blend and the weights' sum within 7 of 1, so the quotient is
 -- within 17. It is from 0 to 1 since the products' sum is at most the weights'; and alpha is 1 since both sums of weights are the same float.
--- Provides: `weight-sum` (finite, near 1, above 1e-9), `alpha-sum`, `alpha-one`, `one-is`, `colour-near`. Assumes nothing.
+-- Provides: `total-one` (the exact weights), `weight-sum` (finite, above 0, near 1, above 1e-9), `alpha-sum`, `alpha-one`, `one-is`, `colour-near`. Assumes nothing.
 use mathlib.Core.Path.{_≡_, refl, sym, ap, _∙_, subst}
 use mathlib.Core.List.{[], _∷_}
 use mathlib.Core.Bool.{false}
@@ -11,10 +11,10 @@ use lib.IntN.{pos}
 use lib.Dec.{T, lit≤}
 use lib.Ieee.{Float, fin, ofBits, lt}
 use lib.Ieee.Scale.{finite}
-use Rattle.exact.specs.Fraction.{Fraction, frac, value, _≤F_, _≈_, _+F_, _-F_, _*F_, Within, Unit01}
+use Rattle.exact.specs.Fraction.{Fraction, frac, value, _≤F_, _<F_, _≈_, _+F_, _-F_, _*F_, Within, Unit01}
 use Rattle.exact.specs.Blend.{blend}
 use Rattle.exact.specs.Single.{_⊗_, _⊘_}
-use Rattle.exact.specs.Weighted.{one, least, w00, w10, w01, w11, fourSum, weightSum, alphaSum, colour, alpha, units, Unit32, Sample, blendError}
+use Rattle.exact.specs.Weighted.{one, least, w00, w10, w01, w11, fourSum, weightSum, alphaSum, colour, alpha, units24, Unit32, Sample, blendError}
 use Rattle.exact.proofs.Scale.{at-le, le-at, at-eq, eq-at, at-add, at-sub, at-mul, common}
 use Rattle.exact.proofs.Near.{le-trans}
 use Rattle.exact.proofs.Products.{eq-refl, back, at-zero, at-one, unit-same, unit-mul, unit-rest}
@@ -31,19 +31,19 @@ unfolding ofBits
 one-is = refl
 
 -- ---- the exact weights: not negative, and 1 in all
-abbrev e00 : Fraction → Fraction → Fraction
+abbrev pub e00 : Fraction → Fraction → Fraction
 e00 t s = (frac 1 1 -F t) *F (frac 1 1 -F s)
 
-abbrev e10 : Fraction → Fraction → Fraction
+abbrev pub e10 : Fraction → Fraction → Fraction
 e10 t s = t *F (frac 1 1 -F s)
 
-abbrev e01 : Fraction → Fraction → Fraction
+abbrev pub e01 : Fraction → Fraction → Fraction
 e01 t s = (frac 1 1 -F t) *F s
 
-abbrev e11 : Fraction → Fraction → Fraction
+abbrev pub e11 : Fraction → Fraction → Fraction
 e11 t s = t *F s
 
-total-one : (t s : Fraction) → e00 t s +F e10 t s +F e01 t s +F e11 t s ≈ frac 1 1
+pub total-one : (t s : Fraction) → e00 t s +F e10 t s +F e01 t s +F e11 t s ≈ frac 1 1
 total-one t s =
     common (t ∷ s ∷ [])
     (λ D D0 ((_, _, T'), ((_, _, S), _)).
@@ -85,7 +85,7 @@ module _ (tx ty : Float) (x : Unit32 tx) (y : Unit32 ty) where
 
   -- ---- with the taps' samples
   module _ (a b c d : Float) (pa : Unit32 a) (pb : Unit32 b) (pc : Unit32 c) (pd : Unit32 d) where
-    abbrev exact : Fraction
+    abbrev pub exact : Fraction
     exact = e00 (value tx) (value ty) *F value a +F e10 (value tx) (value ty) *F value b +F e01 (value tx) (value ty) *F value c +F e11 (value tx) (value ty) *F value d
 
     abbrev products : Float
@@ -128,17 +128,15 @@ module _ (tx ty : Float) (x : Unit32 tx) (y : Unit32 ty) where
         unit = blend-unit (value tx ∷ value ty ∷ []) (x .unit, (y .unit, tt)) (value a ∷ value b ∷ value c ∷ value d ∷ []) (pa .unit, (pb .unit, (pc .unit, (pd .unit, tt))))
 
   -- ---- the sum of the weights
-  pub weight-sum : T (finite (weightSum tx ty)) × (Within (value (weightSum tx ty)) (frac 1 1) (units 7) × T (lt least (weightSum tx ty)))
+  pub weight-sum : T (finite (weightSum tx ty)) × ((frac 0 1 <F value (weightSum tx ty)) × (Within (value (weightSum tx ty)) (frac 1 1) (units24 7) × T (lt least (weightSum tx ty))))
   weight-sum =
       let k = sums tx tx tx tx x x x x in
       let o = total-one (value tx) (value ty) in
-      let S = weightSum tx ty in (
-        k .weights .number,
-        (
-          within-like (eq-refl (value S)) (eq-refl (frac 1 1)) (halves-units 7) (sum-near k o),
-          above-least S (k .weights .number) (le-trans (frac 1 2) (frac 33554418 33554432) (value S) (record { le = lit≤ tt }) (sum-least k o)),
-        ),
-      )
+      let S = weightSum tx ty in
+      (k .weights .number,
+      (sum-positive k o,
+      (within-like (eq-refl (value S)) (eq-refl (frac 1 1)) (halves-units 7) (sum-near k o),
+      above-least S (k .weights .number) (le-trans (frac 1 2) (frac 33554418 33554432) (value S) (record { le = lit≤ tt }) (sum-least k o)))))
 
   pub alpha-one : alpha tx ty ≡ one
   alpha-one =

@@ -8,3 +8,4 @@ pub mod Surface
 pub mod Blend
 pub mod Rounds
 pub mod Weighted
+pub mod Warp

@@ -53,8 +53,8 @@ least = ofBits binary32 0x3089_705f  -- 1e-9
 
 -- ---- what the bounds speak of
 -- n units, one being an ulp just below 1 in f32
-abbrev pub units : ℕ → Fraction
-units n = frac n (2 ^ 24)
+abbrev pub units24 : ℕ → Fraction
+units24 n = frac n (2 ^ 24)
 
 -- r is an f32 number from 0 to 1
 pub record Unit32 (r : Float) : Type 0 where
@@ -69,4 +69,4 @@ pub record Sample (r : Float) (X e : Fraction) : Type 0 where
 
 -- how far the colour is at most from the exact blend of the same taps at the same fractions
 abbrev pub blendError : Fraction
-blendError = units 17
+blendError = units24 17

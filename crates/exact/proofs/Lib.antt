@@ -44,3 +44,4 @@ pub mod SumQuotient
 pub mod Weighted
 pub mod Cell
 pub mod Warp
+pub mod WarpExample

@@ -1,7 +1,7 @@
 -- One sample of one warp, once and for all: the f32 blend is near the exact blend of the same taps at the same fractions (Weighted); that is near the surface at the
 -- point, since the taps are near the surface's values and the point is near the exact one, in whatever cell it was put (`taps-near`). The errors add up.
--- Provides: `position` (a coordinate less 0.5, in its cell); `surface-taps` (the surface at a point is the sum of the four taps times their weights); `warp-taps` (from four taps, 20 units),
--- `warp-near` (from a picture, 20 units), `warp-demand` (in document 01's words: 1 / 524,288, which is 32 units), `warp-alpha`. Assumes nothing.
+-- Provides: `position` (a coordinate less 0.5, in its cell); `surface-taps` (the surface at a point is the sum of the four taps around it times their weights), `exact-unit`,
+-- `exact-opaque`; `warp-taps` (from four taps, 20 units), `warp-near` (from a picture, 20 units), `warp-alpha`; `to-demand`, `warp-demand` (in document 01's words). Assumes nothing.
 use mathlib.Core.Path.{_≡_, refl}
 use mathlib.Core.List.{[], _∷_}
 use Prim.Native.Nat.{_^_}
@@ -10,25 +10,26 @@ use lib.IntN.{ℤ, sucℤ}
 use lib.Dec.{T, lit≤}
 use lib.Ieee.{Float, binary64, ofBits}
 use lib.Ieee.Scale.{finite}
-use Rattle.exact.specs.Fraction.{Fraction, frac, whole, value, _≤F_, _≈_, _+F_, _-F_, absF, Within, Unit01}
+use Rattle.exact.specs.Fraction.{Fraction, frac, whole, value, _≤F_, _≈_, _+F_, _-F_, _*F_, absF, Within, Unit01}
 use Rattle.exact.specs.Rounds.{Rounds}
 use Rattle.exact.specs.Surface.{floorF, partF, surface}
 use Rattle.exact.specs.Blend.{blend}
 use Rattle.exact.specs.Double.{_⊖_}
-use Rattle.exact.specs.Weighted.{one, colour, alpha, Sample, blendError}
-use Rattle.exact.specs.Warp.{half, cellError, Cell, coordinateError, Coordinate, warpError, exactSample}
+use Rattle.exact.specs.Weighted.{one, e00, e10, e01, e11, colour, alpha, Sample, blendError}
+use Rattle.exact.specs.Warp.{half, cellError, Cell, coordinateError, Coordinate, positionError, warpError, exactSample}
 use Rattle.exact.proofs.Scale.{at-le, le-at, at-add, common}
-use Rattle.exact.proofs.Near.{le-refl, le-trans, add-mono, within-same, within-trans, within-sub, within-more}
-use Rattle.exact.proofs.Products.{eq-refl, _⨟_, sub-same, add-zero}
+use Rattle.exact.proofs.Near.{le-refl, le-trans, add-mono, add-same, within-same, within-trans, within-sub, within-more}
+use Rattle.exact.proofs.Products.{eq-refl, _⨟_, sub-same, mul-same, mul-one, add-zero, unit-same}
 use Rattle.exact.proofs.NearProducts.{within-like, within-nonneg}
 use Rattle.exact.proofs.Floor.{part-unit, part-add}
+use Rattle.exact.proofs.Surface.{surface-unit}
 use Rattle.exact.proofs.Rounds.{rounds-along}
 use Rattle.exact.proofs.Operations.{sub-rounds}
 use Rattle.exact.proofs.Bounds.{rounds-bound}
 use Rattle.exact.proofs.Steps.{abs-sub}
 use Rattle.exact.proofs.Taps.{four-taps, surface-blend, taps-near}
 use Rattle.exact.proofs.Samples.{sample-more, sample-along}
-use Rattle.exact.proofs.Weighted.{alpha-one, colour-near}
+use Rattle.exact.proofs.Weighted.{total-one, alpha-one, colour-near}
 
 -- ---- the position: a coordinate less 0.5, put into a cell
 half-number : T (finite half)
@@ -38,10 +39,6 @@ half-number = tt
 half-value : value half ≈ frac 1 2
 unfolding ofBits
 half-value = record { eq = refl }
-
--- the cell, the difference and the coordinate
-abbrev pub positionError : Fraction
-positionError = cellError +F (frac 1 (2 ^ 39) +F coordinateError)
 
 module _ (u t : Float) (exact : Fraction) (k : ℤ) (c : Coordinate u exact) (p : Cell (u ⊖ half) k t) where
   less-half : Rounds binary64 (u ⊖ half) (value u -F frac 1 2)
@@ -69,6 +66,23 @@ surface-taps a x y =
     surface-blend a x y (partF x) (partF y) k l (part-unit x) (part-unit y) (part-add x) (part-add y)
     ⨟ four-taps (partF x) (partF y) (a k l) (a (sucℤ k) l) (a k (sucℤ l)) (a (sucℤ k) (sucℤ l))
 
+pub exact-unit : (a : ℤ → ℤ → Fraction) (x y : Fraction) → ((i j : ℤ) → Unit01 (a i j)) → Unit01 (exactSample a x y)
+exact-unit a x y h = unit-same (surface-taps a x y) (surface-unit a x y h)
+
+-- opaque taps give an opaque sample
+pub exact-opaque : (a : ℤ → ℤ → Fraction) (x y : Fraction) → ((i j : ℤ) → a i j ≈ frac 1 1) → exactSample a x y ≈ frac 1 1
+exact-opaque a x y h =
+    let k = floorF x in
+    let l = floorF y in
+    sum-same (times (e00 (partF x) (partF y)) (h k l)) (times (e10 (partF x) (partF y)) (h (sucℤ k) l)) (times (e01 (partF x) (partF y)) (h k (sucℤ l))) (times (e11 (partF x) (partF y)) (h (sucℤ k) (sucℤ l)))
+    ⨟ total-one (partF x) (partF y)
+  where
+    times : (w : Fraction) {p : Fraction} → p ≈ frac 1 1 → w *F p ≈ w
+    times w e = mul-same (eq-refl w) e ⨟ mul-one w
+
+    sum-same : {p q r s p' q' r' s' : Fraction} → p ≈ p' → q ≈ q' → r ≈ r' → s ≈ s' → p +F q +F r +F s ≈ p' +F q' +F r' +F s'
+    sum-same {p} {q} {r} {s} {p'} {q'} {r'} {s'} f g h k = add-same (p +F q +F r) (p' +F q' +F r') s s' (add-same (p +F q) (p' +F q') r r' (add-same p p' q q' f g) h) k
+
 -- ---- the sum: 17 units of the blend, and less than 1.3 for each position
 budget : (b e p c : Fraction) → b +F p ≤F c → b +F (e +F p) ≤F e +F c
 budget b e p c h =
@@ -77,6 +91,11 @@ budget b e p c h =
 
 in-all : blendError +F (positionError +F positionError) ≤F warpError
 in-all = unfold _+F_ in record { le = lit≤ tt }
+
+-- as document 01 words both: against the sum of four exact taps, and 1 / 524,288 for each warp, which is 32 units
+pub to-demand : {r : Float} (a : ℤ → ℤ → Fraction) (x y e : Fraction) → Sample r (surface a x y) (e +F warpError) → Sample r (exactSample a x y) (e +F frac 1 524288)
+to-demand a x y e s =
+    sample-along (surface-taps a x y) (eq-refl (e +F frac 1 524288)) (sample-more (add-mono e e warpError (frac 1 524288) (le-refl e e) (record { le = lit≤ tt })) s)
 
 -- Q is the exact picture over the whole plane: a policy names a pixel or a colour for each index for good
 module _ (Q : ℤ → ℤ → Fraction) (values : (i j : ℤ) → Unit01 (Q i j)) (e : Fraction) where
@@ -115,8 +134,5 @@ module _ (Q : ℤ → ℤ → Fraction) (values : (i j : ℤ) → Unit01 (Q i j)
       warp-near =
           warp-taps (P k l) (P (sucℤ k) l) (P k (sucℤ l)) (P (sucℤ k) (sucℤ l)) (near k l) (near (sucℤ k) l) (near k (sucℤ l)) (near (sucℤ k) (sucℤ l))
 
-      -- as document 01 words both: against the sum of four exact taps, and 1 / 524,288 for a warp
       pub warp-demand : Sample sampled (exactSample Q (ue -F frac 1 2) (ve -F frac 1 2)) (e +F frac 1 524288)
-      warp-demand =
-          sample-along (surface-taps Q (ue -F frac 1 2) (ve -F frac 1 2)) (eq-refl (e +F frac 1 524288))
-          (sample-more (add-mono e e warpError (frac 1 524288) (le-refl e e) (record { le = lit≤ tt })) warp-near)
+      warp-demand = to-demand Q (ue -F frac 1 2) (ve -F frac 1 2) e warp-near

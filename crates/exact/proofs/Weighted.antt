@@ -1,6 +1,6 @@
 -- The f32 blend of four opaque taps against the exact one: the products' sum is within 9 units of the exact blend and the weights' sum within 7 of 1, so the quotient is
 -- within 17. It is from 0 to 1 since the products' sum is at most the weights'; and alpha is 1 since both sums of weights are the same float.
--- Provides: `total-one` (the exact weights), `weight-sum` (finite, above 0, near 1, above 1e-9), `alpha-sum`, `alpha-one`, `one-is`, `colour-near`. Assumes nothing.
+-- Provides: `four-turns` (a loop over four taps), `one-is`, `total-one` (the exact weights), `weight-sum` (finite, above 0, near 1, above 1e-9), `alpha-sum`, `alpha-one`, `colour-near`. Assumes nothing.
 use mathlib.Core.Path.{_≡_, refl, sym, ap, _∙_, subst}
 use mathlib.Core.List.{[], _∷_}
 use mathlib.Core.Bool.{false}
@@ -11,38 +11,32 @@ use lib.IntN.{pos}
 use lib.Dec.{T, lit≤}
 use lib.Ieee.{Float, fin, ofBits, lt}
 use lib.Ieee.Scale.{finite}
-use Rattle.exact.specs.Fraction.{Fraction, frac, value, _≤F_, _<F_, _≈_, _+F_, _-F_, _*F_, Within, Unit01}
+use Rattle.exact.specs.Fraction.{Fraction, frac, value, _≤F_, _<F_, _≈_, _+F_, _*F_, Within, Unit01}
 use Rattle.exact.specs.Blend.{blend}
-use Rattle.exact.specs.Single.{_⊗_, _⊘_}
-use Rattle.exact.specs.Weighted.{one, least, w00, w10, w01, w11, fourSum, weightSum, alphaSum, colour, alpha, units24, Unit32, Sample, blendError}
+use Rattle.exact.specs.Loop.{upTo}
+use Rattle.exact.specs.Single.{_⊕_, _⊗_, _⊘_}
+use Rattle.exact.specs.Weighted.{one, start, least, w00, w10, w01, w11, e00, e10, e01, e11, fourSum, weightSum, alphaSum, colour, alpha, units24, Unit32, Sample, blendError}
 use Rattle.exact.proofs.Scale.{at-le, le-at, at-eq, eq-at, at-add, at-sub, at-mul, common}
 use Rattle.exact.proofs.Near.{le-trans}
 use Rattle.exact.proofs.Products.{eq-refl, back, at-zero, at-one, unit-same, unit-mul, unit-rest}
 use Rattle.exact.proofs.NearProducts.{within-like}
 use Rattle.exact.proofs.Blend.{blend-unit}
 use Rattle.exact.proofs.Taps.{four-taps}
-use Rattle.exact.proofs.Samples.{halves, halves-units, sample-own, sample-along, sample-rest, sample-mul}
+use Rattle.exact.proofs.Samples.{halves, halves-units, sample-own, sample-more, sample-along, sample-rest, sample-mul}
 use Rattle.exact.proofs.Ones.{times-one, over-itself, above-least}
 use Rattle.exact.proofs.FourSum.{Taken, taken, Sums, sums-four}
 use Rattle.exact.proofs.SumQuotient.{sum-near, sum-least, sum-positive, quotient}
+
+-- a loop over four taps is the sum written out
+pub four-turns : (f : ℕ → Float) → upTo (λ (k : ℕ) (acc : Float). acc ⊕ f k) 0 4 start ≡ fourSum (f 0) (f 1) (f 2) (f 3)
+unfolding upTo
+four-turns f = refl
 
 pub one-is : one ≡ fin false 1 (pos 0)
 unfolding ofBits
 one-is = refl
 
 -- ---- the exact weights: not negative, and 1 in all
-abbrev pub e00 : Fraction → Fraction → Fraction
-e00 t s = (frac 1 1 -F t) *F (frac 1 1 -F s)
-
-abbrev pub e10 : Fraction → Fraction → Fraction
-e10 t s = t *F (frac 1 1 -F s)
-
-abbrev pub e01 : Fraction → Fraction → Fraction
-e01 t s = (frac 1 1 -F t) *F s
-
-abbrev pub e11 : Fraction → Fraction → Fraction
-e11 t s = t *F s
-
 pub total-one : (t s : Fraction) → e00 t s +F e10 t s +F e01 t s +F e11 t s ≈ frac 1 1
 total-one t s =
     common (t ∷ s ∷ [])
@@ -119,8 +113,11 @@ module _ (tx ty : Float) (x : Unit32 tx) (y : Unit32 ty) where
     pub colour-near : Sample (colour tx ty a b c d) (blend (value tx ∷ value ty ∷ []) (value a ∷ value b ∷ value c ∷ value d ∷ [])) blendError
     colour-near =
         subst (λ (z : Float). Sample z (blend (value tx ∷ value ty ∷ []) (value a ∷ value b ∷ value c ∷ value d ∷ [])) blendError) colour-is
-        (sample-along (back taps) (halves-units 17) (quotient sums (total-one (value tx) (value ty)) (unit-same taps unit)))
+        (sample-more enough (sample-along (back taps) (eq-refl (halves 34)) (quotient sums (total-one (value tx) (value ty)) (unit-same taps unit))))
       where
+        enough : halves 34 ≤F blendError
+        enough = unfold halves in record { le = lit≤ tt }
+
         taps : blend (value tx ∷ value ty ∷ []) (value a ∷ value b ∷ value c ∷ value d ∷ []) ≈ exact
         taps = four-taps (value tx) (value ty) (value a) (value b) (value c) (value d)
 
@@ -132,11 +129,16 @@ module _ (tx ty : Float) (x : Unit32 tx) (y : Unit32 ty) where
   weight-sum =
       let k = sums tx tx tx tx x x x x in
       let o = total-one (value tx) (value ty) in
-      let S = weightSum tx ty in
-      (k .weights .number,
-      (sum-positive k o,
-      (within-like (eq-refl (value S)) (eq-refl (frac 1 1)) (halves-units 7) (sum-near k o),
-      above-least S (k .weights .number) (le-trans (frac 1 2) (frac 33554418 33554432) (value S) (record { le = lit≤ tt }) (sum-least k o)))))
+      let S = weightSum tx ty in (
+        k .weights .number,
+        (
+          sum-positive k o,
+          (
+            within-like (eq-refl (value S)) (eq-refl (frac 1 1)) (halves-units 7) (sum-near k o),
+            above-least S (k .weights .number) (le-trans (frac 1 2) (frac 33554418 33554432) (value S) (record { le = lit≤ tt }) (sum-least k o)),
+          ),
+        ),
+      )
 
   pub alpha-one : alpha tx ty ≡ one
   alpha-one =

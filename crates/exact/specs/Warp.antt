@@ -4,10 +4,10 @@ use Prim.Native.Nat.{_^_}
 use mathlib.Core.Path.{_≡_}
 use lib.IntN.{ℤ, sucℤ}
 use lib.Ieee.{Float, binary64, ofBits}
-use Rattle.exact.specs.Fraction.{Fraction, frac, whole, value, _+F_, _-F_, _*F_, Within}
+use Rattle.exact.specs.Fraction.{Fraction, frac, whole, value, _+F_, _*F_, Within}
 use Rattle.exact.specs.Rounds.{Close}
 use Rattle.exact.specs.Surface.{floorF, partF}
-use Rattle.exact.specs.Weighted.{units24, Unit32}
+use Rattle.exact.specs.Weighted.{e00, e10, e01, e11, units24, Unit32}
 
 abbrev pub half : Float
 half = ofBits binary64 0x3fe0_0000_0000_0000  -- 0.5
@@ -30,17 +30,17 @@ coordinateError = frac 3 (2 ^ 26)
 abbrev pub Coordinate : Float → Fraction → Type 0
 Coordinate u exact = Close u exact coordinateError (frac 16385 1)
 
+-- how far the point is from the exact one, in each direction: its cell, the difference u - 0.5, which is below 32,768 in size, and the coordinate
+abbrev pub positionError : Fraction
+positionError = cellError +F (frac 1 (2 ^ 39) +F coordinateError)
+
 -- what one warp adds to the error at most: the blend, both fractions and both coordinates
 abbrev pub warpError : Fraction
 warpError = units24 20
 
 -- ---- the exact sample: the four taps around the point (x, y), each times its weight
 abbrev pub tapSum : (ℤ → ℤ → Fraction) → ℤ → ℤ → Fraction → Fraction → Fraction
-tapSum a k l t s =
-    (frac 1 1 -F t) *F (frac 1 1 -F s) *F a k l
-    +F t *F (frac 1 1 -F s) *F a (sucℤ k) l
-    +F (frac 1 1 -F t) *F s *F a k (sucℤ l)
-    +F t *F s *F a (sucℤ k) (sucℤ l)
+tapSum a k l t s = e00 t s *F a k l +F e10 t s *F a (sucℤ k) l +F e01 t s *F a k (sucℤ l) +F e11 t s *F a (sucℤ k) (sucℤ l)
 
 abbrev pub exactSample : (ℤ → ℤ → Fraction) → Fraction → Fraction → Fraction
 exactSample a x y = tapSum a (floorF x) (floorF y) (partF x) (partF y)

@@ -4,7 +4,7 @@ use Prim.Native.Nat.{ℕ, _^_}
 use lib.Dec.{T}
 use lib.Ieee.{Float, binary32, ofBits, fits}
 use lib.Ieee.Scale.{finite}
-use Rattle.exact.specs.Fraction.{Fraction, frac, value, Within, Unit01}
+use Rattle.exact.specs.Fraction.{Fraction, frac, value, _-F_, _*F_, Within, Unit01}
 use Rattle.exact.specs.Single.{_⊕_, _⊖_, _⊗_, _⊘_}
 
 abbrev pub one : Float
@@ -25,6 +25,19 @@ w01 tx ty = (one ⊖ tx) ⊗ ty
 
 abbrev pub w11 : Float → Float → Float
 w11 tx ty = tx ⊗ ty
+
+-- the same weights, exact
+abbrev pub e00 : Fraction → Fraction → Fraction
+e00 t s = (frac 1 1 -F t) *F (frac 1 1 -F s)
+
+abbrev pub e10 : Fraction → Fraction → Fraction
+e10 t s = t *F (frac 1 1 -F s)
+
+abbrev pub e01 : Fraction → Fraction → Fraction
+e01 t s = (frac 1 1 -F t) *F s
+
+abbrev pub e11 : Fraction → Fraction → Fraction
+e11 t s = t *F s
 
 -- a sum over the taps
 abbrev pub fourSum : Float → Float → Float → Float → Float

@@ -42,3 +42,11 @@ pub mod Units
 pub mod Value
 pub mod Weights
 pub mod Whole
+pub mod Samples
+pub mod Ones
+pub mod FourSum
+pub mod SumQuotient
+pub mod Weighted
+pub mod Cell
+pub mod Warp
+pub mod WarpExample

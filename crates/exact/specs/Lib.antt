@@ -7,3 +7,5 @@ pub mod Fraction
 pub mod Surface
 pub mod Blend
 pub mod Rounds
+pub mod Weighted
+pub mod Warp

@@ -1,16 +1,21 @@
 -- The laws, each file under its subject.
 pub mod Blend
+pub mod Bounds
 pub mod Closest
 pub mod Dot
 pub mod Floor
+pub mod GridOrder
 pub mod Held
 pub mod Integer
 pub mod Line
 pub mod Loop
+pub mod Magnitude
 pub mod Mix
+pub mod Monotone
 pub mod Near
 pub mod NearProducts
 pub mod Operands
+pub mod Operations
 pub mod Order
 pub mod Overflow
 pub mod OwnValue
@@ -20,9 +25,14 @@ pub mod Patterns
 pub mod Products
 pub mod Quotients
 pub mod Rounded
+pub mod Rounding
+pub mod Rounds
 pub mod Scale
+pub mod Signed
+pub mod Steps
 pub mod Surface
 pub mod Taps
+pub mod Ulp
 pub mod UnitPatterns
 pub mod Value
 pub mod Weights

@@ -6,3 +6,4 @@ pub mod Single
 pub mod Fraction
 pub mod Surface
 pub mod Blend
+pub mod Rounds

@@ -3,6 +3,7 @@ pub mod Blend
 pub mod Bounds
 pub mod Closest
 pub mod Dot
+pub mod Factors
 pub mod Floor
 pub mod GridOrder
 pub mod Held
@@ -24,6 +25,8 @@ pub mod PatternOrder
 pub mod Patterns
 pub mod Products
 pub mod Quotients
+pub mod Ranges
+pub mod Relative
 pub mod Rounded
 pub mod Rounding
 pub mod Rounds

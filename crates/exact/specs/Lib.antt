@@ -7,3 +7,4 @@ pub mod Fraction
 pub mod Surface
 pub mod Blend
 pub mod Rounds
+pub mod Sums

@@ -1,0 +1,39 @@
+-- Sums in order and powers by repeated squaring, as the source coordinates are worked out: each in floats, rounded operation by operation, and in exact
+-- fractions. Assumes nothing.
+use Prim.Native.Nat.{ℕ, zero, suc, _*_, _^_}
+use lib.Dec.{T}
+use lib.Ieee.{Float, binary64, ofBits}
+use lib.Ieee.Scale.{finite}
+use Rattle.exact.specs.Loop.{upTo}
+use Rattle.exact.specs.Double.{_⊕_, _⊗_}
+use Rattle.exact.specs.Fraction.{Fraction, frac, value, _≤F_, _≈_, _+F_, _*F_, absF, Within}
+
+-- t 0 + t 1 + .. + t (n - 1), from z, each sum rounded
+abbrev pub summed : Float → (ℕ → Float) → ℕ → Float
+summed z t n = upTo (λ (k : ℕ) (s : Float). s ⊕ t k) 0 n z
+
+abbrev pub summedF : (ℕ → Fraction) → ℕ → Fraction
+summedF t n = upTo (λ (k : ℕ) (s : Fraction). s +F t k) 0 n (frac 0 1)
+
+-- x to the exponents 0 to 5, by repeated squaring. One above 5 counts as 5.
+unfoldable pub raised : Float → ℕ → Float
+raised x zero = ofBits binary64 0x3ff0_0000_0000_0000  -- 1.0
+raised x (suc zero) = x
+raised x (suc (suc zero)) = x ⊗ x
+raised x (suc (suc (suc zero))) = x ⊗ (x ⊗ x)
+raised x (suc (suc (suc (suc zero)))) = x ⊗ x ⊗ (x ⊗ x)
+raised x (suc (suc (suc (suc (suc n))))) = x ⊗ (x ⊗ x ⊗ (x ⊗ x))
+
+unfoldable pub powF : Fraction → ℕ → Fraction
+unfolding _*F_
+powF x zero = frac 1 1
+powF x (suc n) = x *F powF x n
+
+-- r is a number and X times a factor at most m 2 ^ -53 away from 1; it lies from 2 ^ -k to 2 ^ (21 k) in size, as a product of k coordinates does
+pub record Relative (r : Float) (X : Fraction) (m k : ℕ) : Type 0 where
+  pub number : T (finite r)
+  pub factor : Fraction
+  pub is : value r ≈ X *F factor
+  pub near : Within factor (frac 1 1) (frac m (2 ^ 53))
+  pub least : frac 1 (2 ^ k) ≤F absF (value r)
+  pub most : absF (value r) ≤F frac (2 ^ (21 * k)) 1

@@ -23,6 +23,7 @@ pub mod OwnValue
 pub mod Pattern
 pub mod PatternOrder
 pub mod Patterns
+pub mod Powers
 pub mod Products
 pub mod Quotients
 pub mod Ranges
@@ -33,6 +34,7 @@ pub mod Rounds
 pub mod Scale
 pub mod Signed
 pub mod Steps
+pub mod Sums
 pub mod Surface
 pub mod Taps
 pub mod Ulp

@@ -37,3 +37,9 @@ pub record Relative (r : Float) (X : Fraction) (m k : ℕ) : Type 0 where
   pub near : Within factor (frac 1 1) (frac m (2 ^ 53))
   pub least : frac 1 (2 ^ k) ≤F absF (value r)
   pub most : absF (value r) ≤F frac (2 ^ (21 * k)) 1
+
+-- x is a number from 1/2 to 2 ^ 21 in size, as a pixel's coordinates are
+pub record Coordinate (x : Float) : Type 0 where
+  pub number : T (finite x)
+  pub least : frac 1 2 ≤F absF (value x)
+  pub most : absF (value x) ≤F frac 2097152 1

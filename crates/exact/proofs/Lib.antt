@@ -23,6 +23,7 @@ pub mod OwnValue
 pub mod Pattern
 pub mod PatternOrder
 pub mod Patterns
+pub mod Pixels
 pub mod Powers
 pub mod Products
 pub mod Quotients

@@ -2,11 +2,12 @@
 -- fractions. Assumes nothing.
 use Prim.Native.Nat.{ℕ, zero, suc, _*_, _^_}
 use lib.Dec.{T}
-use lib.Ieee.{Float, binary64, ofBits}
+use lib.IntN.{ℤ, pos}
+use lib.Ieee.{Float, binary64, ofBits, ofInt}
 use lib.Ieee.Scale.{finite}
 use Rattle.exact.specs.Loop.{upTo}
 use Rattle.exact.specs.Double.{_⊕_, _⊗_}
-use Rattle.exact.specs.Fraction.{Fraction, frac, value, _≤F_, _≈_, _+F_, _*F_, absF, Within}
+use Rattle.exact.specs.Fraction.{Fraction, frac, whole, value, _≤F_, _≈_, _+F_, _*F_, absF, Within}
 
 -- t 0 + t 1 + .. + t (n - 1), from z, each sum rounded
 abbrev pub summed : Float → (ℕ → Float) → ℕ → Float
@@ -43,3 +44,35 @@ pub record Coordinate (x : Float) : Type 0 where
   pub number : T (finite x)
   pub least : frac 1 2 ≤F absF (value x)
   pub most : absF (value x) ≤F frac 2097152 1
+
+-- ---- the sums of the source points
+-- pixel i asks at i + offset + 0.5
+abbrev pub asked : ℕ → ℤ → Float
+asked i o = ofInt binary64 (pos i) ⊕ ofInt binary64 o ⊕ ofBits binary64 0x3fe0_0000_0000_0000
+
+abbrev pub askedF : ℕ → ℤ → Fraction
+askedF i o = whole (pos i) +F whole o +F frac 1 2
+
+abbrev pub linear : Float → Float → Float → Float → Float → Float
+linear m n o x y = m ⊗ x ⊕ n ⊗ y ⊕ o
+
+abbrev pub linearF : Fraction → Fraction → Fraction → Fraction → Fraction → Fraction
+linearF m n o x y = m *F x +F n *F y +F o
+
+-- m x + n y + o in numbers, each term at most b in size
+pub record Linear (m n o x y : Float) (b : Fraction) : Type 0 where
+  pub number-m : T (finite m)
+  pub number-n : T (finite n)
+  pub number-o : T (finite o)
+  pub number-x : T (finite x)
+  pub number-y : T (finite y)
+  pub term-x : absF (value m *F value x) ≤F b
+  pub term-y : absF (value n *F value y) ≤F b
+  pub term-1 : absF (value o) ≤F b
+
+-- a term of a polynomial: a is the monomial M with few roundings, c the coefficient, and their exact product is at most 16,384 in size
+pub record Term (a : Float) (M : Fraction) (c : Float) : Type 0 where
+  pub degree : ℕ
+  pub monomial : Relative a M 10 degree
+  pub number : T (finite c)
+  pub size : absF (M *F value c) ≤F frac 16384 1

@@ -9,6 +9,7 @@ pub mod GridOrder
 pub mod Held
 pub mod Integer
 pub mod Line
+pub mod Linear
 pub mod Loop
 pub mod Magnitude
 pub mod Mix
@@ -23,7 +24,9 @@ pub mod OwnValue
 pub mod Pattern
 pub mod PatternOrder
 pub mod Patterns
+pub mod Perspective
 pub mod Pixels
+pub mod Polynomial
 pub mod Powers
 pub mod Products
 pub mod Quotients

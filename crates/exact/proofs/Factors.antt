@@ -2,15 +2,15 @@
 -- three factors within m, n and 1 parts in U of 1 have a product within m + n + 2 parts, the products of the errors being small.
 -- Provides: `mul-abs`, `abs-least`, `within-neg`, `factor-near`, `near-three`. Assumes nothing.
 use mathlib.Core.List.{[], _∷_}
-use mathlib.Core.Logic.{_⊎_, inl, inr, ⊎-elim}
+use mathlib.Core.Logic.{_⊎_, inl, inr}
 use Prim.Native.Nat.{ℕ, _+_, _*_, _≤_, _<_}
 use native.Mathlib.Nat.{mul-pos}
 use native.Mathlib.Omega.{arith}
 use Rattle.exact.specs.Fraction.{Fraction, frac, _≤F_, _<F_, _≈_, negF, _+F_, _*F_, _/F_, absF, Within}
-use Rattle.exact.proofs.Scale.{At, at-le, le-at, at-lt, lt-at, at-eq, eq-at, at-neg, at-add, at-mul, at-more, at-ratio, common}
+use Rattle.exact.proofs.Scale.{At, at-le, le-at, at-eq, eq-at, at-neg, at-add, at-mul, at-more, at-ratio, common}
 use Rattle.exact.proofs.Near.{at-abs, within-at, at-within, within-more, le-refl, lt-le, le-trans}
-use Rattle.exact.proofs.Products.{eq-refl, _⨟_, back, at-zero, at-one, lt-or-le, lt-le-trans, le-same, mul-same, mul-comm, one-mul, mul-mono, le-mul}
-use Rattle.exact.proofs.NearProducts.{abs-at, at-abs-le, abs-open, abs-self, abs-near, within-like, within-mul, within-nonneg}
+use Rattle.exact.proofs.Products.{eq-refl, _⨟_, back, at-zero, at-one, lt-or-le, lt-le-trans, le-same, mul-comm, one-mul, mul-mono, le-mul}
+use Rattle.exact.proofs.NearProducts.{at-abs-le, abs-open, abs-self, abs-near, within-like, within-mul}
 use Rattle.exact.proofs.Quotients.{div-mul-pos, div-only, within-cancel}
 
 -- ---- |x| |y| ≤ |x y|

@@ -2,6 +2,7 @@
 pub mod Blend
 pub mod Bounds
 pub mod Closest
+pub mod CoordinateExamples
 pub mod Dot
 pub mod Factors
 pub mod Floor

@@ -1,5 +1,5 @@
 -- A quotient of two sums: the denominator is at least 1 / 1,024 and its error tiny beside that, so both errors are divided by it once, and then one rounding.
--- Provides: `denominator-least`, `denominator-passes` (above 1e-12), `quotient-close` and `perspective-close` (within 10241 / 2 ^ 38, that is 0.626 of 2 ^ -24, and at most
+-- Provides: `denominator-least`, `denominator-passes` (above 1e-12), `quotient-close`; of two sums of three terms: `perspective-passes` and `perspective-close` (within 10241 / 2 ^ 38, that is 0.626 of 2 ^ -24, and at most
 -- 16,385 in size). Assumes nothing.
 use mathlib.Core.List.{[], _∷_}
 use mathlib.Core.Path.{_≡_, refl}
@@ -13,7 +13,7 @@ use lib.Ieee.Scale.{finite}
 use Rattle.exact.specs.Fraction.{Fraction, frac, value, _≤F_, _<F_, _+F_, _*F_, _/F_, absF, Within}
 use Rattle.exact.specs.Rounds.{Close}
 use Rattle.exact.specs.Double.{_⊘_}
-use Rattle.exact.specs.Sums.{linear, Linear}
+use Rattle.exact.specs.Sums.{linear, linearF, Coordinate, Linear}
 use Rattle.exact.proofs.Scale.{at-le, le-at, at-add, common}
 use Rattle.exact.proofs.Near.{le-refl, le-trans, within-open, within-more}
 use Rattle.exact.proofs.Products.{lt-le-trans}
@@ -25,7 +25,7 @@ use Rattle.exact.proofs.Steps.{close-more, close-move}
 use Rattle.exact.proofs.Bounds.{rounds-bound}
 use Rattle.exact.proofs.Ranges.{abs-grow}
 use Rattle.exact.proofs.Powers.{close-size}
-use Rattle.exact.proofs.Linear.{linear-exact, linear-terms, linear-small}
+use Rattle.exact.proofs.Linear.{linear-terms, linear-small}
 
 -- ---- the denominator: 2 ^ -10 - 2 ^ -49 at least
 abbrev b : Fraction
@@ -110,7 +110,10 @@ module _ {n d : Float} {N D r s : Fraction} (top : Close n N e r) (under : Close
       above = record { lt = lit< tt }
 
 -- of two sums of three terms
-module _ {m n o m' n' o' x y : Float} (L : Linear m n o x y (frac 16384 1)) (L' : Linear m' n' o' x y (frac 4 1)) where
-  pub perspective-close : frac 1 1024 ≤F linear-exact m' n' o' x y → absF (linear-exact m n o x y /F linear-exact m' n' o' x y) ≤F frac 16384 1
-      → Close (linear m n o x y ⊘ linear m' n' o' x y) (linear-exact m n o x y /F linear-exact m' n' o' x y) (frac 10241 (2 ^ 38)) (frac 16385 1)
-  perspective-close h k = quotient-close (linear-terms L) (linear-small L') h k
+module _ {x y : Float} {X Y : Fraction} (c : Coordinate x X) (d : Coordinate y Y) {m n o : Float} (L : Linear m n o X Y (frac 4 1)) (h : frac 1 1024 ≤F linearF m n o X Y) where
+  pub perspective-passes : le (linear m n o x y) (ofBits binary64 0x3d71_9799_812d_ea11) ≡ false
+  perspective-passes = denominator-passes (linear-small c d L) h
+
+  pub perspective-close : {m' n' o' : Float} → Linear m' n' o' X Y (frac 16384 1) → absF (linearF m' n' o' X Y /F linearF m n o X Y) ≤F frac 16384 1
+      → Close (linear m' n' o' x y ⊘ linear m n o x y) (linearF m' n' o' X Y /F linearF m n o X Y) (frac 10241 (2 ^ 38)) (frac 16385 1)
+  perspective-close M k = quotient-close (linear-terms c d M) (linear-small c d L) h k

@@ -1,6 +1,6 @@
 -- Where a pixel asks: i + offset is a whole number of at most 21 digits, and with 0.5 it has one digit more, so nothing is rounded; and no whole number and a half
 -- is below 1/2 in size.
--- Provides: `whole-add`, `asked-exact` (a number, with the value i + offset + 1/2), `asked-coordinate` (from 1/2 to 2 ^ 21 in size). Assumes nothing.
+-- Provides: `whole-add`, `asked-exact` (a number, with the value i + offset + 1/2), `asked-coordinate` (and from 1/2 to 2 ^ 21 in size). Assumes nothing.
 use mathlib.Core.Path.{_≡_, sym, ap, subst⁻¹}
 use mathlib.Core.Bool.{Bool, true, false, not, cond}
 use Prim.Native.Nat.{ℕ, suc, _+_, _-_, _*_, _^_, _≤_, _<_}
@@ -11,7 +11,7 @@ use lib.Dec.{T, ltb, ltb→lt, nltb→le, lit≤, lit<}
 use lib.Pow.{pow-pos, shl-lt}
 use lib.Ieee.{Float, binary64, ofBits, ofInt}
 use lib.Ieee.Scale.{finite, overflow}
-use Rattle.exact.specs.Fraction.{Fraction, frac, whole, value, _≤F_, _≈_, _+F_, absF}
+use Rattle.exact.specs.Fraction.{frac, whole, value, _≈_, _+F_}
 use Rattle.exact.specs.Rounds.{signed}
 use Rattle.exact.specs.Double.{_⊕_}
 use Rattle.exact.specs.Sums.{Coordinate, asked, askedF}
@@ -106,7 +106,7 @@ module _ (i : ℕ) (o : ℤ) (I : i ≤ 4096) (O : natAbs o ≤ 1048576) where
   pub asked-exact : T (finite (asked i o)) × (value (asked i o) ≈ askedF i o)
   asked-exact = (halved .0, halved .1 ⨟ back (half-value (pos i +ℤ o)) ⨟ add-same (whole (pos i +ℤ o)) (whole (pos i) +F whole o) (frac 1 2) (frac 1 2) (whole-add i o) (eq-refl (frac 1 2)))
 
-  pub asked-coordinate : Coordinate (asked i o)
+  pub asked-coordinate : Coordinate (asked i o) (askedF i o)
   asked-coordinate =
       let z : ℤ = pos i +ℤ o in
       let A = abs-sized 2 (zero-lt-suc 1) (below z) (halves z) (sized-same (below z) (halves z) 2 (zero-lt-suc 1) (back (halved .1))) in
@@ -114,6 +114,7 @@ module _ (i : ℕ) (o : ℤ) (I : i ≤ 4096) (O : natAbs o ≤ 1048576) where
       let hi = half-most z in-all in
       record {
         number = halved .0;
+        is = asked-exact .1;
         least = at-le 2 (zero-lt-suc 1) (at-ratio 1 0 2 (zero-lt-suc 1)) A (omega arith);
         most = at-le 2 (zero-lt-suc 1) A (at-more 1 2 (at-ratio 2097152 0 1 (zero-lt-suc 0))) (omega arith);
       }

@@ -2,7 +2,7 @@
 -- 2 ^ 19, so each sum costs 2 ^ -35 at most, and each term 11 2 ^ -39.
 -- Provides: `sum-terms` (terms within any e of theirs), `polynomial-close` (within 2 ^ -29, at most 16,385 in size), `plus-zero` (where the code's sums start).
 -- Assumes nothing.
-use Prim.Native.Nat.{ℕ, _*_, _^_, _≤_, _<_}
+use Prim.Native.Nat.{ℕ, _^_, _≤_, _<_}
 use lib.Dec.{T, lit≤}
 use lib.Ieee.{Float, binary64, ofBits}
 use lib.Ieee.Scale.{finite}
@@ -10,7 +10,7 @@ use Rattle.exact.specs.Fraction.{Fraction, frac, value, _≤F_, _≈_, _
 use Rattle.exact.specs.Rounds.{Close}
 use Rattle.exact.specs.Double.{_⊗_}
 use Rattle.exact.specs.Sums.{summed, summedF, Term}
-use Rattle.exact.proofs.Near.{le-refl, le-trans, add-mono}
+use Rattle.exact.proofs.Near.{le-refl, le-trans}
 use Rattle.exact.proofs.Products.{eq-refl}
 use Rattle.exact.proofs.Steps.{close-more}
 use Rattle.exact.proofs.Powers.{close-size, term-close}
@@ -53,7 +53,7 @@ module _ (z : Float) (z0 : T (finite z)) (zv : value z ≈ frac 0 1) (n : ℕ) (
         close-size (frac 16384 1) (frac 16385 1)
         (close-more parts (le-refl (frac 524288 1) (frac 524288 1))
         (sum-terms (λ (k : ℕ). a k ⊗ c k) (λ (k : ℕ). M k *F value (c k)) (frac 11 (2 ^ 39)) part
-        (λ k l. let t = terms k l in term-close (t .monomial) (lit≤ tt) (c k) (t .number) (t .size)))) k small
+        (λ k l. term-close (terms k l)))) k small
       where
         part : frac 0 1 ≤F frac 11 (2 ^ 39) +F h
         part = unfold _+F_ in record { le = lit≤ tt }

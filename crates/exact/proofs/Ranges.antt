@@ -11,14 +11,13 @@ use lib.Dec.{T}
 use lib.Pow.{pow-add, pow-pos, pow-mono, pow-lt}
 use lib.Ieee.{Float, Format, prec, emax, low, round}
 use lib.Ieee.Scale.{finite, overflow}
-use Rattle.exact.specs.Fraction.{Fraction, frac, value, _≤F_, _<F_, _≈_, _*F_, absF, Within}
+use Rattle.exact.specs.Fraction.{Fraction, frac, value, _≤F_, _<F_, _≈_, _*F_, absF}
 use Rattle.exact.specs.Rounds.{signed, Rounds, Close, power, half-ulp}
 use Rattle.exact.proofs.Scale.{At, at-eq, at-mul, at-ratio}
 use Rattle.exact.proofs.Near.{le-refl, le-trans, lt-le, eq-le, eq-sym}
 use Rattle.exact.proofs.Products.{eq-refl, back, le-same, lt-le-trans}
 use Rattle.exact.proofs.NearProducts.{abs-open, abs-self}
 use Rattle.exact.proofs.Signed.{signed-le, signed-lt, signed-eq}
-use Rattle.exact.proofs.Magnitude.{abs-alike}
 use Rattle.exact.proofs.Rounds.{rounds-self, rounds-within, rounds-normal}
 use Rattle.exact.proofs.Monotone.{rounds-fixed, rounds-abs}
 use Rattle.exact.proofs.Factors.{Factor, factor-near}

@@ -1,21 +1,19 @@
 -- Relative errors of products: a float is its exact value times a factor near 1, factors multiply, and each rounding in the normal range is one factor more. So
 -- the errors of powers and monomials count roundings, whatever their size.
--- Provides, of `Relative r X m k` (specs/Sums): `relative-own` (a coordinate), `relative-one`, `relative-mul`, `relative-more`, `relative-along`; `relative-within` (the
--- distance). Assumes nothing.
-use mathlib.Core.Path.{_≡_, sym, ap, _∙_, subst}
+-- Provides, of `Relative r X m k` (specs/Sums): `relative-own` (a coordinate), `relative-one`, `relative-mul`, `relative-more`, `relative-along`; `relative-near` (the
+-- distance), `relative-within` (of a product with any other factor). Assumes nothing.
+use mathlib.Core.Path.{_≡_, subst}
 use mathlib.Core.Bool.{false}
-use Prim.Native.Nat.{ℕ, suc, _+_, _*_, _^_, _≤_, _<_}
-use native.Mathlib.Nat.{mul-le-mul, mul-le-mul-right, zero-lt-suc}
+use Prim.Native.Nat.{ℕ, _+_, _*_, _^_, _≤_, _<_}
+use native.Mathlib.Nat.{mul-le-mul, mul-le-mul-right}
 use native.Mathlib.Omega.{arith}
-use lib.Dec.{T, lit≤, lit<}
-use lib.Pow.{pow-add, pow-pos}
-use lib.Ieee.{Float, binary64, mul, ofBits}
+use lib.Dec.{T, lit≤}
+use lib.Pow.{pow-pos}
+use lib.Ieee.{Float, binary64, ofBits}
 use lib.Ieee.Scale.{finite}
-use Rattle.exact.specs.Fraction.{Fraction, frac, value, _≤F_, _≈_, _+F_, _*F_, absF, Within}
-use Rattle.exact.specs.Rounds.{Rounds}
+use Rattle.exact.specs.Fraction.{Fraction, frac, value, _≤F_, _≈_, _*F_, absF, Within}
 use Rattle.exact.specs.Double.{_⊗_}
 use Rattle.exact.specs.Sums.{Relative}
-use Rattle.exact.proofs.Scale.{at-eq, at-mul, common}
 use Rattle.exact.proofs.Near.{le-refl, lt-le, within-same, within-more}
 use Rattle.exact.proofs.Products.{eq-refl, _⨟_, back, le-same, mul-same, mul-one, mul-assoc, mul-comm}
 use Rattle.exact.proofs.NearProducts.{abs-mul, abs-nonneg, within-like, mul-within}
@@ -60,6 +58,11 @@ module _ {r : Float} {X : Fraction} {m k : ℕ} (R : Relative r X m k) where
 
   pub relative-along : {Y : Fraction} → X ≈ Y → Relative r Y m k
   relative-along e = record { number = R .number; factor = R .factor; is = R .is ⨟ mul-same e (eq-refl (R .factor)); near = R .near; least = R .least; most = R .most }
+
+  pub relative-near : Within (value r) X (absF X *F frac m (2 ^ 53))
+  relative-near =
+      within-like (back (R .is)) (mul-one X) (eq-refl (absF X *F frac m (2 ^ 53)))
+      (mul-within (R .factor) (frac 1 1) (frac m (2 ^ 53)) X (absF X) (le-refl (absF X) (absF X)) (R .near))
 
   -- with any other factor c, whose product with X is at most b in size
   pub relative-within : (c b : Fraction) → absF (X *F c) ≤F b → Within (value r *F c) (X *F c) (b *F frac m (2 ^ 53))

@@ -1,9 +1,10 @@
 -- Sums in order: as long as every partial sum stays below one power of two, each sum adds half an ulp of that power to the error and to the size, so n
 -- terms within e of theirs add up to n times e and half an ulp.
--- Provides: `Step` (one rounding below a bound), `step-fine`, `add-near`, `mul-near`; `sum-close`, the law over n; `three-close` (m0 x + m1 y + m2). Assumes nothing.
+-- Provides: `Step` (one rounding below a bound), `step-fine`, `add-near`, `mul-near`; `count-next`, `count-mono` (n times a fraction); `sum-close`, the law over n; `summed-same`
+-- (equal terms). Assumes nothing.
 use mathlib.Core.Path.{_≡_, refl, ap, _∙_, subst}
 use mathlib.Core.List.{[], _∷_}
-use Prim.Native.Nat.{ℕ, zero, suc, _+_, _*_, _≤_, _<_, zero-le}
+use Prim.Native.Nat.{ℕ, zero, suc, _*_, _≤_, _<_, zero-le}
 use native.Mathlib.Nat.{mul-pos}
 use native.Mathlib.Numerals.{add-one}
 use native.Mathlib.Omega.{arith}
@@ -11,15 +12,16 @@ use lib.Dec.{T, lit≤}
 use lib.Ieee.{Float, Format, add, mul}
 use lib.Ieee.Scale.{finite}
 use Rattle.exact.specs.Loop.{upTo}
-use Rattle.exact.specs.Fraction.{Fraction, frac, value, _≤F_, _≈_, _+F_, _*F_, absF, Within}
+use Rattle.exact.specs.Fraction.{Fraction, frac, value, _≤F_, _≈_, _+F_, _*F_, absF}
 use Rattle.exact.specs.Rounds.{Rounds, Close, fine}
+use Rattle.exact.specs.Sums.{summedF}
 use Rattle.exact.proofs.Scale.{At, at-eq, at-le, le-at, at-add, at-mul, at-more, common}
-use Rattle.exact.proofs.Near.{le-refl, le-trans, eq-le, within-same, within-more, within-add, add-mono}
+use Rattle.exact.proofs.Near.{le-refl, le-trans, eq-le, within-same, within-add, add-mono, add-same}
 use Rattle.exact.proofs.Products.{eq-refl, _⨟_, back, at-zero, le-same, le-mul, add-comm, add-assoc, mul-comm, mul-zero}
 use Rattle.exact.proofs.NearProducts.{abs-near, abs-self}
 use Rattle.exact.proofs.Magnitude.{abs-alike}
 use Rattle.exact.proofs.Operations.{add-rounds, mul-rounds}
-use Rattle.exact.proofs.Steps.{close-own, close-more, close-move, abs-add}
+use Rattle.exact.proofs.Steps.{close-more, close-move, abs-add}
 use Rattle.exact.proofs.Bounds.{rounds-bound}
 use Rattle.exact.proofs.Loop.{upTo-none, upTo-next}
 
@@ -66,7 +68,7 @@ upTo-suc : {A : Type 0} (step : ℕ → A → A) (n : ℕ) (x : A) → step n (u
 upTo-suc step n x = upTo-next step 0 x n zero-le refl ∙ ap (λ (k : ℕ). upTo step 0 k x) (add-one n)
 
 module _ {f : Format} {h B : Fraction} (step : Step f h B) (h0 : frac 0 1 ≤F h) (z : Float) (z0 : T (finite z)) (zv : value z ≈ frac 0 1) (t : ℕ → Float) (X : ℕ → Fraction) (e A : Fraction)
-  (A0 : frac 0 1 ≤F A) where
+    (A0 : frac 0 1 ≤F A) where
   pub sum-close : (n : ℕ) → ((k : ℕ) → k < n → Close (t k) (X k) e A) → frac n 1 *F (A +F h) ≤F B
       → Close (upTo (λ (k : ℕ) (s : Float). add f s (t k)) 0 n z) (upTo (λ (k : ℕ) (s : Fraction). s +F X k) 0 n (frac 0 1)) (frac n 1 *F (e +F h)) (frac n 1 *F (A +F h))
   sum-close zero c k =
@@ -125,3 +127,19 @@ module _ {f : Format} {h B : Fraction} (step : Step f h B) (h0 : frac 0 1 ≤F h
 
       turn : (h y e : Fraction) → h +F (y +F e) ≈ y +F (e +F h)
       turn h y e = add-comm h (y +F e) ⨟ add-assoc y e h
+
+-- equal terms have equal sums
+pub summed-same : (X Y : ℕ → Fraction) (n : ℕ) → ((k : ℕ) → k < n → X k ≈ Y k) → summedF X n ≈ summedF Y n
+summed-same X Y zero h =
+    subst (λ (s : Fraction). s ≈ summedF Y 0) (upTo-none (λ (k : ℕ) (s : Fraction). s +F X k) 0 (frac 0 1))
+    (subst (λ (s : Fraction). frac 0 1 ≈ s) (upTo-none (λ (k : ℕ) (s : Fraction). s +F Y k) 0 (frac 0 1)) (eq-refl (frac 0 1)))
+summed-same X Y (suc n) h =
+    subst (λ (s : Fraction). s ≈ summedF Y (suc n)) (upTo-suc (λ (k : ℕ) (s : Fraction). s +F X k) n (frac 0 1))
+    (subst (λ (s : Fraction). summedF X n +F X n ≈ s) (upTo-suc (λ (k : ℕ) (s : Fraction). s +F Y k) n (frac 0 1))
+    (add-same (summedF X n) (summedF Y n) (X n) (Y n) (summed-same X Y n (λ j l. h j (less j n l))) (h n (self n))))
+  where
+    less : (j n : ℕ) → j < n → j < suc n
+    less j n h = omega arith
+
+    self : (n : ℕ) → n < suc n
+    self n = omega arith

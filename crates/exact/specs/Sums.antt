@@ -39,9 +39,10 @@ pub record Relative (r : Float) (X : Fraction) (m k : ℕ) : Type 0 where
   pub least : frac 1 (2 ^ k) ≤F absF (value r)
   pub most : absF (value r) ≤F frac (2 ^ (21 * k)) 1
 
--- x is a number from 1/2 to 2 ^ 21 in size, as a pixel's coordinates are
-pub record Coordinate (x : Float) : Type 0 where
+-- x is the number X, from 1/2 to 2 ^ 21 in size, as a pixel's coordinates are
+pub record Coordinate (x : Float) (X : Fraction) : Type 0 where
   pub number : T (finite x)
+  pub is : value x ≈ X
   pub least : frac 1 2 ≤F absF (value x)
   pub most : absF (value x) ≤F frac 2097152 1
 
@@ -53,21 +54,20 @@ asked i o = ofInt binary64 (pos i) ⊕ ofInt binary64 o ⊕ ofBits binary64 0x3f
 abbrev pub askedF : ℕ → ℤ → Fraction
 askedF i o = whole (pos i) +F whole o +F frac 1 2
 
+-- m x + n y + o, and with exact coordinates
 abbrev pub linear : Float → Float → Float → Float → Float → Float
 linear m n o x y = m ⊗ x ⊕ n ⊗ y ⊕ o
 
-abbrev pub linearF : Fraction → Fraction → Fraction → Fraction → Fraction → Fraction
-linearF m n o x y = m *F x +F n *F y +F o
+abbrev pub linearF : Float → Float → Float → Fraction → Fraction → Fraction
+linearF m n o X Y = value m *F X +F value n *F Y +F value o
 
--- m x + n y + o in numbers, each term at most b in size
-pub record Linear (m n o x y : Float) (b : Fraction) : Type 0 where
+-- the coefficients are numbers, and each term is at most b in size
+pub record Linear (m n o : Float) (X Y b : Fraction) : Type 0 where
   pub number-m : T (finite m)
   pub number-n : T (finite n)
   pub number-o : T (finite o)
-  pub number-x : T (finite x)
-  pub number-y : T (finite y)
-  pub term-x : absF (value m *F value x) ≤F b
-  pub term-y : absF (value n *F value y) ≤F b
+  pub term-x : absF (value m *F X) ≤F b
+  pub term-y : absF (value n *F Y) ≤F b
   pub term-1 : absF (value o) ≤F b
 
 -- a term of a polynomial: a is the monomial M with few roundings, c the coefficient, and their exact product is at most 16,384 in size

@@ -1,6 +1,6 @@
 -- A quotient of two sums: the denominator is at least 1 / 1,024 and its error tiny beside that, so both errors are divided by it once, and then one rounding.
--- Provides: `denominator-least`, `denominator-passes` (above 1e-12), `quotient-close`; of two sums of three terms: `perspective-passes` and `perspective-close` (within 10241 / 2 ^ 38, that is 0.626 of 2 ^ -24, and at most
--- 16,385 in size). Assumes nothing.
+-- Provides: `denominator-least`, `denominator-passes` (above 1e-12), `quotient-close`; of two sums of three terms: `perspective-passes` and `perspective-close` (within
+-- 10241 / 2 ^ 38, that is 0.6251 of 2 ^ -24, and at most 16,385 in size). Assumes nothing.
 use mathlib.Core.List.{[], _∷_}
 use mathlib.Core.Path.{_≡_, refl}
 use mathlib.Core.Bool.{Bool, true, false}

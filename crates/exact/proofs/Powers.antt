@@ -1,7 +1,7 @@
 -- Powers, monomials and terms of a polynomial at a coordinate from 1/2 to 2 ^ 21 in size: each product is one rounding more, so a monomial of degree up to 5 is
 -- exact but for a factor within 10 2 ^ -53 of 1; and a coefficient of any size changes nothing about that, so a term of size up to 16,384 is near.
--- Provides, of a `Coordinate` (specs/Sums): `coordinate-relative`, `raised-relative`, `monomial-relative`, `product-relative` (x y); terms with a coefficient: `term`, `term-monomial`, `term-one`, `term-x`, `term-y`, `term-xy`, and
--- `term-close` (within 11 2 ^ -39, at most 16,385 in size); `close-size`. Assumes nothing.
+-- Provides, of a `Coordinate` (specs/Sums): `coordinate-relative`, `raised-relative`, `monomial-relative`, `product-relative` (x y); terms with a coefficient: `term`,
+-- `term-monomial`, `term-one`, `term-x`, `term-y`, `term-xy`, and `term-close` (within 11 2 ^ -39, at most 16,385 in size); `close-size`. Assumes nothing.
 use Prim.Native.Nat.{ℕ, zero, suc, _+_, _-_, _*_, _^_, _≤_}
 use native.Mathlib.Omega.{arith}
 use lib.Dec.{T, lit≤}

@@ -47,7 +47,7 @@ pub record Coordinate (x : Float) (X : Fraction) : Type 0 where
   pub most : absF (value x) ≤F frac 2097152 1
 
 -- ---- the sums of the source points
--- pixel i asks at i + offset + 0.5
+-- pixel i asks at i + offset + 0.5, the last constant
 abbrev pub asked : ℕ → ℤ → Float
 asked i o = ofInt binary64 (pos i) ⊕ ofInt binary64 o ⊕ ofBits binary64 0x3fe0_0000_0000_0000
 

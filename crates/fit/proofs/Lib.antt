@@ -1,2 +1,2 @@
 -- The laws of the fit's definitions, each file under its subject.
-pub mod MatrixLaws
+pub mod SolveLaws

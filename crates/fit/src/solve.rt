@@ -21,7 +21,7 @@ fn better(a: &[[f64; 21]; 21], col: usize, next: usize, best: usize) -> usize
 
 fn pivot(a: &[[f64; 21]; 21], col: usize, n: usize) -> usize
     requires { ⌜ (col < n) × (n ≤ 21) ⌝ }
-    ensures { λ r. ⌜ (r ≡ Solve.pivot (now (a .entry)) col n) × (r < n) ⌝ }
+    ensures { λ r. ⌜ r ≡ Solve.pivot (now (a .entry)) col n ⌝ }
 {
     let mut best = col;
     for row in col + 1..n {

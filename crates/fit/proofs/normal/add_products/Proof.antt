@@ -62,7 +62,8 @@ loop-less : tie.Need-loop-less Inv-loop μ-loop
 loop-less c = search needs
 
 loop-again : tie.Need-loop-again Inv-loop μ-loop
-loop-again c = ?
+unfolding addProduct
+loop-again c = (upTo-next _ _ _ _ (search needs) (c .before .before .before .loop .inv .0), search needs)
 
 returns : tie.Need-returns Inv-loop μ-loop
 returns c = upTo-last _ _ _ _ _ (search needs) (search needs) (c .before .loop .inv .0)

@@ -1,6 +1,6 @@
 -- The laws of elimination's definitions: a pivot is a row among the n. By the two cases of each test.
 -- Assumes nothing.
-use mathlib.Core.Path.{_≡_, refl, sym, ap, _∙_}
+use mathlib.Core.Path.{_≡_, refl, sym, ap, _∙_, subst}
 use mathlib.Core.Bool.{Bool, true, false, cond}
 use mathlib.Core.Option.{Option, none, some}
 use Prim.Native.Nat.{ℕ, _+_, _≤_, _<_}
@@ -22,6 +22,9 @@ better-below a col row best n r b = either-below (reaching (entry a best col) (e
 pub pivot-below : (a : Matrix) (col n : ℕ) → col < n → pivot a col n < n
 pivot-below a col n h =
     upTo-keep (better a col) (col + 1) col (λ (k : ℕ). k < n) n (omega arith) (λ j y lo hi b. better-below a col j y n hi b) h
+
+pub pivot-row : {n p : ℕ} (a : Matrix) (col : ℕ) → p ≡ pivot a col n → col < n → p < n
+pivot-row {n} a col e h = subst (λ (k : ℕ). k < n) (sym e) (pivot-below a col n h)
 
 -- ---- from what the code answers to the definitions
 

@@ -1,6 +1,8 @@
 -- Normal equations, row by row from zeros, and `lstsq`: their solution. A caller gives a row of numbers and a right-hand side for
 -- each number below `rows`. Assumes nothing.
-use Prim.Native.Nat.{ℕ}
+use Prim.Native.Nat.{ℕ, _/_, _%_}
+use mathlib.Core.Bool.{cond}
+use lib.Dec.{eqb}
 use lib.ListN.{set}
 use lib.Ieee.{Float}
 use Rattle.exact.specs.Double.{_⊕_, _⊗_}
@@ -28,6 +30,11 @@ addRow row y n s = upTo (addTerm row y n) 0 n s
 unfoldable pub normal : (ℕ → Vector) → (ℕ → Float) → ℕ → ℕ → System
 normal rowOf yOf n rows = upTo (λ (j : ℕ). addRow (rowOf j) (yOf j) n) 0 rows (zeroMatrix, zeros)
 
+-- n unknowns from so many rows
 unfoldable pub lstsq : (ℕ → Vector) → (ℕ → Float) → ℕ → ℕ → Solution
 unfolding normal
 lstsq rowOf yOf n rows = solved n (normal rowOf yOf n rows)
+
+-- rows that come in twos: f 0, g 0, f 1, g 1, ..
+unfoldable pub inTurn : {A : Type 0} → (ℕ → A) → (ℕ → A) → ℕ → A
+inTurn f g j = cond (eqb (j % 2) 0) (f (j / 2)) (g (j / 2))

@@ -39,9 +39,10 @@ abbrev pub multiple : Matrix → ℕ → ℕ → Float
 multiple a col row = entry a row col ⊘ entry a col col
 
 unfoldable pub clearRow : ℕ → ℕ → ℕ → System → System
-clearRow n col row s =
-    (upTo (takeTerm (multiple (s .0) col row) col row) col n (s .0),
-    set (s .1) row (at (s .1) row ⊖ multiple (s .0) col row ⊗ at (s .1) col))
+clearRow n col row s = (
+  upTo (takeTerm (multiple (s .0) col row) col row) col n (s .0),
+  set (s .1) row (at (s .1) row ⊖ multiple (s .0) col row ⊗ at (s .1) col),
+)
 
 abbrev pub clearBelow : ℕ → ℕ → System → System
 clearBelow n col s = upTo (clearRow n col) (col + 1) n s

@@ -4,7 +4,8 @@ ghost use Prim.Native.Nat.{_+_, _<_, _≤_};
 ghost use Rattle.fit.specs.Solve as Solve;
 ghost use Rattle.exact.specs.Loop.{upTo};
 ghost use Rattle.fit.specs.Solve.{takeTerm, clearRow, clearBelow, outcome, column, eliminated, known, substituted, solved};
-use number::magnitude::{abs, reaches};
+use number::magnitude::abs;
+use number::magnitude::reaches;
 
 pub struct Solution {
     pub found: bool,
@@ -16,7 +17,11 @@ fn better(a: &[[f64; 21]; 21], col: usize, next: usize, best: usize) -> usize
     requires { ⌜ (col < 21) × ((next < 21) × (best < 21)) ⌝ }
     ensures { λ r. ⌜ r ≡ Solve.better (now (a .entry)) col next best ⌝ }
 {
-    if reaches(a[best][col], a[next][col]) { next } else { best }
+    if reaches(a[best][col], a[next][col]) {
+        next
+    } else {
+        best
+    }
 }
 
 fn pivot(a: &[[f64; 21]; 21], col: usize, n: usize) -> usize
@@ -129,7 +134,10 @@ pub fn solve(m: [[f64; 21]; 21], y: [f64; 21], n: usize) -> Solution
     let mut a = m;
     let mut b = y;
     if !eliminate(&mut a, &mut b, n) {
-        return Solution { found: false, x: [0.0; 21] };
+        return Solution {
+            found: false,
+            x: [0.0; 21],
+        };
     }
     let x = substitute(&a, &b, n);
     Solution { found: true, x }

@@ -1,15 +1,13 @@
-use mathlib.Core.Path.{_≡_, refl, sym, ap, _∙_}
-use Prim.Native.Nat.{ℕ, _+_, _-_, _≤_, _<_}
-use native.Mathlib.Omega.{arith}
+-- `fit::normal::add_row` meets its contract. The loop's invariant: matrix and right-hand side are the definition's after i turns.
+-- Assumes nothing.
+use mathlib.Core.Path.{_≡_, _∙_}
+use Prim.Native.Nat.{_-_, _≤_}
 use borrow.Author.Needs.{needs}
 use Rattle.fit.specs.Normal.{addTerm}
 use Rattle.exact.specs.Loop.{upTo}
 use Rattle.exact.proofs.Loop.{upTo-none, upTo-next, upTo-last}
 use Rattle.fit.proofs.normal.add_row.Statement.{statement}
 use Rattle.fit.proofs.normal.add_row.Tie as tie
-use Rattle.fit.proofs.normal.add_row.Reads as reads
-use Rattle.fit.proofs.normal.add_row.Lts as lts
-use Rattle.fit.proofs.normal.add_term.Reads as add-term-reads
 
 abbrev Inv-loop : tie.InvT-loop
 Inv-loop a₀ b₀ row y n i₀ a b i = ((a, b) ≡ upTo (addTerm row y n) 0 i (a₀, b₀)) × (i ≤ n)
@@ -20,15 +18,6 @@ abbrev μ-loop : tie.MeasureT-loop
 loop-holds : tie.Need-loop-holds Inv-loop μ-loop
 loop-holds c = (upTo-none _ _ _, search needs)
 
-add-term-requires : tie.Need-add-term-requires Inv-loop μ-loop
-add-term-requires c κs = search needs
-
-add-i : tie.Need-add-i Inv-loop μ-loop
-add-i c = search needs
-
-loop-less : tie.Need-loop-less Inv-loop μ-loop
-loop-less c = search needs
-
 loop-again : tie.Need-loop-again Inv-loop μ-loop
 loop-again c = (c .add-term .ensures ∙ upTo-next _ _ _ _ (search needs) (c .before .before .before .before .loop .inv .0), search needs)
 
@@ -38,4 +27,4 @@ returns c = upTo-last _ _ _ _ _ (search needs) (search needs) (c .before .loop .
 pub add-row-spec : {M : Type 1} → statement M
 add-row-spec =
     tie.close
-    (tie.spec Inv-loop μ-loop loop-holds add-term-requires add-i loop-less loop-again returns)
+    (tie.spec Inv-loop μ-loop loop-holds (λ c κs. search needs) (λ c. search needs) (λ c. search needs) loop-again returns)

@@ -1,6 +1,7 @@
-use mathlib.Core.Path.{_≡_, refl, sym, ap, _∙_}
-use Prim.Native.Nat.{ℕ, _+_, _-_, _≤_, _<_}
-use native.Mathlib.Omega.{arith}
+-- `fit::solve::known_terms` meets its contract. The loop's invariant: the sum is the definition's after the terms passed.
+-- Assumes nothing.
+use mathlib.Core.Path.{_≡_}
+use Prim.Native.Nat.{_+_, _-_, _≤_}
 use borrow.Author.Needs.{needs}
 use Rattle.fit.specs.Matrix.{nought}
 use Rattle.fit.specs.Solve.{addKnown}
@@ -8,8 +9,6 @@ use Rattle.exact.specs.Loop.{upTo}
 use Rattle.exact.proofs.Loop.{upTo-none, upTo-next, upTo-last}
 use Rattle.fit.proofs.solve.known_terms.Statement.{statement}
 use Rattle.fit.proofs.solve.known_terms.Tie as tie
-use Rattle.fit.proofs.solve.known_terms.Reads as reads
-use Rattle.fit.proofs.solve.known_terms.Lts as lts
 
 abbrev Inv-loop : tie.InvT-loop
 Inv-loop a x i n sum₀ k₀ sum k = (sum ≡ upTo (addKnown a x i) (i + 1) k nought) × ((i + 1 ≤ k) × (k ≤ n))
@@ -17,35 +16,8 @@ Inv-loop a x i n sum₀ k₀ sum k = (sum ≡ upTo (addKnown a x i) (i + 1) k no
 abbrev μ-loop : tie.MeasureT-loop
 μ-loop a x i n sum₀ k₀ sum k = n - k
 
-add-k : tie.Need-add-k Inv-loop μ-loop
-add-k c = search needs
-
 loop-holds : tie.Need-loop-holds Inv-loop μ-loop
 loop-holds c = (upTo-none _ _ _, search needs)
-
-mul-sum : tie.Need-mul-sum Inv-loop μ-loop
-mul-sum c = search needs
-
-mul-sum-2 : tie.Need-mul-sum-2 Inv-loop μ-loop
-mul-sum-2 c = search needs
-
-index-1-sum : tie.Need-index-1-sum Inv-loop μ-loop
-index-1-sum c = search needs
-
-index-2-sum : tie.Need-index-2-sum Inv-loop μ-loop
-index-2-sum c = search needs
-
-mul-sum-3 : tie.Need-mul-sum-3 Inv-loop μ-loop
-mul-sum-3 c = search needs
-
-element-copy-out-sum : tie.Need-element-copy-out-sum Inv-loop μ-loop
-element-copy-out-sum c = search needs
-
-add-k-2 : tie.Need-add-k-2 Inv-loop μ-loop
-add-k-2 c = search needs
-
-loop-less : tie.Need-loop-less Inv-loop μ-loop
-loop-less c = search needs
 
 loop-again : tie.Need-loop-again Inv-loop μ-loop
 unfolding addKnown
@@ -60,15 +32,15 @@ known-terms-spec =
     (tie.spec
     Inv-loop
     μ-loop
-    add-k
+    (λ c. search needs)
     loop-holds
-    mul-sum
-    mul-sum-2
-    index-1-sum
-    index-2-sum
-    mul-sum-3
-    element-copy-out-sum
-    add-k-2
-    loop-less
+    (λ c. search needs)
+    (λ c. search needs)
+    (λ c. search needs)
+    (λ c. search needs)
+    (λ c. search needs)
+    (λ c. search needs)
+    (λ c. search needs)
+    (λ c. search needs)
     loop-again
     returns)

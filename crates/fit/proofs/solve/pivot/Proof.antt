@@ -1,6 +1,8 @@
-use mathlib.Core.Path.{_≡_, refl, sym, ap, _∙_, subst}
+-- `fit::solve::pivot` meets its contract. The loop's invariant: the best row is the definition's after the rows passed, and it is
+-- a row among the n.
+-- Assumes nothing.
+use mathlib.Core.Path.{_≡_, sym, _∙_, subst}
 use Prim.Native.Nat.{ℕ, _+_, _-_, _≤_, _<_}
-use native.Mathlib.Omega.{arith}
 use borrow.Author.Needs.{needs}
 use Rattle.fit.proofs.SolveLaws.{better-below}
 use Rattle.fit.specs.Solve.{better}
@@ -8,9 +10,6 @@ use Rattle.exact.specs.Loop.{upTo}
 use Rattle.exact.proofs.Loop.{upTo-none, upTo-next, upTo-last}
 use Rattle.fit.proofs.solve.pivot.Statement.{statement}
 use Rattle.fit.proofs.solve.pivot.Tie as tie
-use Rattle.fit.proofs.solve.pivot.Reads as reads
-use Rattle.fit.proofs.solve.pivot.Lts as lts
-use Rattle.fit.proofs.solve.better.Reads as better-reads
 
 abbrev Inv-loop : tie.InvT-loop
 Inv-loop a col n best₀ row₀ best row = (best ≡ upTo (better a col) (col + 1) row col) × ((best < n) × ((col + 1 ≤ row) × (row ≤ n)))
@@ -18,20 +17,8 @@ Inv-loop a col n best₀ row₀ best row = (best ≡ upTo (better a col) (col + 
 abbrev μ-loop : tie.MeasureT-loop
 μ-loop a col n best₀ row₀ best row = n - row
 
-add-row : tie.Need-add-row Inv-loop μ-loop
-add-row c = search needs
-
 loop-holds : tie.Need-loop-holds Inv-loop μ-loop
 loop-holds c = (upTo-none _ _ _, search needs)
-
-better-requires : tie.Need-better-requires Inv-loop μ-loop
-better-requires c κs = search needs
-
-add-row-2 : tie.Need-add-row-2 Inv-loop μ-loop
-add-row-2 c = search needs
-
-loop-less : tie.Need-loop-less Inv-loop μ-loop
-loop-less c = search needs
 
 loop-again : tie.Need-loop-again Inv-loop μ-loop
 loop-again c = (c .better .ensures ∙ upTo-next _ _ _ _ (search needs) (c .before .before .loop .inv .0), (subst (λ (k : ℕ). k < c .before .before .before .args .n) (sym (c .better .ensures)) (better-below _ _ _ _ _ (search needs) (search needs)), search needs))
@@ -45,10 +32,10 @@ pivot-spec =
     (tie.spec
     Inv-loop
     μ-loop
-    add-row
+    (λ c. search needs)
     loop-holds
-    better-requires
-    add-row-2
-    loop-less
+    (λ c κs. search needs)
+    (λ c. search needs)
+    (λ c. search needs)
     loop-again
     returns)

@@ -1,14 +1,13 @@
-use mathlib.Core.Path.{_≡_, refl, sym, ap, _∙_}
-use Prim.Native.Nat.{ℕ, _+_, _-_, _≤_, _<_}
-use native.Mathlib.Omega.{arith}
+-- `fit::solve::take_row` meets its contract. The loop's invariant: the matrix is the definition's after the columns passed.
+-- Assumes nothing.
+use mathlib.Core.Path.{_≡_}
+use Prim.Native.Nat.{_-_, _≤_}
 use borrow.Author.Needs.{needs}
 use Rattle.fit.specs.Solve.{takeTerm}
 use Rattle.exact.specs.Loop.{upTo}
 use Rattle.exact.proofs.Loop.{upTo-none, upTo-next, upTo-last}
 use Rattle.fit.proofs.solve.take_row.Statement.{statement}
 use Rattle.fit.proofs.solve.take_row.Tie as tie
-use Rattle.fit.proofs.solve.take_row.Reads as reads
-use Rattle.fit.proofs.solve.take_row.Lts as lts
 
 abbrev Inv-loop : tie.InvT-loop
 Inv-loop a₀ f col row n k₀ a k = (a ≡ upTo (takeTerm f col row) col k a₀) × ((col ≤ k) × (k ≤ n))
@@ -18,48 +17,6 @@ abbrev μ-loop : tie.MeasureT-loop
 
 loop-holds : tie.Need-loop-holds Inv-loop μ-loop
 loop-holds c = (upTo-none _ _ _, search needs)
-
-mul-a : tie.Need-mul-a Inv-loop μ-loop
-mul-a c = search needs
-
-mul-a-2 : tie.Need-mul-a-2 Inv-loop μ-loop
-mul-a-2 c = search needs
-
-index-1-a : tie.Need-index-1-a Inv-loop μ-loop
-index-1-a c = search needs
-
-index-2-a : tie.Need-index-2-a Inv-loop μ-loop
-index-2-a c = search needs
-
-mul-a-3 : tie.Need-mul-a-3 Inv-loop μ-loop
-mul-a-3 c = search needs
-
-mul-a-4 : tie.Need-mul-a-4 Inv-loop μ-loop
-mul-a-4 c = search needs
-
-index-1-a-2 : tie.Need-index-1-a-2 Inv-loop μ-loop
-index-1-a-2 c = search needs
-
-index-2-a-2 : tie.Need-index-2-a-2 Inv-loop μ-loop
-index-2-a-2 c = search needs
-
-mul-a-5 : tie.Need-mul-a-5 Inv-loop μ-loop
-mul-a-5 c = search needs
-
-mul-a-6 : tie.Need-mul-a-6 Inv-loop μ-loop
-mul-a-6 c = search needs
-
-index-1-a-3 : tie.Need-index-1-a-3 Inv-loop μ-loop
-index-1-a-3 c = search needs
-
-index-2-a-3 : tie.Need-index-2-a-3 Inv-loop μ-loop
-index-2-a-3 c = search needs
-
-add-k : tie.Need-add-k Inv-loop μ-loop
-add-k c = search needs
-
-loop-less : tie.Need-loop-less Inv-loop μ-loop
-loop-less c = search needs
 
 loop-again : tie.Need-loop-again Inv-loop μ-loop
 unfolding takeTerm
@@ -75,19 +32,19 @@ take-row-spec =
     Inv-loop
     μ-loop
     loop-holds
-    mul-a
-    mul-a-2
-    index-1-a
-    index-2-a
-    mul-a-3
-    mul-a-4
-    index-1-a-2
-    index-2-a-2
-    mul-a-5
-    mul-a-6
-    index-1-a-3
-    index-2-a-3
-    add-k
-    loop-less
+    (λ c. search needs)
+    (λ c. search needs)
+    (λ c. search needs)
+    (λ c. search needs)
+    (λ c. search needs)
+    (λ c. search needs)
+    (λ c. search needs)
+    (λ c. search needs)
+    (λ c. search needs)
+    (λ c. search needs)
+    (λ c. search needs)
+    (λ c. search needs)
+    (λ c. search needs)
+    (λ c. search needs)
     loop-again
     returns)

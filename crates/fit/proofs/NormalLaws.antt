@@ -1,12 +1,11 @@
 -- The laws of normal equations for whoever makes the rows: none yet, one row more, two rows more where they come in twos, and the
 -- solution. By the laws of counted loops. Assumes nothing.
-use mathlib.Core.Path.{_≡_, refl, sym, ap, _∙_}
-use mathlib.Core.Bool.{Bool, cond}
-use Prim.Native.Nat.{ℕ, _+_, _*_, _/_, _%_, _≤_}
+use mathlib.Core.Path.{_≡_, sym, ap, _∙_}
+use mathlib.Core.Bool.{cond}
+use Prim.Native.Nat.{ℕ, _+_, _*_, _/_, _%_}
 use native.Mathlib.Omega.{arith}
 use lib.Dec.{eqb}
 use lib.Ieee.{Float}
-use Rattle.exact.specs.Loop.{upTo}
 use Rattle.exact.proofs.Loop.{upTo-none, upTo-next}
 use Rattle.fit.specs.declared.solve.Solution.{Solution}
 use Rattle.fit.specs.Matrix.{Vector, System, zeros, zeroMatrix}

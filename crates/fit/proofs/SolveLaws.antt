@@ -1,9 +1,8 @@
--- The laws of elimination's definitions: a pivot is a row among the n. By the two cases of each test.
--- Assumes nothing.
+-- The laws of elimination's definitions: a pivot is a row among the n. By the two cases of each test. Assumes nothing.
 use mathlib.Core.Path.{_≡_, refl, sym, ap, _∙_, subst}
 use mathlib.Core.Bool.{Bool, true, false, cond}
-use mathlib.Core.Option.{Option, none, some}
-use Prim.Native.Nat.{ℕ, _+_, _≤_, _<_}
+use mathlib.Core.Option.{some}
+use Prim.Native.Nat.{ℕ, _+_, _<_}
 use native.Mathlib.Omega.{arith}
 use Rattle.exact.proofs.Loop.{upTo-keep}
 use Rattle.number.specs.Magnitude.{reaching}

@@ -1,6 +1,5 @@
 -- `fit::solve::better` meets its contract. Each way out is what the definition picks where its test is as the code found it.
 -- Assumes nothing.
-use Prim.Native.Nat.{_-_}
 use borrow.Author.Needs.{needs}
 use Rattle.fit.specs.Solve.{better}
 use Rattle.fit.proofs.solve.better.Statement.{statement}

@@ -1,12 +1,11 @@
 -- `fit::solve::clear_below` meets its contract. The loop's invariant: matrix and right-hand side are the definition's after the
--- rows passed.
--- Assumes nothing.
+-- rows passed. Assumes nothing.
 use mathlib.Core.Path.{_≡_, _∙_}
 use Prim.Native.Nat.{_+_, _-_, _≤_}
 use borrow.Author.Needs.{needs}
-use Rattle.fit.specs.Solve.{clearRow}
 use Rattle.exact.specs.Loop.{upTo}
 use Rattle.exact.proofs.Loop.{upTo-none, upTo-next, upTo-last}
+use Rattle.fit.specs.Solve.{clearRow}
 use Rattle.fit.proofs.solve.clear_below.Statement.{statement}
 use Rattle.fit.proofs.solve.clear_below.Tie as tie
 

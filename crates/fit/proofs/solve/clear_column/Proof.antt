@@ -1,10 +1,9 @@
 -- `fit::solve::clear_column` meets its contract. The pivot is a row among the n; each way out rewrites with what the calls ensure
--- and with the test that led there.
--- Assumes nothing.
+-- and with the test that led there. Assumes nothing.
 use Prim.Native.Nat.{_<_}
 use borrow.Author.Needs.{needs}
-use Rattle.fit.proofs.SolveLaws.{pivot-row}
 use Rattle.fit.specs.Solve.{outcome, column}
+use Rattle.fit.proofs.SolveLaws.{pivot-row}
 use Rattle.fit.proofs.solve.clear_column.Statement.{statement}
 use Rattle.fit.proofs.solve.clear_column.Tie as tie
 

@@ -1,15 +1,14 @@
 -- `fit::solve::eliminate` meets its contract. The loop's invariant: the columns passed all gave equations, and these are as they
--- stand. After a column that gives none, no further step changes that.
--- Assumes nothing.
+-- stand. After a column that gives none, no further step changes that. Assumes nothing.
 use mathlib.Core.Path.{_≡_, _∙_}
+use mathlib.Core.Option.{some}
 use Prim.Native.Nat.{_+_, _-_, _≤_}
 use borrow.Author.Needs.{needs}
-use Rattle.fit.proofs.SolveLaws.{step-stopped, step-done, stopped-stays}
 use borrow.Author.Tests.{not-true, not-false}
-use Rattle.fit.specs.Solve.{outcome, step}
-use mathlib.Core.Option.{none, some}
 use Rattle.exact.specs.Loop.{upTo}
 use Rattle.exact.proofs.Loop.{upTo-none, upTo-next, upTo-last, upTo-stay}
+use Rattle.fit.specs.Solve.{outcome, step}
+use Rattle.fit.proofs.SolveLaws.{step-stopped, step-done, stopped-stays}
 use Rattle.fit.proofs.solve.eliminate.Statement.{statement}
 use Rattle.fit.proofs.solve.eliminate.Tie as tie
 

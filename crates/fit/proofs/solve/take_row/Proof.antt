@@ -3,9 +3,9 @@
 use mathlib.Core.Path.{_≡_}
 use Prim.Native.Nat.{_-_, _≤_}
 use borrow.Author.Needs.{needs}
-use Rattle.fit.specs.Solve.{takeTerm}
 use Rattle.exact.specs.Loop.{upTo}
 use Rattle.exact.proofs.Loop.{upTo-none, upTo-next, upTo-last}
+use Rattle.fit.specs.Solve.{takeTerm}
 use Rattle.fit.proofs.solve.take_row.Statement.{statement}
 use Rattle.fit.proofs.solve.take_row.Tie as tie
 

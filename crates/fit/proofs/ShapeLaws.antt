@@ -13,7 +13,8 @@ use lib.Ieee.{Float, nan}
 use borrow.Author.Tests.{eqb-true, eqb-false}
 use Rattle.exact.proofs.Loop.{upTo-keep, downTo-keep}
 use Rattle.fit.specs.Matrix.{Vector, Matrix, System, at, rowAt, put, nought, zeros, zeroMatrix}
-use Rattle.fit.specs.Solve.{substitute, substituted, answer, solved, eliminated}
+use Rattle.fit.specs.Eliminate.{eliminated}
+use Rattle.fit.specs.Solve.{substitute, substituted, answer, solved}
 use Rattle.fit.specs.Normal.{addProduct, addTerm, addRow, normal}
 
 -- ---- the solution

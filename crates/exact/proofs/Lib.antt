@@ -1,7 +1,13 @@
 -- The laws, each file under its subject.
+pub mod Closest
 pub mod Held
 pub mod Loop
-pub mod Scale
 pub mod Near
-pub mod Value
+pub mod Overflow
+pub mod OwnValue
 pub mod Pattern
+pub mod Patterns
+pub mod Rounded
+pub mod Scale
+pub mod UnitPatterns
+pub mod Value

@@ -14,7 +14,7 @@ use lib.Ieee.Exact.{HasValue}
 use lib.Ieee.Fits.{up-pos, down-pos}
 use lib.Ieee.Scale.{finite}
 use borrow.Author.Tests.{lt-ltb, le-ltb, lt-leb, ne-eqb}
-use Rattle.exact.proofs.Held.{round-held, round-zero, zero-exp}
+use Rattle.exact.proofs.OwnValue.{round-held, round-zero, zero-exp}
 use Rattle.number.specs.Magnitude.{abs}
 
 abbrev +0 : Float

@@ -1,1 +1,64 @@
-// narrow
+// An f64 to the nearest f32, ties to even, for every f64: there is no cast that rounds. It works on the bits. A pattern
+// without its sign's bit is a whole number that grows with the value, so rounding 29 digits off it rounds the
+// value, and a carry out of the digits goes into the exponent's field, up to the pattern of the infinity.
+ghost use mathlib.Core.Path.{_≡_};
+ghost use Prim.Native.Nat.{_+_, _*_, _%_, _≤_, _<_};
+ghost use lib.Ieee.{binary32, binary64, ofBits, toBits};
+ghost use lib.Ieee.Nearest.{closest};
+ghost use Rattle.number.specs.Narrow.{narrow};
+
+// a / unit to the nearest whole number, ties to even, for an even unit.
+fn closest(a: u64, unit: u64) -> u64
+    requires { ⌜ (unit % 2 ≡ 0) × ((0 < unit) × (a + unit < 0x10000000000000000)) ⌝ }
+    ensures { λ r. ⌜ r ≡ closest a unit ⌝ }
+{
+    (a + (unit / 2 - 1) + (a / unit) % 2) / unit
+}
+
+// From 2^-126 on, below 2^128: 29 digits fewer, and the exponent's bias is 127 instead of 1023.
+fn ordinary(m: u64) -> u64
+    requires { ⌜ (0x3810000000000000 ≤ m) × (m < 0x47f0000000000000) ⌝ }
+    ensures { λ r. ⌜ r ≡ toBits binary32 (narrow (ofBits binary64 m)) ⌝ }
+{
+    closest(m, 0x20000000) - 0x1c0000000
+}
+
+// Below 2^-126 the result is a whole number of 2^-149. The significand is 2^(926 - field) times too large for that unit;
+// from 2^54 on less than half a unit is left.
+fn subnormal(m: u64) -> u64
+    requires { ⌜ m < 0x3810000000000000 ⌝ }
+    ensures { λ r. ⌜ r ≡ toBits binary32 (narrow (ofBits binary64 m)) ⌝ }
+{
+    let field = m / 0x10000000000000;
+    if field < 873 {
+        return 0;
+    }
+    closest(0x10000000000000 + m % 0x10000000000000, 1 << (926 - field))
+}
+
+// The pattern of the f32 that is nearest to the f64 with the pattern m, both without the sign's bit.
+fn pattern(m: u64) -> u64
+    requires { ⌜ m ≤ 0x7ff0000000000000 ⌝ }
+    ensures { λ r. ⌜ r ≡ toBits binary32 (narrow (ofBits binary64 m)) ⌝ }
+{
+    if 0x3810000000000000 <= m && m < 0x47f0000000000000 {
+        ordinary(m)
+    } else if m < 0x3810000000000000 {
+        subnormal(m)
+    } else {
+        0x7f800000
+    }
+}
+
+// What Rust's `x as f32` is.
+pub fn narrow(x: f64) -> f32
+    ensures { λ r. ⌜ r ≡ narrow x ⌝ }
+{
+    if x != x {
+        let zero: f32 = 0.0;
+        return zero / zero;
+    }
+    let bits = f64::to_bits(x);
+    let p = pattern(bits % 0x8000000000000000);
+    f32::from_bits(((bits / 0x8000000000000000) * 0x80000000 + p) as u32)
+}

@@ -1,0 +1,76 @@
+//! Methods, policies and interpolations by name, in the order of the original's enums.
+
+pub const METHODS: [&str; 14] = [
+    "Affine",
+    "AffineProjection",
+    "ScaleRotateTranslate",
+    "Perspective",
+    "PerspectiveProjection",
+    "BilinearReverse",
+    "BilinearForward",
+    "Polynomial",
+    "Arc",
+    "Polar",
+    "DePolar",
+    "Barrel",
+    "BarrelInverse",
+    "Shepards",
+];
+
+pub const POLICIES: [&str; 14] = [
+    "Edge",
+    "Background",
+    "Black",
+    "White",
+    "Gray",
+    "Transparent",
+    "Tile",
+    "Mirror",
+    "HorizontalTile",
+    "VerticalTile",
+    "HorizontalTileEdge",
+    "VerticalTileEdge",
+    "CheckerTile",
+    "Random",
+];
+
+pub const INTERPOLATIONS: [&str; 9] = [
+    "Integer",
+    "Nearest",
+    "Average",
+    "Average9",
+    "Average16",
+    "Bilinear",
+    "Catrom",
+    "Spline",
+    "Background",
+];
+
+pub const AFFINE: u64 = 0;
+pub const AFFINE_PROJECTION: u64 = 1;
+pub const PERSPECTIVE: u64 = 3;
+pub const PERSPECTIVE_PROJECTION: u64 = 4;
+pub const BILINEAR_REVERSE: u64 = 5;
+pub const BILINEAR_FORWARD: u64 = 6;
+pub const POLYNOMIAL: u64 = 7;
+pub const BARREL: u64 = 11;
+pub const BARREL_INVERSE: u64 = 12;
+pub const SHEPARDS: u64 = 13;
+
+/// The ten methods that are present.
+pub const PRESENT: [u64; 10] = [
+    AFFINE,
+    AFFINE_PROJECTION,
+    PERSPECTIVE,
+    PERSPECTIVE_PROJECTION,
+    BILINEAR_REVERSE,
+    BILINEAR_FORWARD,
+    POLYNOMIAL,
+    BARREL,
+    BARREL_INVERSE,
+    SHEPARDS,
+];
+
+/// The policy that makes a picture of four channels.
+pub const TRANSPARENT: u64 = 5;
+pub const BILINEAR: u64 = 5;

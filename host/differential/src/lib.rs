@@ -1,0 +1,21 @@
+//! The differential runs: jobs made from a seed, two answers to each, the first difference as a smallest job.
+
+pub mod answer;
+pub mod codes;
+pub mod expected;
+pub mod generate;
+pub mod job;
+pub mod number;
+pub mod random;
+pub mod refusal;
+pub mod runner;
+pub mod shrink;
+pub mod text;
+
+pub use answer::{Answer, Verdict};
+pub use job::{Job, Window};
+
+/// Whether the full counts are asked for: DIHYRAVO_FULL=1.
+pub fn full() -> bool {
+    std::env::var_os("DIHYRAVO_FULL").is_some_and(|value| value == "1")
+}

@@ -1,0 +1,190 @@
+//! The refusal table of document 01, read off its text: tests in its order, the first that applies is the answer.
+//! Whether a fit is degenerate and which window bestfit finds are asked of the reference.
+
+use crate::codes::*;
+use crate::expected::{fit, window};
+use crate::{Job, Window};
+use reference::Reference;
+
+/// The largest width or height, and the largest argument and offset.
+pub const SIDE: u64 = 4_096;
+pub const ARGUMENT: f64 = 1_048_576.0;
+pub const OFFSET: i64 = 1_048_576;
+pub const SAMPLE: f32 = 65_536.0;
+pub const ARGUMENTS: usize = 257;
+pub const PAIRS: usize = 64;
+
+/// The number of the refusal, 0 for an accepted job.
+pub fn refusal(r: Reference, job: &Job) -> u8 {
+    let before = before_the_fit(job);
+    if before != 0 {
+        return before;
+    }
+    match fit(r, job) {
+        None => 8,
+        Some(mapping) => after_the_fit(job, window(job, &mapping)),
+    }
+}
+
+type Test = fn(&Job) -> bool;
+
+/// Refusals 1 to 7, or 0.
+pub fn before_the_fit(job: &Job) -> u8 {
+    let tests: [(u8, Test); 7] = [
+        (1, size),
+        (2, length),
+        (3, code),
+        (4, count),
+        (5, number),
+        (6, order),
+        (7, few),
+    ];
+    let first = tests.iter().find(|(_, applies)| applies(job));
+    first.map_or(0, |(number, _)| *number)
+}
+
+/// Refusals 9 to 11 with the output's window, or 0.
+pub fn after_the_fit(job: &Job, w: Window) -> u8 {
+    let far = |offset: i64| !(-OFFSET..=OFFSET).contains(&offset);
+    if bad_side(w.width) || bad_side(w.height) || far(w.x) || far(w.y) {
+        return 9;
+    }
+    if job.first_row as u128 + job.rows as u128 > w.height as u128 {
+        return 10;
+    }
+    let needed = job.rows * w.width * job.output_channels();
+    if job.band as u64 != needed * 4 {
+        return 11;
+    }
+    0
+}
+
+fn bad_side(side: u64) -> bool {
+    side == 0 || side > SIDE
+}
+
+fn size(job: &Job) -> bool {
+    bad_side(job.width) || bad_side(job.height) || ![1, 3, 4].contains(&job.channels)
+}
+
+/// Asked after `size`, so the product is small.
+fn length(job: &Job) -> bool {
+    let needed = job.width * job.height * job.channels;
+    job.samples.len() as u64 != needed || job.samples_rest != 0
+}
+
+fn code(job: &Job) -> bool {
+    !PRESENT.contains(&job.method)
+        || job.policy >= POLICIES.len() as u64
+        || job.interpolation >= INTERPOLATIONS.len() as u64
+}
+
+fn count(job: &Job) -> bool {
+    let n = job.args.len();
+    if n > ARGUMENTS || job.args_rest != 0 {
+        return true;
+    }
+    match job.method {
+        AFFINE_PROJECTION => n != 6,
+        PERSPECTIVE_PROJECTION => n != 8,
+        BARREL | BARREL_INVERSE => n < 3,
+        POLYNOMIAL => n == 0 || not_pairs(n - 1),
+        _ => not_pairs(n),
+    }
+}
+
+fn not_pairs(values: usize) -> bool {
+    values < 4 || !values.is_multiple_of(4) || values / 4 > PAIRS
+}
+
+fn number(job: &Job) -> bool {
+    let bad_argument = |x: &f64| !(x.is_finite() && x.abs() <= ARGUMENT);
+    let bad_sample = |x: &f32| !(x.is_finite() && x.abs() <= SAMPLE);
+    job.args.iter().any(bad_argument)
+        || job.samples.iter().any(bad_sample)
+        || job.background.iter().any(bad_sample)
+        || job.undefined.iter().any(bad_sample)
+}
+
+fn order(job: &Job) -> bool {
+    job.method == POLYNOMIAL && !(1.0..=5.0).contains(&job.args[0])
+}
+
+fn few(job: &Job) -> bool {
+    match job.method {
+        PERSPECTIVE | BILINEAR_FORWARD | BILINEAR_REVERSE => job.args.len() / 4 < 4,
+        POLYNOMIAL => (job.args.len() - 1) / 4 < terms(job.args[0]),
+        _ => false,
+    }
+}
+
+/// The terms of a polynomial whose order is from 1 to 5.
+pub fn terms(order: f64) -> usize {
+    if (order - 1.5).abs() < 1e-9 {
+        return 4;
+    }
+    // Halves go up.
+    let whole = (order + 0.5).floor() as usize;
+    (whole + 1) * (whole + 2) / 2
+}
+
+#[cfg(test)]
+mod tests {
+    use super::*;
+
+    #[test]
+    fn terms_of_the_orders() {
+        let orders = [1.0, 1.49, 1.4999999999, 1.5, 2.0, 2.5, 3.5, 4.4, 4.5, 5.0];
+        assert_eq!(
+            orders.map(terms),
+            [3, 3, 4, 4, 6, 10, 15, 15, 21, 21],
+            "an order within 1e-9 of 1.5 has four terms, others are rounded"
+        );
+    }
+
+    /// The limits of the trial cards.
+    #[test]
+    fn limits() {
+        let with = |words: &str| before_the_fit(&words.parse().unwrap());
+        assert_eq!(with("size=4096x1x1 samples=0*4096"), 0);
+        assert_eq!(with("size=4097x1x1 samples=0*4097"), 1);
+        assert_eq!(with("args=1048576*4"), 0);
+        assert_eq!(with("args=1048576.0000000002*4"), 5);
+        assert_eq!(with("args=0*256"), 0);
+        assert_eq!(with("args=0*260"), 4);
+        assert_eq!(with("method=Polynomial args=2.5,0*36"), 7);
+    }
+
+    #[test]
+    fn the_first_of_several_is_the_answer() {
+        let with = |words: &str| before_the_fit(&words.parse().unwrap());
+        let all = "size=0x1x1 samples=0~1 method=Arc args=#7ff0000000000000*3";
+        assert_eq!(with(all), 1);
+        assert_eq!(with(&format!("{all} size=1x1x1")), 2);
+        assert_eq!(with(&format!("{all} size=1x1x1 samples=0")), 3);
+        assert_eq!(with(&format!("{all} size=1x1x1 samples=0 method=0")), 4);
+        let five = "method=Polynomial args=6,#7ff0000000000000,0*3";
+        assert_eq!(with(five), 5);
+        assert_eq!(with("method=Polynomial args=6,0*4"), 6);
+        assert_eq!(with("method=Polynomial args=1,0*4"), 7);
+    }
+
+    #[test]
+    fn windows_rows_and_bands() {
+        let with = |words: &str| {
+            let job: Job = words.parse().unwrap();
+            after_the_fit(&job, job.own_window())
+        };
+        assert_eq!(with(""), 0);
+        assert_eq!(with("viewport=0x1@0,0"), 9);
+        assert_eq!(with("viewport=1x4097@0,0"), 9);
+        assert_eq!(with("viewport=1x1@1048576,-1048576"), 0);
+        assert_eq!(with("viewport=1x1@1048577,0"), 9);
+        assert_eq!(with("rows=0+2"), 10);
+        assert_eq!(with("rows=18446744073709551615+1"), 10);
+        assert_eq!(with("rows=1+0 band=0"), 0);
+        assert_eq!(with("band=5"), 11);
+        assert_eq!(with("background=1*3,0.5 band=4"), 11);
+        assert_eq!(with("background=1*3,0.5 band=16"), 0);
+    }
+}

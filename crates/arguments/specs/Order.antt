@@ -8,16 +8,16 @@ use Rattle.number.specs.Magnitude.{abs}
 -- within 1e-9 of 1.5: the terms 1, x, y, xy
 unfoldable pub bilinearOrder : Float → Bool
 bilinearOrder order =
-    lt (abs (order ⊖ ofBits binary64 0x3ff8_0000_0000_0000)) -- 1.5
-    (ofBits binary64 0x3e11_2e0b_e826_d695) -- 1e-9
+    lt (abs (order ⊖ ofBits binary64 0x3ff8_0000_0000_0000))  -- 1.5
+    (ofBits binary64 0x3e11_2e0b_e826_d695)  -- 1e-9
 
 -- the order rounded, halves up, for an order from 1 to 5
 unfoldable pub degree : Float → ℕ
 degree order =
-    cond (lt order (ofBits binary64 0x3ff8_0000_0000_0000)) 1 -- 1.5
-    (cond (lt order (ofBits binary64 0x4004_0000_0000_0000)) 2 -- 2.5
-    (cond (lt order (ofBits binary64 0x400c_0000_0000_0000)) 3 -- 3.5
-    (cond (lt order (ofBits binary64 0x4012_0000_0000_0000)) 4 -- 4.5
+    cond (lt order (ofBits binary64 0x3ff8_0000_0000_0000)) 1  -- 1.5
+    (cond (lt order (ofBits binary64 0x4004_0000_0000_0000)) 2  -- 2.5
+    (cond (lt order (ofBits binary64 0x400c_0000_0000_0000)) 3  -- 3.5
+    (cond (lt order (ofBits binary64 0x4012_0000_0000_0000)) 4  -- 4.5
     5)))
 
 -- 1, x, y, xy for the bilinear order, else the monomials up to the degree: 3, 6, 10, 15 or 21

@@ -1,23 +1,24 @@
-use mathlib.Core.Path.{_≡_, refl, sym, ap, _∙_}
-use Prim.Native.Nat.{ℕ, _+_, _-_, _≤_, _<_}
-use native.Mathlib.Omega.{arith}
-use borrow.Author.Needs.{needs}
+-- `is_present` is its definition: each way out knows enough of the code that the definition's tests compute. Assumes nothing.
+use borrow.Author.Tests.{le-leb, lt-leb, lt-ltb, le-ltb, ne-eqb}
+use Rattle.arguments.specs.Method.{present}
 use Rattle.arguments.proofs.method.is_present.Statement.{statement}
 use Rattle.arguments.proofs.method.is_present.Tie as tie
-use Rattle.arguments.proofs.method.is_present.Reads as reads
-use Rattle.arguments.proofs.method.is_present.Lts as lts
 
 returns : tie.Need-returns
-returns c = search needs
+unfolding present
+returns c = simp (lt-leb _ _ (c .if1 .taken))
 
 returns-2 : tie.Need-returns-2
-returns-2 c = search needs
+unfolding present
+returns-2 c = rw (c .if2 .taken)
 
 returns-3 : tie.Need-returns-3
-returns-3 c = search needs
+unfolding present
+returns-3 c = simp (le-leb _ _ (c .before .before .if1 .left), ne-eqb _ _ (c .before .if2 .left), lt-ltb _ _ (c .if3 .taken))
 
 returns-4 : tie.Need-returns-4
-returns-4 c = search needs
+unfolding present
+returns-4 c = simp (le-leb _ _ (c .before .before .if1 .left), ne-eqb _ _ (c .before .if2 .left), le-ltb _ _ (c .if3 .left))
 
 pub is-present-spec : {M : Type 1} → statement M
 is-present-spec = tie.close (tie.spec returns returns-2 returns-3 returns-4)

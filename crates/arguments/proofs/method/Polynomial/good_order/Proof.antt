@@ -1,17 +1,15 @@
-use mathlib.Core.Path.{_≡_, refl, sym, ap, _∙_}
-use Prim.Native.Nat.{ℕ, _+_, _-_, _≤_, _<_}
-use native.Mathlib.Omega.{arith}
-use borrow.Author.Needs.{needs}
+-- `Polynomial::good_order` is its definition: the first comparison decides, else the second is the answer. Assumes nothing.
+use Rattle.arguments.specs.Order.{goodOrder}
 use Rattle.arguments.proofs.method.Polynomial.good_order.Statement.{statement}
 use Rattle.arguments.proofs.method.Polynomial.good_order.Tie as tie
-use Rattle.arguments.proofs.method.Polynomial.good_order.Reads as reads
-use Rattle.arguments.proofs.method.Polynomial.good_order.Lts as lts
 
 returns : tie.Need-returns
-returns c = search needs
+unfolding goodOrder
+returns c = simp (c .if1 .taken)
 
 returns-2 : tie.Need-returns-2
-returns-2 c = search needs
+unfolding goodOrder
+returns-2 c = simp (c .if1 .left)
 
 pub good-order-spec : {M : Type 1} → statement M
 good-order-spec = tie.close (tie.spec returns returns-2)

@@ -1,43 +1,29 @@
-use mathlib.Core.Path.{_≡_, refl, sym, ap, _∙_}
-use Prim.Native.Nat.{ℕ, _+_, _-_, _≤_, _<_}
+-- `Polynomial::terms` is its definition: four terms for the bilinear order, else the triangle number of a degree that is at
+-- most 5, so that its product fits. Assumes nothing.
 use native.Mathlib.Omega.{arith}
 use borrow.Author.Needs.{needs}
+use Rattle.arguments.specs.Order.{termsOf}
+use Rattle.arguments.proofs.OrderLaws.{degree-range, terms-twice}
 use Rattle.arguments.proofs.method.Polynomial.terms.Statement.{statement}
 use Rattle.arguments.proofs.method.Polynomial.terms.Tie as tie
-use Rattle.arguments.proofs.method.Polynomial.terms.Reads as reads
-use Rattle.arguments.proofs.method.Polynomial.terms.Lts as lts
-use Rattle.arguments.proofs.method.Polynomial.bilinear.Reads as bilinear-reads
-use Rattle.arguments.proofs.method.Polynomial.degree.Reads as degree-reads
 
-bilinear-requires : tie.Need-bilinear-requires
-bilinear-requires c κs = search needs
-
-returns : tie.Need-returns
-returns c = search needs
-
-degree-requires : tie.Need-degree-requires
-degree-requires c κs = search needs
-
+-- what is known of a degree, of the code's own
 add-result : tie.Need-add-result
-add-result c = search needs
+add-result c = omega (arith, rw (← c .degree .ensures) at (degree-range (c .before .before .before .args .order)))
 
 add-result-2 : tie.Need-add-result-2
-add-result-2 c = search needs
+add-result-2 c = omega (arith, rw (← c .degree .ensures) at (degree-range (c .before .before .before .args .order)))
 
 mul-result : tie.Need-mul-result
-mul-result c = search needs
+mul-result c = omega (arith, rw (← c .degree .ensures) at (terms-twice (c .before .before .before .args .order)))
+
+returns : tie.Need-returns
+unfolding termsOf
+returns c = rw (← c .before .bilinear .ensures, c .if1 .taken)
 
 returns-2 : tie.Need-returns-2
-returns-2 c = search needs
+unfolding termsOf
+returns-2 c = rw (← c .before .before .bilinear .ensures, c .before .if1 .left, c .degree .ensures)
 
 pub terms-spec : {M : Type 1} → statement M
-terms-spec =
-    tie.close
-    (tie.spec
-    bilinear-requires
-    returns
-    degree-requires
-    add-result
-    add-result-2
-    mul-result
-    returns-2)
+terms-spec = tie.close (tie.spec (λ c κs. search needs) returns (λ c κs. search needs) add-result add-result-2 mul-result returns-2)

@@ -1,8 +1,8 @@
 -- `skip` is its definition: the one test decides. Assumes nothing.
 use borrow.Author.Tests.{eq-eqb, ne-eqb}
 use Rattle.arguments.specs.Method as Method
-use Rattle.arguments.proofs.method.skip.Statement.{statement}
-use Rattle.arguments.proofs.method.skip.Tie as tie
+use Rattle.arguments.proofs.code.skip.Statement.{statement}
+use Rattle.arguments.proofs.code.skip.Tie as tie
 
 returns : tie.Need-returns
 unfolding Method.skip

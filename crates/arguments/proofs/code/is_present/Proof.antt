@@ -1,8 +1,8 @@
 -- `is_present` is its definition: each way out knows enough of the code that the definition's tests compute. Assumes nothing.
 use borrow.Author.Tests.{le-leb, lt-leb, lt-ltb, le-ltb, ne-eqb}
 use Rattle.arguments.specs.Method.{present}
-use Rattle.arguments.proofs.method.is_present.Statement.{statement}
-use Rattle.arguments.proofs.method.is_present.Tie as tie
+use Rattle.arguments.proofs.code.is_present.Statement.{statement}
+use Rattle.arguments.proofs.code.is_present.Tie as tie
 
 returns : tie.Need-returns
 unfolding present

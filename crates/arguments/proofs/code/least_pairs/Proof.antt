@@ -3,8 +3,8 @@
 use borrow.Author.Needs.{needs}
 use borrow.Author.Tests.{ne-eqb}
 use Rattle.arguments.specs.Method.{leastPairs}
-use Rattle.arguments.proofs.method.least_pairs.Statement.{statement}
-use Rattle.arguments.proofs.method.least_pairs.Tie as tie
+use Rattle.arguments.proofs.code.least_pairs.Statement.{statement}
+use Rattle.arguments.proofs.code.least_pairs.Tie as tie
 
 returns : tie.Need-returns
 unfolding leastPairs

@@ -3,8 +3,8 @@
 use borrow.Author.Needs.{needs}
 use borrow.Author.Tests.{ne-eqb}
 use Rattle.arguments.specs.Method as Method
-use Rattle.arguments.proofs.method.terms.Statement.{statement}
-use Rattle.arguments.proofs.method.terms.Tie as tie
+use Rattle.arguments.proofs.code.terms.Statement.{statement}
+use Rattle.arguments.proofs.code.terms.Tie as tie
 
 returns : tie.Need-returns
 unfolding Method.terms

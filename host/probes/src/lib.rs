@@ -8,6 +8,14 @@ mod ffi {
         pub safe fn probe_root(x: u64) -> u64;
         pub safe fn probe_powi(x: u64, n: u64) -> u64;
         pub safe fn probe_wrapping_mul(a: u64, b: u64) -> u64;
+        pub unsafe fn probe_fit(
+            method: u64,
+            arguments: *const u8,
+            length: usize,
+            width: u64,
+            height: u64,
+            out: *mut [u8; 2064],
+        ) -> u64;
     }
 }
 
@@ -39,4 +47,26 @@ pub fn powi(x: u64, n: u64) -> u64 {
 #[inline]
 pub fn wrapping_mul(a: u64, b: u64) -> u64 {
     ffi::probe_wrapping_mul(a, b)
+}
+
+/// What a probe leaves in a lent buffer before it is called, so that a byte that it must not write is seen.
+pub const UNTOUCHED: u8 = 0xa5;
+
+/// The coefficients of a fit over the arguments' bytes, or the refusal's number. A refusal writes nothing, and an answer
+/// nothing beyond its coefficients.
+pub fn fit(method: u64, arguments: &[u8], width: u64, height: u64) -> Result<Vec<f64>, u64> {
+    let mut out = [UNTOUCHED; 2064];
+    // SAFETY: the pointer and the length are one slice's, and `out` is an array of that size.
+    let answer = unsafe {
+        let (bytes, length) = (arguments.as_ptr(), arguments.len());
+        ffi::probe_fit(method, bytes, length, width, height, &mut out)
+    };
+    let (words, _) = out.as_chunks::<8>();
+    let count = if answer == 0 { u64::from_le_bytes(words[0]) as usize } else { 0 };
+    let written = if answer == 0 { 8 + 8 * count } else { 0 };
+    assert!(out[written..].iter().all(|&byte| byte == UNTOUCHED), "a byte beyond the answer is changed");
+    if answer != 0 {
+        return Err(answer);
+    }
+    Ok(words[1..=count].iter().map(|&word| f64::from_le_bytes(word)).collect())
 }

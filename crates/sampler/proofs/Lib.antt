@@ -1,1 +1,8 @@
 -- The laws of the sampler, a file for each subject.
+pub mod IndexCode
+pub mod IndexLaws
+pub mod NamedCode
+pub mod NamedExamples
+pub mod NamedLaws
+pub mod PixelCode
+pub mod StoreLaws

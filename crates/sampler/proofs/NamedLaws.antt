@@ -60,11 +60,15 @@ pub named-inside : (code w h x y : ℕ) → x < w → y < h → named code w h (
 unfolding named within
 named-inside code w h x y hx hy = rw (lt-ltb x w hx, lt-ltb y h hy)
 
--- so the samples of what is named are in the picture's bytes
-pub held : (bytes : List ℕ) (w h channels : ℕ) → Picture bytes w h channels → (t : Tap) → Lies w h t → Held bytes w channels t
+-- where what is named lies inside, its samples are in the picture's bytes
+held : (bytes : List ℕ) (w h channels : ℕ) → Picture bytes w h channels → (t : Tap) → Lies w h t → Held bytes w channels t
 held bytes w h channels p (Tap.Pixel x y) l = record { height = h; picture = p; column = l .0; row = l .1 }
 held bytes w h channels p Tap.Background l = tt
 held bytes w h channels p Tap.Black l = tt
 held bytes w h channels p Tap.White l = tt
 held bytes w h channels p Tap.Gray l = tt
 held bytes w h channels p Tap.Transparent l = tt
+
+pub named-held : (bytes : List ℕ) (w h channels : ℕ) → Picture bytes w h channels → (t : Tap) (code : ℕ) (x y : ℤ) → t ≡ named code w h x y → Held bytes w channels t
+named-held bytes w h channels p t code x y e =
+    rw e (held bytes w h channels p (named code w h x y) (named-lies w h (p .sizes .wide) (p .sizes .high) code x y))

@@ -36,5 +36,11 @@ pub fn at(
     requires { ⌜ Picture (now picture) width height channels ⌝ }
     ensures { λ r. ⌜ r ≡ At.at (now (picture .entry)) width height channels policy background x y ⌝ }
 {
-    samples(picture, width, channels, background, named(policy, width, height, x, y))
+    samples(
+        picture,
+        width,
+        channels,
+        background,
+        named(policy, width, height, x, y),
+    )
 }

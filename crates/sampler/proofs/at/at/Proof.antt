@@ -2,7 +2,7 @@
 use mathlib.Core.Path.{_∙_}
 use mir.Facts.{toZ-ofZ}
 use Rattle.sampler.specs.At.{at}
-use Rattle.sampler.proofs.NamedLaws.{named-lies, held}
+use Rattle.sampler.proofs.NamedLaws.{named-held}
 use borrow.Author.Needs.{needs}
 use Rattle.sampler.proofs.at.at.Statement.{statement}
 use Rattle.sampler.proofs.at.at.Tie as tie
@@ -11,7 +11,7 @@ named-requires : tie.Need-named-requires
 named-requires c κs = search needs
 
 samples-requires : tie.Need-samples-requires
-samples-requires c κs = rw (c .named .ensures) (held _ _ _ _ (c .before .before .pre) _ (named-lies _ _ (c .before .before .pre .sizes .wide) (c .before .before .pre .sizes .high) _ _ _))
+samples-requires c κs = named-held _ _ _ _ (c .before .before .pre) (c .named .result) (c .before .before .args .policy) _ _ (c .named .ensures)
 
 returns : tie.Need-returns
 unfolding at

@@ -1,4 +1,5 @@
 -- The laws of the sampler, a file for each subject.
+pub mod AtLaws
 pub mod IndexCode
 pub mod IndexLaws
 pub mod NamedCode

@@ -1,6 +1,6 @@
 -- What the code of the policies goes by: the test for what is inside on the bits alone, a code that is none of the first
 -- thirteen counts as the last, and two parities have an even sum where they are equal. Assumes nothing.
-use mathlib.Core.Path.{_≡_, refl, sym, ap, _∙_}
+use mathlib.Core.Path.{_≡_, refl, ap, _∙_}
 use mathlib.Core.Bool.{Bool, true, false, cond, _&&_}
 use mathlib.Core.List.{List, [], _∷_}
 use Prim.Native.Nat.{ℕ, zero, suc, _+_, _-_, _%_, _≤_, _<_}

@@ -1,7 +1,7 @@
 -- Worked examples of what is named, at the policies' codes: each is computed. Assumes nothing.
 use mathlib.Core.Path.{_≡_, refl}
 use lib.IntN.{pos, negsuc}
-use Rattle.sampler.specs.Index.{within, clamped, tile, mirror, parity}
+use Rattle.sampler.specs.Index.{within, tile, mirror, parity}
 use Rattle.sampler.specs.Named.{policy, named}
 use Rattle.sampler.specs.declared.named.Tap.the-variants.{Pixel, Background}
 

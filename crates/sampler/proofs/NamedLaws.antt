@@ -6,14 +6,14 @@ use mathlib.Core.List.{List}
 use Prim.Native.Nat.{ℕ, _+_, _/_, _%_, _^_, _<_}
 use native.Mathlib.Nat.{mod-lt}
 use lib.Dec.{eqb}
-use lib.IntN.{ℤ, pos, negsuc}
+use lib.IntN.{ℤ, pos}
 use lib.Signed.{mag}
 use borrow.Author.Tests.{lt-ltb}
 use Rattle.number.specs.Bytes.{twosComplement}
-use Rattle.sampler.specs.Index.{within, clamped, tile, mirror, parity}
+use Rattle.sampler.specs.Index.{within, tile, parity}
 use Rattle.sampler.specs.Random.{mix}
 use Rattle.sampler.specs.Named.{Policy, Edge, Background, Black, White, Gray, Transparent, Tile, Mirror, HorizontalTile, VerticalTile, HorizontalTileEdge, VerticalTileEdge, CheckerTile, Random, policy, picked, outside, named, Lies}
-use Rattle.sampler.specs.Pixel.{Picture, Inside}
+use Rattle.sampler.specs.Pixel.{Picture}
 use Rattle.sampler.specs.At.{Held}
 use Rattle.sampler.specs.declared.named.Tap.{Tap}
 use Rattle.sampler.specs.declared.named.Tap.the-variants as Tap

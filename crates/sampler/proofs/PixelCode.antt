@@ -6,7 +6,7 @@ use Prim.Native.Nat.{ℕ, suc, _+_, _*_, _≤_, _<_}
 use native.Mathlib.Nat.{mul-le-mul-right, mul-le-mul}
 use native.Mathlib.Omega.{arith}
 use lib.ListN.{length}
-use Rattle.sampler.specs.Pixel.{Sizes, Picture, Inside}
+use Rattle.sampler.specs.Pixel.{Inside}
 
 -- a pixel's number is below the number of pixels
 pub number-lt : (width height x y : ℕ) → x < width → y < height → y * width + x + 1 ≤ height * width

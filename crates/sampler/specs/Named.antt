@@ -1,7 +1,7 @@
 -- Which pixel of the picture, or which colour, a policy names at an index: the Rust's `Sampler::at` without the samples.
 -- An index inside names its own pixel under every policy. Assumes nothing.
 use Prim.Native.Nat.{ℕ, _+_, _/_, _%_, _^_, _<_}
-use mathlib.Core.Bool.{Bool, true, false, cond, _&&_}
+use mathlib.Core.Bool.{cond, _&&_}
 use mathlib.Core.List.{List, [], _∷_}
 use lib.Dec.{eqb}
 use lib.ListN.{getD}

@@ -1,7 +1,7 @@
 // Which pixel of the picture, or which colour, a policy names at an index, for every i64: a function for each rule. The
 // rules take an index as its 64 bits. A picture has 1 to 4,096 columns and rows.
 ghost use mathlib.Core.Path.{_≡_};
-ghost use Prim.Native.Nat.{_≤_, _<_};
+ghost use Prim.Native.Nat.{_<_};
 ghost use Rattle.sampler.specs.Index.{signed};
 ghost use Rattle.sampler.specs.Named as Named;
 ghost use Rattle.sampler.specs.Named.{Policy, outside};

@@ -1,5 +1,4 @@
 -- `sampler::named::checker_tile` meets its contract: two parities are equal where their sum is even. Assumes nothing.
-use Rattle.sampler.specs.Index.{signed}
 use Rattle.sampler.proofs.IndexLaws.{parity-lt}
 use Rattle.sampler.proofs.NamedCode.{same-parity, other-parity}
 use borrow.Author.Needs.{needs}

@@ -1,8 +1,7 @@
 -- `sampler::named::named` meets its contract: the test on the bits is that of the index. Assumes nothing.
-use mathlib.Core.Path.{_≡_, sym, ap, _∙_}
+use mathlib.Core.Path.{sym, _∙_}
 use mathlib.Core.Logic.{⊎-elim}
 use borrow.Author.Tests.{ltb-true, ltb-false}
-use Rattle.sampler.specs.Index.{signed}
 use Rattle.sampler.proofs.IndexCode.{argument}
 use Rattle.sampler.proofs.NamedCode.{named-bits, named-beside, named-above}
 use borrow.Author.Needs.{needs}

@@ -18,7 +18,7 @@ samples bytes width channels background White = grey one one
 samples bytes width channels background Gray = grey half one
 samples bytes width channels background Transparent = grey zero zero
 
--- a pixel that was named lies inside
+-- what reading those samples asks: a pixel that was named lies inside
 abbrev pub Held : List ℕ → ℕ → ℕ → Tap → Type 0
 Held bytes width channels (Pixel x y) = Inside bytes width channels x y
 Held bytes width channels Background = Unit

@@ -1,0 +1,9 @@
+-- The laws of the sampler, a file for each subject.
+pub mod AtLaws
+pub mod IndexCode
+pub mod IndexLaws
+pub mod NamedCode
+pub mod NamedExamples
+pub mod NamedLaws
+pub mod PixelCode
+pub mod StoreLaws

@@ -1,13 +1,15 @@
 -- The order of two finite floats: at most is not above, and two that are neither below nor above each other are one float, but
--- for zeros. By the signs, and then by the order of naturals. Assumes nothing.
-use mathlib.Core.Path.{_≡_, refl, sym, _∙_, subst}
+-- for zeros. By the signs, and then by the order of naturals.
+-- Provides: `le-flip` (of floats by their data), `le-values` (by their signs and sizes; `lt-values` is in Operands), `sizes-order` (where neither is
+-- negative), `not-apart`. Assumes nothing.
+use mathlib.Core.Path.{_≡_, refl, sym, ap, _∙_, subst}
 use Prim.Native.Nat.{ℕ, _+_, _*_, _≤_, _<_}
 use native.Mathlib.Nat.{le-antisymm, add-comm}
 use native.Mathlib.Omega.{arith}
 use mathlib.Core.Bool.{Bool, true, false, not, _&&_, _||_}
 use lib.IntN.{ℤ}
-use lib.Dec.{T, ltb, eqb, ltb→lt, nltb→le, eqb→eq, eqb-refl, not-T}
-use lib.Ieee.{Float, fin, Format, up, down, below, level, lt, le, fits}
+use lib.Dec.{T, leb, ltb, eqb, leb→le, le→leb, ltb→lt, nltb→le, eqb→eq, eqb-refl, not-T}
+use lib.Ieee.{Float, nan, inf, fin, Format, up, down, below, level, lt, le, fits}
 use lib.Ieee.Fits.{and-i, and-l, and-r}
 use lib.Ieee.Exact.{HasValue}
 use Rattle.exact.proofs.Value.{unique}
@@ -51,6 +53,21 @@ le-signs true true a b = (λ i. ltb b a || (eqb-sym a b i && true)) ∙ le-order
 pub le-flip : (s t : Bool) (m n : ℕ) (e d : ℤ) → le (fin s m e) (fin t n d) ≡ not (lt (fin t n d) (fin s m e))
 unfolding le
 le-flip s t m n e d = le-signs s t (m * up e * down d) (n * up d * down e)
+
+-- ---- the same by values a / c and b / c
+pub le-values : (x y : Float) (s t : Bool) (a b c : ℕ) → 0 < c → HasValue x s a c → HasValue y t b c → le x y ≡ not (below t b s a)
+le-values nan y s t a b c C v w = absurd v
+le-values (inf u) y s t a b c C v w = absurd v
+le-values (fin u m e) nan s t a b c C v w = absurd w
+le-values (fin u m e) (inf r) s t a b c C v w = absurd w
+le-values (fin u m e) (fin r n d) s t a b c C v w = le-flip u r m n e d ∙ ap not (lt-values (fin r n d) (fin u m e) t s b a c C w v)
+
+not-above : (a b : ℕ) → not (ltb b a) ≡ leb a b
+not-above a b =
+    same-test (not (ltb b a)) (leb a b) (λ t. le→leb a b (nltb→le b a t)) (λ t. not-T (ltb b a) (λ h. let x = leb→le a b t in let y = ltb→lt b a h in omega arith))
+
+pub sizes-order : (x y : Float) (a b c : ℕ) → 0 < c → HasValue x false a c → HasValue y false b c → le x y ≡ leb a b
+sizes-order x y a b c C v w = le-values x y false false a b c C v w ∙ not-above a b
 
 -- ---- neither is below the other: then they are one float, but for two zeros
 pub not-apart : (f g : Format) (x y : Float) (s t : Bool) (a b c : ℕ) → 0 < c → 0 < a → T (fits f x) → T (fits g y) → HasValue x s a c → HasValue y t b c

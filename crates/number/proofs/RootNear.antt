@@ -6,13 +6,11 @@ use Prim.Native.Nat.{ℕ, zero, suc, _+_, _-_, _*_, _^_, _≤_, _<_, zero-le}
 use native.Mathlib.Nat.{le-trans, le-of-eq, le-of-lt, lt-of-not-le, lt-of-lt-of-le, lt-of-le-of-lt, lt-irrefl, mul-assoc, mul-le-mul, mul-le-mul-right, mul-pos, mul-lt-mul-of-pos-right, mul-lt-mul-of-pos-left, lt-of-mul-lt-mul-right}
 use native.Mathlib.Decide.{decLe}
 use native.Mathlib.Omega.{arith}
-use lib.Pow.{pow-add, pow-mono, shl-lt}
+use lib.Pow.{pow-add, shl-lt}
+use Rattle.exact.proofs.Naturals.{pow-lt-back}
 use Rattle.number.proofs.RootWhole.{Nearest}
 
 -- ---- a number of 53 digits with zeros after them, from 2 ^ 52 * 2 ^ g on, is a multiple of 2 ^ g
-pow-lt-back : (i p : ℕ) → 2 ^ i < 2 ^ p → i < p
-pow-lt-back i p h = lt-of-not-le (λ (g : p ≤ i). lt-irrefl (2 ^ i) (lt-of-lt-of-le h (pow-mono g)))
-
 multiple : (m k g : ℕ) → m < 2 ^ 53 → 2 ^ 52 * 2 ^ g ≤ m * 2 ^ k → m * 2 ^ k ≡ m * 2 ^ (k - g) * 2 ^ g
 multiple m k g h l =
     ap (λ (z : ℕ). m * z) (ap (λ (z : ℕ). 2 ^ z) (sym (back k g (near k g (pow-lt-back (52 + g) (53 + k) (lt-of-le-of-lt (le-trans (le-of-eq (pow-add 2 52 g)) l) (shl-lt 53 k h)))))) ∙ pow-add 2 (k - g) g)

@@ -1,32 +1,14 @@
 -- A number m * 2 ^ k of units, m of at most 53 digits, scaled to 105 or 106 digits: by the place of m's leading digit its root's exponent is known,
 -- and what is left is a whole number whose nearest root has 53 digits. All by adding exponents. Assumes nothing.
-use mathlib.Core.Path.{_≡_, refl, sym, ap, _∙_, subst}
+use mathlib.Core.Path.{_≡_, sym, ap, _∙_, subst}
 use Prim.Native.Nat.{ℕ, zero, suc, _+_, _-_, _*_, _/_, _%_, _^_, _≤_, _<_}
-use native.Mathlib.Nat.{le-trans, le-of-eq, le-antisymm, le-of-suc-le-suc, lt-of-not-le, lt-of-lt-of-le, lt-of-le-of-lt, lt-irrefl, mul-assoc, mul-comm, mul-div-cancel, mul-le-mul-right, mul-le-mul-left, pow-succ'}
+use native.Mathlib.Nat.{le-trans, le-of-eq, le-of-suc-le-suc, lt-of-not-le, lt-of-le-of-lt, mul-assoc, mul-comm, mul-div-cancel, mul-le-mul-right, mul-le-mul-left}
 use native.Mathlib.Omega.{arith}
-use lib.Pow.{pow-add, pow-pos, pow-mono, shl-lt}
+use lib.Pow.{pow-add, pow-pos, shl-lt}
 use lib.Ieee.{size}
-use lib.Ieee.Digits.{size-lt, size-le}
+use Rattle.exact.proofs.Naturals.{pow-lt-back, size-is, four-pow}
 use Rattle.number.specs.Root.{nearestRoot}
 use Rattle.number.proofs.RootWhole.{Nearest, nearest-is}
-
--- ---- powers
-pub four-pow : (h : ℕ) → 4 ^ h ≡ 2 ^ (h + h)
-four-pow zero = refl
-four-pow (suc h) = pow-succ' 4 h ∙ ap (λ (z : ℕ). 4 * z) (four-pow h) ∙ twice (2 ^ (h + h)) ∙ ap (λ (z : ℕ). 2 * z) (sym (pow-succ' 2 (h + h))) ∙ sym (pow-succ' 2 (suc (h + h))) ∙ ap (λ (z : ℕ). 2 ^ z) (more h)
-  where
-    twice : (p : ℕ) → 4 * p ≡ 2 * (2 * p)
-    twice p = omega arith
-
-    more : (h : ℕ) → suc (suc (h + h)) ≡ suc h + suc h
-    more h = omega arith
-
-pow-lt-back : (i p : ℕ) → 2 ^ i < 2 ^ p → i < p
-pow-lt-back i p h = lt-of-not-le (λ (g : p ≤ i). lt-irrefl (2 ^ i) (lt-of-lt-of-le h (pow-mono g)))
-
--- a number between two powers has so many digits
-size-is : (n a : ℕ) → 2 ^ a ≤ n → n < 2 ^ suc a → size n ≡ suc a
-size-is n a lo hi = le-antisymm (size-le n (suc a) hi) (pow-lt-back a (size n) (lt-of-le-of-lt lo (size-lt n)))
 
 -- ---- exponents
 exponents : (j k : ℕ) → j ≤ 52 → 52 - j + (k + j) % 2 + 52 + ((k + j) / 2 + (k + j) / 2) ≡ k + 104

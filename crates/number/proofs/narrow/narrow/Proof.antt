@@ -9,7 +9,7 @@ use lib.Ieee.{Float, nan, inf, fin, binary32, binary64, div, ne, odd, ofFields, 
 use lib.Ieee.Bits.{toBits-lt}
 use lib.Ieee.Compare.{differs-from-itself, nan-differs}
 use Rattle.number.specs.Narrow.{narrow}
-use Rattle.number.proofs.NarrowBits.{bits-le, number-bits, narrow-bits, narrow-no-nan}
+use Rattle.number.proofs.NarrowBits.{bits-le, bits-number, narrow-bits, narrow-no-nan}
 use Rattle.number.proofs.NarrowLaws.{narrow-nan}
 use Rattle.number.proofs.narrow.narrow.Statement.{statement}
 use Rattle.number.proofs.narrow.narrow.Tie as tie
@@ -38,13 +38,13 @@ held : (c : tie.Else1) → T (fits binary64 (c .before .args .x))
 held c = subst T (sym (c .before .good .0 .1)) tt
 
 pattern-requires : tie.Need-pattern-requires
-pattern-requires c κs = number-bits (c .before .args .x) (number c) (held c)
+pattern-requires c κs = bits-number (c .before .args .x) (number c) (held c)
 
 -- the sum has 32 bits
 small : (c : tie.After-pattern) → toBits binary64 (c .before .before .args .x) / 0x8000000000000000 * 0x80000000 + c .pattern .result < 0x100000000
 small c =
     let x = c .before .before .args .x in
-    omega (arith, c .pattern .ensures, toBits-lt binary64 x (held (c .before)), bits-le (toBits binary64 x % 0x8000000000000000) (number-bits x (number (c .before)) (held (c .before))))
+    omega (arith, c .pattern .ensures, toBits-lt binary64 x (held (c .before)), bits-le (toBits binary64 x % 0x8000000000000000) (bits-number x (number (c .before)) (held (c .before))))
 
 mul-result : tie.Need-mul-result
 mul-result c = omega (arith, small c)

@@ -20,6 +20,7 @@ pub mod Nan
 pub mod Naturals
 pub mod Near
 pub mod NearProducts
+pub mod Neighbours
 pub mod Operands
 pub mod Operations
 pub mod Order

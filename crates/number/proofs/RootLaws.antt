@@ -13,11 +13,12 @@ use lib.Ieee.{Float, nan, inf, fin, binary64, up, down, fits, lt, size}
 use lib.Ieee.Fits.{round-fits, nan-fits, inf-fits}
 use lib.Ieee.Positive.{num, den, positive, positive-of-value}
 use Rattle.exact.proofs.Midpoint.{midpoint-under, midpoint-over, square-le, square-ge}
+use Rattle.exact.proofs.Neighbours.{next-below, next-above}
 use Rattle.exact.proofs.Operands.{lt-values}
 use Rattle.exact.proofs.Units.{Units, units}
 use Rattle.number.specs.Root.{nearestRoot, rootOf, root, unsigned, MidpointUnder, MidpointOver}
 use Rattle.number.proofs.RootNumbers.{Rooted, rooted}
-use Rattle.number.proofs.RootNear.{next-below, next-above, under-next, under-least, over-next}
+use Rattle.number.proofs.RootNear.{under-next, under-least, over-next}
 
 -- ---- the result is an f64
 rootOf-fits : (n : ℕ) → T (fits binary64 (rootOf n))
@@ -65,14 +66,14 @@ below-root x y m k r u l =
 
     go : (2 ^ 52 ≡ r .q) ⊎ (2 ^ 52 < r .q) → (m * 2 ^ k + r .q * 2 ^ (r .g)) * (m * 2 ^ k + r .q * 2 ^ (r .g)) < 4 * r .a * (2 ^ (r .g) * 2 ^ (r .g))
     go (inl e) = under-least (r .a) (r .q) (m * 2 ^ k) (2 ^ (r .g)) (r .near) (pow-pos (r .g)) (square (r .a) (r .q) e (r .large)) l
-    go (inr b) = under-next (r .a) (r .q) (m * 2 ^ k) (2 ^ (r .g)) (r .near) (pow-pos (r .g)) (lt-of-lt-of-le (pow-pos 52) (r .least)) (next-below m k (r .g) (r .q) (u .short) b l)
+    go (inr b) = under-next (r .a) (r .q) (m * 2 ^ k) (2 ^ (r .g)) (r .near) (pow-pos (r .g)) (lt-of-lt-of-le (pow-pos 52) (r .least)) (next-below 53 m k (r .g) (r .q) (u .short) b l)
 
 above-root : (x y : Float) (m k : ℕ) (r : Rooted x) → Units binary64 y false m k → r .q * 2 ^ (r .g) < m * 2 ^ k → MidpointOver y (root x) x
 above-root x y m k r u l =
     let c = m * 2 ^ k in
     let d = r .q * 2 ^ (r .g) in
     midpoint-over y (root x) x c d (r .n) (2 ^ 1074) (pow-pos 1074) (u .value) (r .root-is) (r .value)
-    (subst (λ (z : ℕ). z < (c + d) * (c + d)) (sym (r .scale)) (over-next (r .a) (r .q) c (2 ^ (r .g)) (r .near) (pow-pos (r .g)) (next-above m k (r .g) (r .q) (u .short) (r .least) l)))
+    (subst (λ (z : ℕ). z < (c + d) * (c + d)) (sym (r .scale)) (over-next (r .a) (r .q) c (2 ^ (r .g)) (r .near) (pow-pos (r .g)) (next-above 53 m k (r .g) (r .q) (u .short) (r .least) l)))
 
 -- a y below the root: the root of x is above the midpoint of the two
 pub nearer-than-below : (x y : Float) → T (fits binary64 x) → T (positive x) → T (fits binary64 y) → T (unsigned y) → T (lt y (root x)) → MidpointUnder y (root x) x

@@ -15,7 +15,7 @@ use Rattle.exact.proofs.Naturals.{four-pow}
 use Rattle.exact.proofs.Units.{Units, units}
 use Rattle.number.specs.Root.{root}
 use Rattle.number.proofs.RootWhole.{Nearest}
-use Rattle.number.proofs.RootScale.{moved, scaled, moved-sized, root-near}
+use Rattle.number.proofs.RootScale.{moved, scaled, moved-sized, raised-ge, root-near}
 use Rattle.number.proofs.RootValue.{half, digits, digits-ge, root-value}
 use Rattle.number.proofs.RootPositive.{root-of}
 
@@ -46,9 +46,6 @@ scale-is n a h e =
     twice : (h : ℕ) → h + h + 970 ≡ h + 485 + (h + 485)
     twice h = omega arith
 
-big : (n : ℕ) → 2 ^ 52 ≤ n → 2 ^ 104 ≤ n * 2 ^ 52
-big n h = omega arith
-
 of-units : (x : Float) (m k : ℕ) → T (positive x) → Units binary64 x false m k → Rooted x
 of-units x m k p u =
     let top = leading-top 64 m (first-pos m (2 ^ k) (value-pos x (m * 2 ^ k) (2 ^ 1074) p (pow-pos 1074) (u .value))) (lt-of-lt-of-le (u .short) (lit≤ tt)) in
@@ -68,7 +65,7 @@ of-units x m k p u =
       scale = scale-is (m * 2 ^ k) (t * 2 ^ 52) (half m k j lo hi s (u .under)) (scaled m k j lo hi s);
       near = root-near t (z .0) (z .1);
       least = digits-ge m k j lo hi s (u .under);
-      large = big t (z .0);
+      large = raised-ge t (z .0);
     }
 
 pub rooted : (x : Float) → T (fits binary64 x) → T (positive x) → Rooted x

@@ -76,6 +76,16 @@ module _ (m k j : ℕ) (lo : 2 ^ j ≤ m) (hi : m < 2 ^ suc j) (short : m < 2 ^ 
       (le-trans (le-of-eq (ap (λ (z : ℕ). 2 ^ z) (sym (join j place-le)) ∙ pow-add 2 j (52 - j))) (mul-le-mul-right (2 ^ (52 - j)) lo))
       (subst (λ (z : ℕ). m * 2 ^ (52 - j) < 2 ^ z) (join-suc j place-le) (shl-lt (suc j) (52 - j) hi)))
 
+-- ---- a number of 53 or 54 digits, 52 places up
+pub raised-pos : (n : ℕ) → 2 ^ 52 ≤ n → 0 < n * 2 ^ 52
+raised-pos n h = omega arith
+
+pub raised-ge : (n : ℕ) → 2 ^ 52 ≤ n → 2 ^ 104 ≤ n * 2 ^ 52
+raised-ge n h = omega arith
+
+pub raised-lt : (n : ℕ) → n < 2 ^ 54 → n * 2 ^ 52 < 2 ^ 106
+raised-lt n h = omega arith
+
 -- ---- the nearest root of such a number has 53 digits
 root-lt : (a q : ℕ) → a + 2 ^ 53 ≤ 2 ^ 106 → Nearest a q → q < 2 ^ 53
 root-lt a q h w = lt-of-not-le (λ (g : 2 ^ 53 ≤ q). clash a q (q * q) g (mul-le-mul-right q g) h (w .0))
@@ -91,13 +101,7 @@ root-ge a q h w = le-of-suc-le-suc (lt-of-not-le (λ (g : suc q ≤ 2 ^ 52). cla
 
 module _ (n : ℕ) (lo : 2 ^ 52 ≤ n) (hi : n + 2 ≤ 2 ^ 54) where
   pub root-near : Nearest (n * 2 ^ 52) (nearestRoot (n * 2 ^ 52))
-  root-near = nearest-is (n * 2 ^ 52) (some n lo) (room n hi)
-    where
-      some : (n : ℕ) → 2 ^ 52 ≤ n → 0 < n * 2 ^ 52
-      some n h = omega arith
-
-      room : (n : ℕ) → n + 2 ≤ 2 ^ 54 → n * 2 ^ 52 < 2 ^ 106
-      room n h = omega arith
+  root-near = nearest-is (n * 2 ^ 52) (raised-pos n lo) (raised-lt n (omega arith))
 
   pub root-under : nearestRoot (n * 2 ^ 52) < 2 ^ 53
   root-under = root-lt (n * 2 ^ 52) (nearestRoot (n * 2 ^ 52)) (room n hi) root-near
@@ -106,7 +110,4 @@ module _ (n : ℕ) (lo : 2 ^ 52 ≤ n) (hi : n + 2 ≤ 2 ^ 54) where
       room n h = omega arith
 
   pub root-over : 2 ^ 52 ≤ nearestRoot (n * 2 ^ 52)
-  root-over = root-ge (n * 2 ^ 52) (nearestRoot (n * 2 ^ 52)) (big n lo) root-near
-    where
-      big : (n : ℕ) → 2 ^ 52 ≤ n → 2 ^ 104 ≤ n * 2 ^ 52
-      big n h = omega arith
+  root-over = root-ge (n * 2 ^ 52) (nearestRoot (n * 2 ^ 52)) (raised-ge n lo) root-near

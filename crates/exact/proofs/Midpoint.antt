@@ -39,13 +39,13 @@ module _ (a p b q g s c d n w : ℕ) (Y : a * w ≡ c * p) (R : b * w ≡ d * q)
   whole : g * (2 * (p * q)) * (2 * (p * q)) * (w * w * w) ≡ 4 * n * w * (p * q * (p * q) * (s * w))
   whole = spread-x g (p * q) w ∙ ap (λ (z : ℕ). z * (4 * (p * q * (p * q)) * (w * w))) X ∙ collect-x n s (p * q) w
 
-  pub under : 0 < p * q * (p * q) * (s * w) → (c + d) * (c + d) < 4 * n * w → (a * q + b * p) * (a * q + b * p) * s < g * (2 * (p * q)) * (2 * (p * q))
+  under : 0 < p * q * (p * q) * (s * w) → (c + d) * (c + d) < 4 * n * w → (a * q + b * p) * (a * q + b * p) * s < g * (2 * (p * q)) * (2 * (p * q))
   under P h =
       lt-of-mul-lt-mul-right (w * w * w)
       (subst (λ (z : ℕ). z < g * (2 * (p * q)) * (2 * (p * q)) * (w * w * w)) (sym square)
       (subst (λ (z : ℕ). (c + d) * (c + d) * (p * q * (p * q) * (s * w)) < z) (sym whole) (mul-lt-mul-of-pos-right h P)))
 
-  pub over : 0 < p * q * (p * q) * (s * w) → 4 * n * w < (c + d) * (c + d) → g * (2 * (p * q)) * (2 * (p * q)) < (a * q + b * p) * (a * q + b * p) * s
+  over : 0 < p * q * (p * q) * (s * w) → 4 * n * w < (c + d) * (c + d) → g * (2 * (p * q)) * (2 * (p * q)) < (a * q + b * p) * (a * q + b * p) * s
   over P h =
       lt-of-mul-lt-mul-right (w * w * w)
       (subst (λ (z : ℕ). z < (a * q + b * p) * (a * q + b * p) * s * (w * w * w)) (sym whole)

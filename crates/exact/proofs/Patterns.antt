@@ -4,7 +4,7 @@
 -- either sign); `pattern-rest` (p again, from both); `pattern-nan`, `pattern-number` (which patterns are NaNs); `pattern-back` (what is written for
 -- the value that was read). Assumes nothing.
 use mathlib.Core.Path.{_≡_, sym, ap, _∙_, subst}
-use Prim.Native.Nat.{ℕ, zero, suc, _+_, _-_, _*_, _/_, _%_, _^_, _≤_, _<_}
+use Prim.Native.Nat.{ℕ, zero, suc, _+_, _*_, _/_, _%_, _^_, _≤_, _<_}
 use native.Mathlib.Nat.{le-refl, le-of-eq, le-trans, le-of-lt, lt-irrefl, zero-add, le-add-right, mul-one, mod-eq-of-lt, add-mod-left, mul-add-mod-self-left, mul-mod-left, mul-div-cancel, div-lt-iff-lt-mul}
 use native.Mathlib.Omega.{arith}
 use mathlib.Core.Bool.{Bool, true, false, not, cond}

@@ -1,7 +1,7 @@
 -- What `round` gives, as a fraction: where the result is finite it is `grid` units with the sign asked for, a unit being the format's smallest
 -- value, so that each law of rounding is one about whole numbers (Ulp).
--- Provides: `round-finite` (where `grid` is below the overflow; RoundedValue has the converse), `round-value`, `round-sized`; `round-half` (half an
--- ulp in units); `round-fixed` (exact where the format holds the value). Assumes nothing.
+-- Provides: `round-finite` (where `grid` is below the overflow; RoundedValue has the converse), `round-value`, `round-sized`;
+-- `round-fixed` (exact where the format holds the value). Assumes nothing.
 use mathlib.Core.Path.{_≡_, sym, ap, _∙_, subst}
 use mathlib.Core.Logic.{inl, inr}
 use mathlib.Core.Bool.{Bool}
@@ -11,7 +11,6 @@ use lib.Dec.{T}
 use lib.Pow.{pow-add, pow-pos, pow-lt}
 use lib.Ieee.{Format, prec, low, round}
 use lib.Ieee.Exact.{HasValue, round-exact}
-use lib.Ieee.Order.{drop}
 use lib.Ieee.Scale.{grid, overflow, finite}
 use Rattle.exact.specs.Fraction.{value, _≈_}
 use Rattle.exact.specs.Rounds.{signed}
@@ -20,7 +19,6 @@ use Rattle.exact.proofs.Formats.{prec-pos}
 use Rattle.exact.proofs.Magnitude.{Sized, sized-same}
 use Rattle.exact.proofs.RoundedValue.{round-under, round-has}
 use Rattle.exact.proofs.Signed.{has-value, has-finite}
-use Rattle.exact.proofs.Ulp.{grid-half}
 
 module _ (f : Format) (s : Bool) (a c : ℕ) where
   pub round-finite : grid f a c < overflow f → T (finite (round f s a c))
@@ -32,11 +30,6 @@ module _ (f : Format) (s : Bool) (a c : ℕ) where
   pub round-sized : T (finite (round f s a c)) → Sized (2 ^ low f) (value (round f s a c)) s (grid f a c)
   round-sized t =
       sized-same s (grid f a c) (2 ^ low f) (pow-pos (low f)) (eq-sym (value (round f s a c)) (signed s (grid f a c) (2 ^ low f)) (round-value t))
-
--- ---- half an ulp, in units: |grid - a / c| is half of 2 ^ drop at most
-pub round-half : (f : Format) (a c : ℕ) → 0 < c
-    → (grid f a c * c * 2 ≤ a * 2 ^ low f * 2 + c * 2 ^ drop (prec f) (a * 2 ^ low f) c) × (a * 2 ^ low f * 2 ≤ grid f a c * c * 2 + c * 2 ^ drop (prec f) (a * 2 ^ low f) c)
-round-half f a c C = grid-half (prec f) (a * 2 ^ low f) c (prec-pos f) C
 
 -- ---- exact: a / c is q * 2 ^ j units, with no more digits in q than the format keeps
 pub round-fixed : (f : Format) (s : Bool) (a c q j : ℕ) → 0 < c → q ≤ 2 ^ prec f → q * 2 ^ j < overflow f → a * 2 ^ low f ≡ q * 2 ^ j * c

@@ -1,176 +1,122 @@
--- Relative errors, in multiples of u = 2 ^ -prec: a product's is the sum of its factors' and a little more, whatever the sizes, as long as the product
--- stays in the normal range: (1 + k u) (1 + l u) (1 + u) is at most 1 + (k + l + 2) u while (k + 1) (l + 1) is at most 2 ^ prec.
--- Provides: `relative-own`, `relative-more`, `rounds-share` (one rounding is k = 1), `relative-mul`, `relative-close` (from a size to `Close`); an example, `square`. Assumes nothing.
-use mathlib.Core.Path.{_≡_, sym, ap, _∙_, subst}
-use mathlib.Core.Bool.{Bool, true, false, not, cond}
-use Prim.Native.Nat.{ℕ, suc, _+_, _-_, _*_, _^_, _≤_, _<_, zero-le}
-use native.Mathlib.Nat.{mul-pos, le-of-lt, mul-le-mul-right}
+-- Relative errors of products: a float is its exact value times a factor near 1, factors multiply, and each rounding in the normal range is one factor more. So
+-- the errors of powers and monomials count roundings, whatever their size.
+-- Provides, of `Relative r X m k` (specs/Sums): `relative-own` (a coordinate), `relative-one`, `relative-mul`, `relative-more`, `relative-along`; `relative-near` (the
+-- distance), `relative-within` (of a product with any other factor). Assumes nothing.
+use mathlib.Core.Path.{_≡_, subst}
+use mathlib.Core.Bool.{false}
+use Prim.Native.Nat.{ℕ, _+_, _*_, _^_, _≤_, _<_}
+use native.Mathlib.Nat.{mul-le-mul, mul-le-mul-right}
 use native.Mathlib.Omega.{arith}
-use lib.IntN.{negsuc}
-use lib.Dec.{T, leb, leb→le, nleb→lt, lit≤}
+use lib.Dec.{T, lit≤}
 use lib.Pow.{pow-pos}
-use lib.Ieee.{Float, fin, Format, binary64, prec, unlike, mul}
+use lib.Ieee.{Float, binary64, ofBits}
 use lib.Ieee.Scale.{finite}
-use Rattle.exact.specs.Fraction.{Fraction, over, frac, value, _≤F_, _+F_, _*F_, absF}
-use Rattle.exact.specs.Rounds.{Rounds, Close, Relative, least-normal}
-use Rattle.exact.proofs.Scale.{At, at-ratio, at-add, over-pos}
-use Rattle.exact.proofs.Near.{le-refl, within-same, within-more, within-trans}
-use Rattle.exact.proofs.Products.{eq-refl, at-zero, nonneg-mul, mul-le, le-mul}
-use Rattle.exact.proofs.NearProducts.{abs-mul, abs-near, abs-nonneg, within-mul}
-use Rattle.exact.proofs.Magnitude.{Sized, sized-more, sized-mul, size-le, abs-sized}
-use Rattle.exact.proofs.Rounds.{rounds-normal}
+use Rattle.exact.specs.Fraction.{Fraction, frac, value, _≤F_, _≈_, _*F_, absF, Within}
+use Rattle.exact.specs.Double.{_⊗_}
+use Rattle.exact.specs.Sums.{Relative}
+use Rattle.exact.proofs.Near.{le-refl, lt-le, within-same, within-more}
+use Rattle.exact.proofs.Products.{eq-refl, _⨟_, back, le-same, mul-same, mul-one, mul-assoc, mul-comm}
+use Rattle.exact.proofs.NearProducts.{abs-mul, abs-nonneg, within-like, mul-within}
+use Rattle.exact.proofs.Signed.{signed-le}
 use Rattle.exact.proofs.Operations.{mul-rounds}
+use Rattle.exact.proofs.Factors.{abs-least, near-three}
+use Rattle.exact.proofs.Ranges.{part-pos, least-mul, most-mul, rounds-range}
 
--- ---- every fraction is a sign and a size
-size-of : Fraction → ℕ
-size-of x = cond (leb (x .minus) (x .plus)) (x .plus - x .minus) (x .minus - x .plus)
-
-joined : (p n d : ℕ) → n ≤ p → (p - n) * d + n * d ≡ p * d
-joined p n d h = sym (split (p - n) n d) ∙ ap (λ (z : ℕ). z * d) (back p n h)
+parts-le : (a b d : ℕ) → 0 < d → a ≤ b → frac a d ≤F frac b d
+parts-le a b d D h = signed-le false a d false b d D D (go (mul-le-mul-right d h))
   where
-    split : (x y k : ℕ) → (x + y) * k ≡ x * k + y * k
-    split x y k = omega arith
+    go : {x y : ℕ} → x ≤ y → x + 0 ≤ y + 0
+    go h = omega arith
 
-    back : (a b : ℕ) → b ≤ a → a - b + b ≡ a
-    back a b h = omega arith
-
-negative : Fraction → Bool
-negative x = not (leb (x .minus) (x .plus))
-
-own-sized : (x : Fraction) → Sized (over x) x (negative x) (size-of x)
-unfolding size-of negative
-own-sized x = go (leb (x .minus) (x .plus)) (leb→le (x .minus) (x .plus)) (nleb→lt (x .minus) (x .plus))
-  where
-    plus : (p n d : ℕ) → n ≤ p → p * d + 0 * d ≡ (p - n) * d + n * d
-    plus p n d h = omega (arith, joined p n d h)
-
-    minus : (p n d : ℕ) → p ≤ n → p * d + (n - p) * d ≡ 0 * d + n * d
-    minus p n d h = omega (arith, joined n p d h)
-
-    go : (t : Bool) → (T t → x .minus ≤ x .plus) → (T (not t) → x .plus < x .minus) → Sized (over x) x (not t) (cond t (x .plus - x .minus) (x .minus - x .plus))
-    go true h k = record { at = plus (x .plus) (x .minus) (over x) (h tt) }
-    go false h k = record { at = minus (x .plus) (x .minus) (over x) (le-of-lt (k tt)) }
-
--- ---- sizes with no minus: products, sums, finer scales
-pos-mul : (D E a b : ℕ) {x y : Fraction} → At D x a 0 → At E y b 0 → At (D * E) (x *F y) (a * b) 0
-pos-mul D E a b X Y = sized-mul D E false a false b X Y
-
-pos-add : (D a b : ℕ) {x y : Fraction} → At D x a 0 → At D y b 0 → At D (x +F y) (a + b) 0
-pos-add D a b X Y = at-add X Y
-
--- ---- the sum of the three errors
-module _ (D a E b U k l : ℕ) (D0 : 0 < D) (E0 : 0 < E) (U0 : 0 < U) {A B : Fraction} (x : At D A a 0) (y : At E B b 0) where
-  share : (k : ℕ) → At U (frac k U) k 0
-  share k = at-ratio k 0 U U0
-
-  first : At (D * U) (A +F A *F frac k U) (a * U + a * k) 0
-  first = pos-add (D * U) (a * U) (a * k) (sized-more false D a U x) (pos-mul D U a k x (share k))
-
-  second : At (E * U) (B +F B *F frac l U) (b * U + b * l) 0
-  second = pos-add (E * U) (b * U) (b * l) (sized-more false E b U y) (pos-mul E U b l y (share l))
-
-  -- |x y - X Y|
-  errors : At (D * U * (E * U)) (A *F frac k U *F (B +F B *F frac l U) +F A *F (B *F frac l U)) (a * k * (b * U + b * l) + a * (b * l) * U) 0
-  errors =
-      pos-add (D * U * (E * U)) (a * k * (b * U + b * l)) (a * (b * l) * U) (pos-mul (D * U) (E * U) (a * k) (b * U + b * l) (pos-mul D U a k x (share k)) second)
-      (subst (λ (z : ℕ). At z (A *F (B *F frac l U)) (a * (b * l) * U) 0) (scale D E U) (sized-more false (D * (E * U)) (a * (b * l)) U (pos-mul D (E * U) a (b * l) x (pos-mul E U b l y (share l)))))
-    where
-      scale : (D E U : ℕ) → D * (E * U) * U ≡ D * U * (E * U)
-      scale D E U = omega arith
-
-  -- with that of the rounding
-  all-errors : At (D * U * (E * U) * U) ((A +F A *F frac k U) *F (B +F B *F frac l U) *F frac 1 U +F (A *F frac k U *F (B +F B *F frac l U) +F A *F (B *F frac l U)))
-      ((a * U + a * k) * (b * U + b * l) * 1 + (a * k * (b * U + b * l) + a * (b * l) * U) * U) 0
-  all-errors =
-      pos-add (D * U * (E * U) * U) ((a * U + a * k) * (b * U + b * l) * 1) ((a * k * (b * U + b * l) + a * (b * l) * U) * U)
-      (pos-mul (D * U * (E * U)) U ((a * U + a * k) * (b * U + b * l)) 1 (pos-mul (D * U) (E * U) (a * U + a * k) (b * U + b * l) first second) (share 1))
-      (sized-more false (D * U * (E * U)) (a * k * (b * U + b * l) + a * (b * l) * U) U errors)
-
-  within-shares : {C : Fraction} → At (D * E) C (a * b) 0 → suc k * suc l ≤ U
-      → (A +F A *F frac k U) *F (B +F B *F frac l U) *F frac 1 U +F (A *F frac k U *F (B +F B *F frac l U) +F A *F (B *F frac l U)) ≤F C *F frac (k + l + 2) U
-  within-shares {C} z h =
-      size-le (D * U * (E * U) * U) (mul-pos (mul-pos (mul-pos D0 U0) (mul-pos E0 U0)) U0) all-errors
-      (subst (λ (w : ℕ). At w (C *F frac (k + l + 2) U) (a * b * (k + l + 2) * (U * U)) 0) (scale D E U)
-      (sized-more false (D * E * U) (a * b * (k + l + 2)) (U * U) (pos-mul (D * E) U (a * b) (k + l + 2) z (share (k + l + 2)))))
-      (count (bound h))
-    where
-      scale : (D E U : ℕ) → D * E * U * (U * U) ≡ D * U * (E * U) * U
-      scale D E U = omega arith
-
-      bound : suc k * suc l ≤ U → (U + k) * (U + l) + (k * (U + l) + l * U) * U ≤ (k + l + 2) * (U * U)
-      bound h = let g : suc k * suc l * U ≤ U * U = mul-le-mul-right U h in omega arith
-
-      count : (U + k) * (U + l) + (k * (U + l) + l * U) * U ≤ (k + l + 2) * (U * U)
-          → (a * U + a * k) * (b * U + b * l) * 1 + (a * k * (b * U + b * l) + a * (b * l) * U) * U ≤ a * b * (k + l + 2) * (U * U)
-      count h = let g : ((U + k) * (U + l) + (k * (U + l) + l * U) * U) * (a * b) ≤ (k + l + 2) * (U * U) * (a * b) = mul-le-mul-right (a * b) h in omega arith
-
--- ---- the laws
-nonneg : (x : Fraction) → frac 0 1 ≤F absF x
-nonneg x = abs-nonneg x (absF x) (le-refl (absF x) (absF x))
-
-share-nonneg : (f : Format) (k : ℕ) → frac 0 1 ≤F frac k (2 ^ prec f)
-share-nonneg f k = size-le (2 ^ prec f) (pow-pos (prec f)) (at-zero (2 ^ prec f)) (at-ratio k 0 (2 ^ prec f) (pow-pos (prec f))) zero-le
-
-pub relative-own : (f : Format) (x : Float) → T (finite x) → Relative f x (value x) 0
-relative-own f x t = record {
-  number = t;
-  near = within-same (value x) (value x) (absF (value x) *F frac 0 (2 ^ prec f)) (eq-refl (value x)) (nonneg-mul (nonneg (value x)) (share-nonneg f 0));
-}
-
-pub rounds-share : {f : Format} {r : Float} {X : Fraction} → Rounds f r X → T (finite r) → least-normal f ≤F absF X → Relative f r X 1
-rounds-share R t h = record { number = t; near = rounds-normal R t h }
-
-module _ {f : Format} {x : Float} {X : Fraction} {k : ℕ} (p : Relative f x X k) where
-  pub relative-more : (l : ℕ) → k ≤ l → Relative f x X l
-  relative-more l h = record {
-    number = p .number;
-    near = within-more (value x) X (absF X *F frac k (2 ^ prec f)) (absF X *F frac l (2 ^ prec f))
-        (mul-le (nonneg X) (size-le (2 ^ prec f) (pow-pos (prec f)) (at-ratio k 0 (2 ^ prec f) (pow-pos (prec f))) (at-ratio l 0 (2 ^ prec f) (pow-pos (prec f))) h))
-        (p .near);
+-- ---- where a chain starts
+module _ (x : Float) (t : T (finite x)) where
+  pub relative-own : (k : ℕ) → frac 1 (2 ^ k) ≤F absF (value x) → absF (value x) ≤F frac (2 ^ (21 * k)) 1 → Relative x (value x) 0 k
+  relative-own k h g = record {
+    number = t;
+    factor = frac 1 1;
+    is = back (mul-one (value x));
+    near = within-same (frac 1 1) (frac 1 1) (frac 0 (2 ^ 53)) (eq-refl (frac 1 1)) (record { le = lit≤ tt });
+    least = h;
+    most = g;
   }
 
-  pub relative-close : (b : Fraction) → absF X ≤F b → Close x X (b *F frac k (2 ^ prec f)) (b +F b *F frac k (2 ^ prec f))
-  relative-close b h =
-      let w = within-more (value x) X (absF X *F frac k (2 ^ prec f)) (b *F frac k (2 ^ prec f)) (le-mul (share-nonneg f k) h) (p .near) in
-      record { number = p .number; near = w; small = abs-near (value x) X (b *F frac k (2 ^ prec f)) b w h }
+-- 1.0
+pub relative-one : Relative (ofBits binary64 0x3ff0_0000_0000_0000) (frac 1 1) 0 0
+unfolding ofBits absF
+relative-one = relative-own (ofBits binary64 0x3ff0_0000_0000_0000) tt 0 (record { le = lit≤ tt }) (record { le = lit≤ tt })
 
-  pub relative-mul : {y : Float} {Y : Fraction} {l : ℕ} → Relative f y Y l → suc k * suc l ≤ 2 ^ prec f → T (finite (mul f x y)) → least-normal f ≤F absF (value x *F value y)
-      → Relative f (mul f x y) (X *F Y) (k + l + 2)
-  relative-mul {y} {Y} {l} q few t h =
-      let U = 2 ^ prec f in
-      let A = absF X in
-      let B = absF Y in
-      let a : absF (value x) ≤F A +F A *F frac k U = abs-near (value x) X (A *F frac k U) A (p .near) (le-refl A A) in
-      let b : absF (value y) ≤F B +F B *F frac l U = abs-near (value y) Y (B *F frac l U) B (q .near) (le-refl B B) in
-      let w = within-mul (value x) X (value y) Y (A *F frac k U) (B *F frac l U) A (B +F B *F frac l U) (le-refl A A) b (p .near) (q .near) in
-      let v = within-more (value (mul f x y)) (value x *F value y) (absF (value x *F value y) *F frac 1 U) ((A +F A *F frac k U) *F (B +F B *F frac l U) *F frac 1 U)
-      (le-mul (share-nonneg f 1) (abs-mul (value x) (value y) (A +F A *F frac k U) (B +F B *F frac l U) a b)) (rounds-normal (mul-rounds f x y (p .number) (q .number)) t h) in
-      let e = (A +F A *F frac k U) *F (B +F B *F frac l U) *F frac 1 U in
-      let g = A *F frac k U *F (B +F B *F frac l U) +F A *F (B *F frac l U) in
+module _ {r : Float} {X : Fraction} {m k : ℕ} (R : Relative r X m k) where
+  pub relative-more : (n : ℕ) → m ≤ n → Relative r X n k
+  relative-more n h = record {
+    number = R .number;
+    factor = R .factor;
+    is = R .is;
+    near = within-more (R .factor) (frac 1 1) (frac m (2 ^ 53)) (frac n (2 ^ 53)) (parts-le m n (2 ^ 53) (pow-pos 53) h) (R .near);
+    least = R .least;
+    most = R .most;
+  }
+
+  pub relative-along : {Y : Fraction} → X ≈ Y → Relative r Y m k
+  relative-along e = record { number = R .number; factor = R .factor; is = R .is ⨟ mul-same e (eq-refl (R .factor)); near = R .near; least = R .least; most = R .most }
+
+  pub relative-near : Within (value r) X (absF X *F frac m (2 ^ 53))
+  relative-near =
+      within-like (back (R .is)) (mul-one X) (eq-refl (absF X *F frac m (2 ^ 53)))
+      (mul-within (R .factor) (frac 1 1) (frac m (2 ^ 53)) X (absF X) (le-refl (absF X) (absF X)) (R .near))
+
+  -- with any other factor c, whose product with X is at most b in size
+  pub relative-within : (c b : Fraction) → absF (X *F c) ≤F b → Within (value r *F c) (X *F c) (b *F frac m (2 ^ 53))
+  relative-within c b h =
+      within-like (back (mul-same (R .is) (eq-refl c) ⨟ swap X (R .factor) c)) (mul-one (X *F c)) (eq-refl (b *F frac m (2 ^ 53)))
+      (mul-within (R .factor) (frac 1 1) (frac m (2 ^ 53)) (X *F c) b h (R .near))
+    where
+      swap : (x y z : Fraction) → x *F y *F z ≈ x *F z *F y
+      swap x y z = mul-assoc x y z ⨟ mul-same (eq-refl x) (mul-comm y z) ⨟ back (mul-assoc x z y)
+
+-- ---- a product, rounded
+module _ {x y : Float} {X Y : Fraction} {m n i j : ℕ} (A : Relative x X m i) (B : Relative y Y n j) where
+  pub relative-mul : m ≤ 64 → n ≤ 64 → i + j ≤ 40 → Relative (x ⊗ y) (X *F Y) (m + n + 2) (i + j)
+  relative-mul M N K =
+      let R = mul-rounds binary64 x y (A .number) (B .number) in
+      let w = rounds-range R (i + j) (21 * (i + j)) (normal i j K) (top i j K) least most in
       record {
-        number = t;
-        near = within-more (value (mul f x y)) (X *F Y) (e +F g) (absF (X *F Y) *F frac (k + l + 2) U) shares (within-trans (value (mul f x y)) (value x *F value y) (X *F Y) e g v w);
+        number = w .0;
+        factor = A .factor *F B .factor *F w .1 .0;
+        is = w .1 .1 ⨟ mul-same (mul-same (A .is) (B .is)) (eq-refl (w .1 .0)) ⨟ regroup X (A .factor) Y (B .factor) (w .1 .0);
+        near = near-three (2 ^ 53) m n (pow-pos 53) (tiny (2 ^ 53) m n (lit≤ tt) M N) (A .factor) (B .factor) (w .1 .0) (A .near) (B .near) (w .1 .2);
+        least = w .2;
+        most = w .3;
       }
     where
-      D : 0 < over X
-      D = over-pos X
+      normal : (i j : ℕ) → i + j ≤ 40 → 52 + (i + j) ≤ 1074
+      normal i j h = omega arith
 
-      shares : (absF X +F absF X *F frac k (2 ^ prec f)) *F (absF Y +F absF Y *F frac l (2 ^ prec f)) *F frac 1 (2 ^ prec f)
-          +F (absF X *F frac k (2 ^ prec f) *F (absF Y +F absF Y *F frac l (2 ^ prec f)) +F absF X *F (absF Y *F frac l (2 ^ prec f))) ≤F absF (X *F Y) *F frac (k + l + 2) (2 ^ prec f)
-      shares =
-          within-shares (over X) (size-of X) (over Y) (size-of Y) (2 ^ prec f) k l D (over-pos Y) (pow-pos (prec f)) (abs-sized (over X) D (negative X) (size-of X) (own-sized X))
-          (abs-sized (over Y) (over-pos Y) (negative Y) (size-of Y) (own-sized Y))
-          (abs-sized (over X * over Y) (mul-pos D (over-pos Y)) (unlike (negative X) (negative Y)) (size-of X * size-of Y)
-          (sized-mul (over X) (over Y) (negative X) (size-of X) (negative Y) (size-of Y) (own-sized X) (own-sized Y))) few
+      top : (i j : ℕ) → i + j ≤ 40 → 21 * (i + j) ≤ 1023
+      top i j h = omega arith
 
--- ---- an example: 1.5 squared, in f64
-abbrev x : Float
-x = fin false 3 (negsuc 0)
+      least : frac 1 (2 ^ (i + j)) ≤F absF (value x *F value y)
+      least = le-same (least-mul i j) (eq-refl (absF (value x *F value y))) (abs-least (value x) (value y) (frac 1 (2 ^ i)) (frac 1 (2 ^ j)) (lt-le (frac 0 1) (frac 1 (2 ^ i)) (part-pos (2 ^ i) (pow-pos i))) (abs-nonneg (value y) (absF (value y)) (le-refl (absF (value y)) (absF (value y)))) (A .least) (B .least))
 
-in-range : least-normal binary64 ≤F absF (value x *F value x)
-unfolding absF _*F_
-in-range = record { le = lit≤ tt }
+      most : absF (value x *F value y) ≤F frac (2 ^ (21 * (i + j))) 1
+      most =
+          le-same (eq-refl (absF (value x *F value y))) (most-mul (21 * i) (21 * j) ⨟ powers (21 * i + 21 * j) (21 * (i + j)) (omega arith))
+          (abs-mul (value x) (value y) (frac (2 ^ (21 * i)) 1) (frac (2 ^ (21 * j)) 1) (A .most) (B .most))
+        where
+          powers : (a b : ℕ) → a ≡ b → frac (2 ^ a) 1 ≈ frac (2 ^ b) 1
+          powers a b e = subst (λ (z : ℕ). frac (2 ^ a) 1 ≈ frac (2 ^ z) 1) e (eq-refl (frac (2 ^ a) 1))
 
-square : Relative binary64 (mul binary64 x x) (value x *F value x) 2
-unfolding mul
-square = relative-mul (relative-own binary64 x tt) (relative-own binary64 x tt) (lit≤ tt) tt in-range
+      tiny : (U m n : ℕ) → 5000 ≤ U → m ≤ 64 → n ≤ 64 → m * n * U + (m + n) * U + m * n ≤ U * U
+      tiny U m n big M N =
+          let a : m * n ≤ 64 * 64 = mul-le-mul M N in
+          let b : m * n * U ≤ 64 * 64 * U = mul-le-mul-right U a in
+          let c : (m + n) * U ≤ 128 * U = mul-le-mul-right U (omega arith) in
+          let d : 5000 * U ≤ U * U = mul-le-mul-right U big in
+          omega arith
+
+      regroup : (X a Y b c : Fraction) → X *F a *F (Y *F b) *F c ≈ X *F Y *F (a *F b *F c)
+      regroup X a Y b c =
+          mul-same (swap4 X a Y b) (eq-refl c) ⨟ mul-assoc (X *F Y) (a *F b) c
+        where
+          swap4 : (x a y b : Fraction) → x *F a *F (y *F b) ≈ x *F y *F (a *F b)
+          swap4 x a y b =
+              mul-assoc x a (y *F b) ⨟ mul-same (eq-refl x) (back (mul-assoc a y b) ⨟ mul-same (mul-comm a y) (eq-refl b) ⨟ mul-assoc y a b) ⨟ back (mul-assoc x y (a *F b))

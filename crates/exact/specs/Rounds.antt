@@ -27,11 +27,6 @@ pub record Close (r : Float) (X e b : Fraction) : Type 0 where
   pub near : Within (value r) X e
   pub small : absF (value r) ≤F b
 
--- r is a number, and k 2 ^ -prec of X's size at most away from X
-pub record Relative (f : Format) (r : Float) (X : Fraction) (k : ℕ) : Type 0 where
-  pub number : T (finite r)
-  pub near : Within (value r) X (absF X *F frac k (2 ^ prec f))
-
 -- the least size with all the digits that the format keeps: 2 ^ (prec - 1) of its smallest values
 abbrev pub least-normal : Format → Fraction
 least-normal f = frac (2 ^ (prec f - 1)) (2 ^ low f)

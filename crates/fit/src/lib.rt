@@ -1,0 +1,4 @@
+// The fit: from pairs to the coefficients of a mapping.
+pub mod eliminate;
+pub mod normal;
+pub mod solve;

@@ -1,19 +1,25 @@
 -- The pattern of a rounded fraction: for the k digits that `round` drops and the number q that it keeps, it is k * hid + q, up to the
--- infinity's. So it depends on the fraction's value alone, and the sign is one bit on top of it. Assumes nothing.
-use mathlib.Core.Path.{_≡_, refl, sym, ap, _∙_, subst}
+-- infinity's. So it depends on the fraction's value alone, and the sign is one bit on top of it.
+-- Provides: `rank` (that number), `rank-same` (equal fractions), `rank-small`, `rank-normal` (two ways to know it); `round-pattern`, `round-infinity`;
+-- `round-bits`, `round-bits-le`, `round-sign` (what is written for the result). Assumes nothing.
+use mathlib.Core.Path.{_≡_, sym, ap, _∙_, subst}
 use mathlib.Core.Logic.{_⊎_, inl, inr}
 use Prim.Native.Nat.{ℕ, _+_, _-_, _*_, _/_, _%_, _^_, _≤_, _<_, compare}
-use native.Mathlib.Nat.{le-trans, le-of-eq, le-of-lt, eq-zero-or-pos, zero-add, zero-mul, mul-one, mul-assoc, mul-right-comm, mul-pos, mul-le-mul-right, mul-lt-mul-of-pos-right, lt-of-lt-of-le, lt-of-le-of-lt, lt-of-not-le, lt-irrefl, div-lt-iff-lt-mul, div-div-eq-div-mul, le-div-iff-mul-le}
+use native.Mathlib.Nat.{le-trans, le-of-eq, le-of-lt, eq-zero-or-pos, zero-add, zero-mul, mul-one, mul-assoc, mul-right-comm, mul-pos, mul-le-mul-right, mul-lt-mul-of-pos-right, lt-of-lt-of-le, div-lt-iff-lt-mul, div-div-eq-div-mul, le-div-iff-mul-le}
 use native.Mathlib.Omega.{arith}
 use mathlib.Core.Bool.{Bool, false, cond}
-use lib.Pow.{pow-add, pow-pos, pow-mono}
-use lib.Ieee.{Float, inf, Format, prec, low, size, round, hid, ones, top, ofBits, toBits}
-use lib.Ieee.Digits.{size-lt, size-le, size-reaches}
-use lib.Ieee.Fits.{two, two-le-pos, nearest-le, kept-lt, round-is}
+use lib.Pow.{pow-add, pow-pos}
+use lib.Ieee.{Float, inf, Format, prec, low, size, round, top, ofBits, toBits}
+use lib.Ieee.Digits.{size-le, size-reaches}
+use lib.Ieee.Fits.{nearest-le, kept-lt, round-is}
 use lib.Ieee.Nearest.{closest, closest-same, div-same, nearest-ge}
 use lib.Ieee.Order.{drop, kept}
+use Rattle.exact.proofs.FloatPatterns.{infinity-bits}
+use Rattle.exact.proofs.Formats.{infinite, prec-pos}
+use Rattle.exact.proofs.Naturals.{lt-or-le}
 use Rattle.exact.proofs.Patterns.{pattern-infinity, pattern-back}
-use Rattle.exact.proofs.UnitPatterns.{lt-or-le, units-infinity, units-pattern}
+use Rattle.exact.proofs.Ulp.{drop-is}
+use Rattle.exact.proofs.UnitPatterns.{units-infinity, units-pattern}
 
 -- ---- what is kept has at most p digits, or is carried to the least number of one digit more; where digits are dropped, it has p at least
 kept-le : (p n den : ℕ) → kept p n den ≤ 2 ^ p
@@ -50,37 +56,33 @@ rank-same p a b c d B D e =
 
 -- ---- the laws, for the fraction a / c
 module _ (f : Format) (s : Bool) (a c : ℕ) where
-  pub round-pattern : rank (prec f) (a * 2 ^ low f) c ≤ ones f * hid f → round f s a c ≡ ofBits f (cond s (top f) 0 + rank (prec f) (a * 2 ^ low f) c)
+  pub round-pattern : rank (prec f) (a * 2 ^ low f) c ≤ infinite f → round f s a c ≡ ofBits f (cond s (top f) 0 + rank (prec f) (a * 2 ^ low f) c)
   round-pattern h =
       round-is f s a c
-      ∙ units-pattern f s (kept (prec f) (a * 2 ^ low f) c) (drop (prec f) (a * 2 ^ low f) c) (kept-le (prec f) (a * 2 ^ low f) c) (kept-full (prec f) (a * 2 ^ low f) c (two-le-pos (prec f) (two f))) h
+      ∙ units-pattern f s (kept (prec f) (a * 2 ^ low f) c) (drop (prec f) (a * 2 ^ low f) c) (kept-le (prec f) (a * 2 ^ low f) c) (kept-full (prec f) (a * 2 ^ low f) c (prec-pos f)) h
 
-  pub round-infinity : ones f * hid f ≤ rank (prec f) (a * 2 ^ low f) c → round f s a c ≡ inf s
+  pub round-infinity : infinite f ≤ rank (prec f) (a * 2 ^ low f) c → round f s a c ≡ inf s
   round-infinity h =
       round-is f s a c
-      ∙ units-infinity f s (kept (prec f) (a * 2 ^ low f) c) (drop (prec f) (a * 2 ^ low f) c) (kept-le (prec f) (a * 2 ^ low f) c) (kept-full (prec f) (a * 2 ^ low f) c (two-le-pos (prec f) (two f))) h
-
-pub infinity-bits : (f : Format) → toBits f (inf false) ≡ ones f * hid f
-infinity-bits f =
-    ap (toBits f) (sym (pattern-infinity f false)) ∙ pattern-back f false (ones f * hid f) (le-of-eq refl) ∙ zero-add (ones f * hid f)
+      ∙ units-infinity f s (kept (prec f) (a * 2 ^ low f) c) (drop (prec f) (a * 2 ^ low f) c) (kept-le (prec f) (a * 2 ^ low f) c) (kept-full (prec f) (a * 2 ^ low f) c (prec-pos f)) h
 
 module _ (f : Format) (a c : ℕ) where
-  pub round-bits : rank (prec f) (a * 2 ^ low f) c ≤ ones f * hid f → toBits f (round f false a c) ≡ rank (prec f) (a * 2 ^ low f) c
+  pub round-bits : rank (prec f) (a * 2 ^ low f) c ≤ infinite f → toBits f (round f false a c) ≡ rank (prec f) (a * 2 ^ low f) c
   round-bits h =
       ap (toBits f) (round-pattern f false a c h) ∙ pattern-back f false (rank (prec f) (a * 2 ^ low f) c) h ∙ zero-add (rank (prec f) (a * 2 ^ low f) c)
 
   pub round-sign : (s : Bool) → round f s a c ≡ ofBits f (cond s (top f) 0 + toBits f (round f false a c))
-  round-sign s = elim (lt-or-le (rank (prec f) (a * 2 ^ low f) c) (ones f * hid f)) [
+  round-sign s = elim (lt-or-le (rank (prec f) (a * 2 ^ low f) c) (infinite f)) [
     | inl l ↦ round-pattern f s a c (le-of-lt l) ∙ ap (λ (p : ℕ). ofBits f (cond s (top f) 0 + p)) (sym (round-bits (le-of-lt l)))
     | inr g ↦
         round-infinity f s a c g
-        ∙ sym (ap (λ (v : Float). ofBits f (cond s (top f) 0 + toBits f v)) (round-infinity f false a c g) ∙ ap (λ (p : ℕ). ofBits f (cond s (top f) 0 + p)) (infinity-bits f) ∙ pattern-infinity f s)
+        ∙ sym (ap (λ (v : Float). ofBits f (cond s (top f) 0 + toBits f v)) (round-infinity f false a c g) ∙ ap (λ (p : ℕ). ofBits f (cond s (top f) 0 + p)) (infinity-bits f false ∙ zero-add (infinite f)) ∙ pattern-infinity f s)
   ]
 
-  pub round-bits-le : toBits f (round f false a c) ≤ ones f * hid f
-  round-bits-le = elim (lt-or-le (rank (prec f) (a * 2 ^ low f) c) (ones f * hid f)) [
+  pub round-bits-le : toBits f (round f false a c) ≤ infinite f
+  round-bits-le = elim (lt-or-le (rank (prec f) (a * 2 ^ low f) c) (infinite f)) [
     | inl l ↦ le-trans (le-of-eq (round-bits (le-of-lt l))) (le-of-lt l)
-    | inr g ↦ le-of-eq (ap (toBits f) (round-infinity f false a c g) ∙ infinity-bits f)
+    | inr g ↦ le-of-eq (ap (toBits f) (round-infinity f false a c g) ∙ infinity-bits f false ∙ zero-add (infinite f))
   ]
 
 -- ---- two ways to know the pattern of n / den units
@@ -96,21 +98,12 @@ rank-small p n den D h =
     ∙ ap (λ (u : ℕ). closest n u) (mul-one den)
 
 -- q has i digits more than the format keeps: q * 2 ^ j / 2 ^ i has j digits to drop
-by-powers : (z p j : ℕ) → 0 < p → p - 1 + j < z → z ≤ p + j → z - p ≡ j
-by-powers z p j P a b = omega arith
-
-pow-lt-back : (i p : ℕ) → 2 ^ i < 2 ^ p → i < p
-pow-lt-back i p h = lt-of-not-le (λ (g : p ≤ i). lt-irrefl (2 ^ i) (lt-of-lt-of-le h (pow-mono g)))
-
 pub rank-normal : (p q i j : ℕ) → 0 < p → 2 ^ (p - 1 + i) ≤ q → q < 2 ^ (p + i) → rank p (q * 2 ^ j) (2 ^ i) ≡ j * 2 ^ (p - 1) + closest q (2 ^ i)
 rank-normal p q i j P lo hi =
     let n = q * 2 ^ j in
     let u = 2 ^ i in
-    let a : 2 ^ (p - 1 + j) ≤ n / u =
-    le-div-iff-mul-le (pow-pos i) .1 (le-trans (le-of-eq (swap (p - 1))) (mul-le-mul-right (2 ^ j) lo)) in
-    let b : n / u < 2 ^ (p + j) =
-    div-lt-iff-lt-mul (pow-pos i) .1 (lt-of-lt-of-le (mul-lt-mul-of-pos-right hi (pow-pos j)) (le-of-eq (sym (swap p)))) in
-    let k : drop p n u ≡ j = by-powers (size (n / u)) p j P (pow-lt-back (p - 1 + j) (size (n / u)) (lt-of-le-of-lt a (size-lt (n / u)))) (size-le (n / u) (p + j) b) in
+    let k : drop p n u ≡ j =
+    drop-is p n u P (pow-pos i) j (le-trans (le-of-eq (swap (p - 1))) (mul-le-mul-right (2 ^ j) lo)) (lt-of-lt-of-le (mul-lt-mul-of-pos-right hi (pow-pos j)) (le-of-eq (sym (swap p)))) in
     ap (λ (z : ℕ). z * 2 ^ (p - 1) + closest n (u * 2 ^ z)) k
     ∙ ap (λ (z : ℕ). j * 2 ^ (p - 1) + z)
     (closest-same n (u * 2 ^ j) q u (mul-pos (pow-pos i) (pow-pos j)) (pow-pos i) (mul-right-comm q (2 ^ j) u ∙ mul-assoc q u (2 ^ j)))

@@ -1,0 +1,4 @@
+-- The laws of the fit's definitions, each file under its subject.
+pub mod NormalLaws
+pub mod ShapeLaws
+pub mod SolveLaws

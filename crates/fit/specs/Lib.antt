@@ -1,0 +1,4 @@
+-- The definitions of the fit, a file for each module of src/.
+pub mod Matrix
+pub mod Normal
+pub mod Solve

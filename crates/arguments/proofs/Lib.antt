@@ -1,0 +1,2 @@
+-- The laws of the arguments. Other crates cite OrderLaws.
+pub mod OrderLaws

@@ -2,3 +2,5 @@
 pub mod Matrix
 pub mod Normal
 pub mod Solve
+pub mod Invert
+pub mod Orient

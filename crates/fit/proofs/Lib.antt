@@ -2,3 +2,6 @@
 pub mod NormalLaws
 pub mod ShapeLaws
 pub mod SolveLaws
+pub mod LoopLaws
+pub mod PaddedLaws
+pub mod MonomialsLaws

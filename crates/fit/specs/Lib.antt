@@ -4,3 +4,5 @@ pub mod Normal
 pub mod Solve
 pub mod Invert
 pub mod Orient
+pub mod Padded
+pub mod Monomials

@@ -40,6 +40,11 @@ shepards = 13
 unfoldable pub present : ℕ → Bool
 present m = leb m 13 && not (eqb m 2) && (ltb m 8 || ltb 10 m)
 
+-- the methods that take pairs
+unfoldable pub pairMethod : ℕ → Bool
+pairMethod m =
+    eqb m affine || eqb m perspective || eqb m bilinearReverse || eqb m bilinearForward || eqb m polynomial || eqb m shepards
+
 -- how many arguments stand before the pairs: a polynomial's order
 unfoldable pub skip : ℕ → ℕ
 skip m = cond (eqb m polynomial) 1 0

@@ -16,6 +16,10 @@ countOf bytes = length bytes / 8
 unfoldable pub heldOf : List ℕ → ℕ
 heldOf bytes = min (countOf bytes) 257
 
+-- 257 numbers, zero at first
+unfoldable pub zeros : List Float
+zeros = replicate 257 (ofBits binary64 0)  -- 0.0
+
 unfoldable pub keep : List ℕ → ℕ → List Float → List Float
 keep bytes k values = set values k (argumentAt bytes k)
 

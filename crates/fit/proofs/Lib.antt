@@ -1,4 +1,5 @@
 -- The laws of the fit's definitions, each file under its subject.
+pub mod EliminateLaws
 pub mod NormalLaws
 pub mod ShapeLaws
 pub mod SolveLaws

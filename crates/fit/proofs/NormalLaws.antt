@@ -1,12 +1,12 @@
--- The laws of normal equations for whoever makes the rows: none yet, one row more, two rows more where they come in twos, and the
--- solution. By the laws of counted loops. Assumes nothing.
-use mathlib.Core.Path.{_≡_, refl, sym, ap, _∙_}
-use mathlib.Core.Bool.{Bool, cond}
+-- The laws of normal equations for whoever makes the rows: none yet, one row more, two rows more where they come in twos, the end,
+-- and the solution. By the laws of counted loops. Assumes nothing.
+use mathlib.Core.Path.{_≡_, sym, ap, _∙_}
+use mathlib.Core.Bool.{cond}
 use Prim.Native.Nat.{ℕ, _+_, _*_, _/_, _%_, _≤_}
+use native.Mathlib.Nat.{le-antisymm}
 use native.Mathlib.Omega.{arith}
 use lib.Dec.{eqb}
 use lib.Ieee.{Float}
-use Rattle.exact.specs.Loop.{upTo}
 use Rattle.exact.proofs.Loop.{upTo-none, upTo-next}
 use Rattle.fit.specs.declared.solve.Solution.{Solution}
 use Rattle.fit.specs.Matrix.{Vector, System, zeros, zeroMatrix}
@@ -21,6 +21,10 @@ module _ (rowOf : ℕ → Vector) (yOf : ℕ → Float) (n : ℕ) where
   pub normal-next : (j : ℕ) {s : System} → s ≡ normal rowOf yOf n j → addRow (rowOf j) (yOf j) n s ≡ normal rowOf yOf n (j + 1)
   unfolding normal
   normal-next j e = upTo-next (λ (j : ℕ). addRow (rowOf j) (yOf j) n) 0 (zeroMatrix, zeros) j (omega arith) e
+
+  -- where the loop ends
+  pub normal-last : (j rows : ℕ) {s : System} → j ≤ rows → rows ≤ j → s ≡ normal rowOf yOf n j → s ≡ normal rowOf yOf n rows
+  normal-last j rows a b e = e ∙ ap (normal rowOf yOf n) (le-antisymm a b)
 
   pub normal-solved : (rows : ℕ) {s : System} {r : Solution} → s ≡ normal rowOf yOf n rows → r ≡ solved n s → r ≡ lstsq rowOf yOf n rows
   unfolding lstsq

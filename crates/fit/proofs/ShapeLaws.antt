@@ -2,19 +2,19 @@
 -- unknown. Each store keeps them, so each loop does. Assumes nothing.
 use mathlib.Core.Path.{_≡_, refl, sym, ap, _∙_, subst}
 use mathlib.Core.Bool.{Bool, true, false}
-use mathlib.Core.List.{List, []}
+use mathlib.Core.List.{[]}
 use mathlib.Core.Option.{Option, none, some}
-use Prim.Native.Nat.{ℕ, _+_, _≤_, _<_}
+use Prim.Native.Nat.{ℕ, _≤_, _<_}
 use native.Mathlib.Omega.{arith}
 use lib.Dec.{eqb}
-use borrow.Author.Tests.{eqb-true, eqb-false}
-use lib.ListN.{length, getD, set, replicate, length-set, length-replicate, getD-replicate}
+use lib.ListN.{length, set, length-set, length-replicate, getD-replicate}
 use lib.Seq.{getD-set-same, getD-set-other}
 use lib.Ieee.{Float, nan}
+use borrow.Author.Tests.{eqb-true, eqb-false}
 use Rattle.exact.proofs.Loop.{upTo-keep, downTo-keep}
-use Rattle.fit.specs.declared.solve.Solution.{Solution}
 use Rattle.fit.specs.Matrix.{Vector, Matrix, System, at, rowAt, put, nought, zeros, zeroMatrix}
-use Rattle.fit.specs.Solve.{substitute, substituted, answer, solved, eliminated}
+use Rattle.fit.specs.Eliminate.{eliminated}
+use Rattle.fit.specs.Solve.{substitute, substituted, answer, solved}
 use Rattle.fit.specs.Normal.{addProduct, addTerm, addRow, normal}
 
 -- ---- the solution
@@ -83,7 +83,7 @@ module _ (row : Vector) (y : Float) (n : ℕ) (small : n ≤ 21) where
   addTerm-shaped : (i : ℕ) (s : System) → i < n → Shaped s → Shaped (addTerm row y n i s)
   unfolding addTerm addProduct
   addTerm-shaped i s l h = record {
-    matrix = upTo-keep (addProduct row i) 0 (s .0) Square n (omega arith) (λ j a lo hi q. put-square a i j _ (omega arith) q) (h .matrix);
+    matrix = upTo-keep (addProduct row (at row i) i) 0 (s .0) Square n (omega arith) (λ j a lo hi q. put-square a i j _ (omega arith) q) (h .matrix);
     right = length-set (s .1) i _ ∙ h .right;
   }
 

@@ -1,4 +1,5 @@
--- The definitions of the fit, a file for each module of src/.
+-- The definitions of the fit.
+pub mod Eliminate
 pub mod Matrix
 pub mod Normal
 pub mod Solve

@@ -15,13 +15,13 @@ use Rattle.fit.specs.Solve.{solved}
 abbrev pub factor : Vector → ℕ → Float
 factor row i = at row i
 
--- a[i][k] += row[i] * row[k]
-unfoldable pub addProduct : Vector → ℕ → ℕ → Matrix → Matrix
-addProduct row i k a = put a i k (entry a i k ⊕ factor row i ⊗ at row k)
+-- a[i][k] += first * row[k]
+unfoldable pub addProduct : Vector → Float → ℕ → ℕ → Matrix → Matrix
+addProduct row first i k a = put a i k (entry a i k ⊕ first ⊗ at row k)
 
--- b[i] += row[i] * y, and row i of the matrix
+-- b[i] += row[i] * y, and a[i][k] += row[i] * row[k] for each k
 unfoldable pub addTerm : Vector → Float → ℕ → ℕ → System → System
-addTerm row y n i s = (upTo (addProduct row i) 0 n (s .0), set (s .1) i (at (s .1) i ⊕ factor row i ⊗ y))
+addTerm row y n i s = (upTo (addProduct row (factor row i) i) 0 n (s .0), set (s .1) i (at (s .1) i ⊕ factor row i ⊗ y))
 
 abbrev pub addRow : Vector → Float → ℕ → System → System
 addRow row y n s = upTo (addTerm row y n) 0 n s

@@ -4,23 +4,24 @@ ghost use Prim.Native.Nat.{_<_, _≤_};
 ghost use Rattle.exact.specs.Loop.{upTo};
 ghost use Rattle.fit.specs.Normal.{addProduct, addTerm, addRow};
 
-// Row i of the matrix and of the right-hand side gain a row's products with its i-th number.
-fn add_products(a: &mut [[f64; 21]; 21], row: &[f64; 21], i: usize, n: usize)
+// Row i of the matrix gains `first` times the row.
+fn add_products(a: &mut [[f64; 21]; 21], row: &[f64; 21], first: f64, i: usize, n: usize)
     requires { ⌜ (i < 21) × (n ≤ 21) ⌝ }
-    ensures { λ _. ⌜ now (a .exit) ≡ upTo (addProduct (now (row .entry)) i) 0 n (now (a .entry)) ⌝ }
+    ensures { λ _. ⌜ now (a .exit) ≡ upTo (addProduct (now (row .entry)) first i) 0 n (now (a .entry)) ⌝ }
 {
-    let first = row[i];
     for k in 0..n {
         a[i][k] = a[i][k] + first * row[k];
     }
 }
 
+// Row i of the equations gains the row's products with its i-th number, the first factor of them all.
 fn add_term(a: &mut [[f64; 21]; 21], b: &mut [f64; 21], row: &[f64; 21], y: f64, i: usize, n: usize)
     requires { ⌜ (i < 21) × (n ≤ 21) ⌝ }
     ensures { λ _. ⌜ (now (a .exit), now (b .exit)) ≡ addTerm (now (row .entry)) y n i (now (a .entry), now (b .entry)) ⌝ }
 {
-    b[i] = b[i] + row[i] * y;
-    add_products(a, row, i, n);
+    let first = row[i];
+    b[i] = b[i] + first * y;
+    add_products(a, row, first, i, n);
 }
 
 // A row of numbers with the right-hand side y.

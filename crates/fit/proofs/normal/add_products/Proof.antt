@@ -10,10 +10,10 @@ use Rattle.fit.proofs.normal.add_products.Statement.{statement}
 use Rattle.fit.proofs.normal.add_products.Tie as tie
 
 abbrev Inv-loop : tie.InvT-loop
-Inv-loop a₀ row i n first k₀ a k = (a ≡ upTo (addProduct row i) 0 k a₀) × (k ≤ n)
+Inv-loop a₀ row first i n k₀ a k = (a ≡ upTo (addProduct row first i) 0 k a₀) × (k ≤ n)
 
 abbrev μ-loop : tie.MeasureT-loop
-μ-loop a₀ row i n first k₀ a k = n - k
+μ-loop a₀ row first i n k₀ a k = n - k
 
 loop-holds : tie.Need-loop-holds Inv-loop μ-loop
 loop-holds c = (upTo-none _ _ _, search needs)
@@ -31,8 +31,6 @@ add-products-spec =
     (tie.spec
     Inv-loop
     μ-loop
-    (λ c. search needs)
-    (λ c. search needs)
     loop-holds
     (λ c. search needs)
     (λ c. search needs)

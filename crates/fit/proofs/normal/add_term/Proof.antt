@@ -1,7 +1,5 @@
 -- `fit::normal::add_term` meets its contract. The matrix is what `add_products` ensures, and the right-hand side the definition's
--- as written.
--- Assumes nothing.
-use Prim.Native.Nat.{_-_}
+-- as written. Assumes nothing.
 use borrow.Author.Needs.{needs}
 use Rattle.fit.specs.Normal.{addTerm}
 use Rattle.fit.proofs.normal.add_term.Statement.{statement}

@@ -3,10 +3,10 @@
 use mathlib.Core.Path.{_≡_}
 use Prim.Native.Nat.{_+_, _-_, _≤_}
 use borrow.Author.Needs.{needs}
-use Rattle.fit.specs.Matrix.{nought}
-use Rattle.fit.specs.Solve.{addKnown}
 use Rattle.exact.specs.Loop.{upTo}
 use Rattle.exact.proofs.Loop.{upTo-none, upTo-next, upTo-last}
+use Rattle.fit.specs.Matrix.{nought}
+use Rattle.fit.specs.Solve.{addKnown}
 use Rattle.fit.proofs.solve.known_terms.Statement.{statement}
 use Rattle.fit.proofs.solve.known_terms.Tie as tie
 

@@ -1,9 +1,7 @@
--- `fit::solve::solve` meets its contract. Each way out is the case of the definition that `eliminate` answered.
--- Assumes nothing.
-use Prim.Native.Nat.{_-_}
+-- `fit::solve::solve` meets its contract. Each way out is the case of the definition that `eliminate` answered. Assumes nothing.
 use borrow.Author.Needs.{needs}
-use Rattle.fit.proofs.SolveLaws.{solved-none, solved-some}
 use borrow.Author.Tests.{not-true, not-false}
+use Rattle.fit.proofs.SolveLaws.{solved-none, solved-some}
 use Rattle.fit.proofs.solve.solve.Statement.{statement}
 use Rattle.fit.proofs.solve.solve.Tie as tie
 

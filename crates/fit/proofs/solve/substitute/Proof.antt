@@ -3,10 +3,10 @@
 use mathlib.Core.Path.{_≡_}
 use Prim.Native.Nat.{ℕ, _+_, _-_, _≤_}
 use borrow.Author.Needs.{needs}
-use Rattle.fit.specs.Solve.{substitute}
-use Rattle.fit.specs.Matrix.{zeros}
 use Rattle.exact.specs.Loop.{downTo}
 use Rattle.exact.proofs.Loop.{downTo-none, downTo-next, downTo-last}
+use Rattle.fit.specs.Solve.{substitute}
+use Rattle.fit.specs.Matrix.{zeros}
 use Rattle.fit.proofs.solve.substitute.Statement.{statement}
 use Rattle.fit.proofs.solve.substitute.Tie as tie
 

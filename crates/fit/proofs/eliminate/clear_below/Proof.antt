@@ -1,14 +1,13 @@
--- `fit::solve::clear_below` meets its contract. The loop's invariant: matrix and right-hand side are the definition's after the
--- rows passed.
--- Assumes nothing.
+-- `fit::eliminate::clear_below` meets its contract. The loop's invariant: matrix and right-hand side are the definition's after the
+-- rows passed. Assumes nothing.
 use mathlib.Core.Path.{_≡_, _∙_}
 use Prim.Native.Nat.{_+_, _-_, _≤_}
 use borrow.Author.Needs.{needs}
-use Rattle.fit.specs.Solve.{clearRow}
 use Rattle.exact.specs.Loop.{upTo}
 use Rattle.exact.proofs.Loop.{upTo-none, upTo-next, upTo-last}
-use Rattle.fit.proofs.solve.clear_below.Statement.{statement}
-use Rattle.fit.proofs.solve.clear_below.Tie as tie
+use Rattle.fit.specs.Eliminate.{clearRow}
+use Rattle.fit.proofs.eliminate.clear_below.Statement.{statement}
+use Rattle.fit.proofs.eliminate.clear_below.Tie as tie
 
 abbrev Inv-loop : tie.InvT-loop
 Inv-loop a₀ b₀ col n row₀ a b row = ((a, b) ≡ upTo (clearRow n col) (col + 1) row (a₀, b₀)) × ((col + 1 ≤ row) × (row ≤ n))

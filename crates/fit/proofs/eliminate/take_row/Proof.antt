@@ -1,13 +1,13 @@
--- `fit::solve::take_row` meets its contract. The loop's invariant: the matrix is the definition's after the columns passed.
+-- `fit::eliminate::take_row` meets its contract. The loop's invariant: the matrix is the definition's after the columns passed.
 -- Assumes nothing.
 use mathlib.Core.Path.{_≡_}
 use Prim.Native.Nat.{_-_, _≤_}
 use borrow.Author.Needs.{needs}
-use Rattle.fit.specs.Solve.{takeTerm}
 use Rattle.exact.specs.Loop.{upTo}
 use Rattle.exact.proofs.Loop.{upTo-none, upTo-next, upTo-last}
-use Rattle.fit.proofs.solve.take_row.Statement.{statement}
-use Rattle.fit.proofs.solve.take_row.Tie as tie
+use Rattle.fit.specs.Eliminate.{takeTerm}
+use Rattle.fit.proofs.eliminate.take_row.Statement.{statement}
+use Rattle.fit.proofs.eliminate.take_row.Tie as tie
 
 abbrev Inv-loop : tie.InvT-loop
 Inv-loop a₀ f col row n k₀ a k = (a ≡ upTo (takeTerm f col row) col k a₀) × ((col ≤ k) × (k ≤ n))

@@ -1,10 +1,9 @@
--- `fit::solve::clear_row` meets its contract. The matrix is what `take_row` ensures, at the multiple that was read before it.
+-- `fit::eliminate::clear_row` meets its contract. The matrix is what `take_row` ensures, at the multiple that was read before it.
 -- Assumes nothing.
-use Prim.Native.Nat.{_-_}
 use borrow.Author.Needs.{needs}
-use Rattle.fit.specs.Solve.{clearRow}
-use Rattle.fit.proofs.solve.clear_row.Statement.{statement}
-use Rattle.fit.proofs.solve.clear_row.Tie as tie
+use Rattle.fit.specs.Eliminate.{clearRow}
+use Rattle.fit.proofs.eliminate.clear_row.Statement.{statement}
+use Rattle.fit.proofs.eliminate.clear_row.Tie as tie
 
 returns : tie.Need-returns
 unfolding clearRow

@@ -1,17 +1,16 @@
--- `fit::solve::eliminate` meets its contract. The loop's invariant: the columns passed all gave equations, and these are as they
--- stand. After a column that gives none, no further step changes that.
--- Assumes nothing.
+-- `fit::eliminate::eliminate` meets its contract. The loop's invariant: the columns passed all gave equations, and these are as they
+-- stand. After a column that gives none, no further step changes that. Assumes nothing.
 use mathlib.Core.Path.{_≡_, _∙_}
+use mathlib.Core.Option.{some}
 use Prim.Native.Nat.{_+_, _-_, _≤_}
 use borrow.Author.Needs.{needs}
-use Rattle.fit.proofs.SolveLaws.{step-stopped, step-done, stopped-stays}
 use borrow.Author.Tests.{not-true, not-false}
-use Rattle.fit.specs.Solve.{outcome, step}
-use mathlib.Core.Option.{none, some}
 use Rattle.exact.specs.Loop.{upTo}
 use Rattle.exact.proofs.Loop.{upTo-none, upTo-next, upTo-last, upTo-stay}
-use Rattle.fit.proofs.solve.eliminate.Statement.{statement}
-use Rattle.fit.proofs.solve.eliminate.Tie as tie
+use Rattle.fit.specs.Eliminate.{outcome, step}
+use Rattle.fit.proofs.EliminateLaws.{step-stopped, step-done, stopped-stays}
+use Rattle.fit.proofs.eliminate.eliminate.Statement.{statement}
+use Rattle.fit.proofs.eliminate.eliminate.Tie as tie
 
 abbrev Inv-loop : tie.InvT-loop
 Inv-loop a₀ b₀ n col₀ a b col = (some (a, b) ≡ upTo (step n) 0 col (some (a₀, b₀))) × (col ≤ n)

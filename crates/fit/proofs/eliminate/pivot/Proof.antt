@@ -1,15 +1,14 @@
--- `fit::solve::pivot` meets its contract. The loop's invariant: the best row is the definition's after the rows passed, and it is
--- a row among the n.
--- Assumes nothing.
+-- `fit::eliminate::pivot` meets its contract. The loop's invariant: the best row is the definition's after the rows passed, and it is
+-- a row among the n. Assumes nothing.
 use mathlib.Core.Path.{_≡_, sym, _∙_, subst}
 use Prim.Native.Nat.{ℕ, _+_, _-_, _≤_, _<_}
 use borrow.Author.Needs.{needs}
-use Rattle.fit.proofs.SolveLaws.{better-below}
-use Rattle.fit.specs.Solve.{better}
 use Rattle.exact.specs.Loop.{upTo}
 use Rattle.exact.proofs.Loop.{upTo-none, upTo-next, upTo-last}
-use Rattle.fit.proofs.solve.pivot.Statement.{statement}
-use Rattle.fit.proofs.solve.pivot.Tie as tie
+use Rattle.fit.specs.Eliminate.{better}
+use Rattle.fit.proofs.EliminateLaws.{better-below}
+use Rattle.fit.proofs.eliminate.pivot.Statement.{statement}
+use Rattle.fit.proofs.eliminate.pivot.Tie as tie
 
 abbrev Inv-loop : tie.InvT-loop
 Inv-loop a col n best₀ row₀ best row = (best ≡ upTo (better a col) (col + 1) row col) × ((best < n) × ((col + 1 ≤ row) × (row ≤ n)))

@@ -1,10 +1,9 @@
--- `fit::solve::better` meets its contract. Each way out is what the definition picks where its test is as the code found it.
+-- `fit::eliminate::better` meets its contract. Each way out is what the definition picks where its test is as the code found it.
 -- Assumes nothing.
-use Prim.Native.Nat.{_-_}
 use borrow.Author.Needs.{needs}
-use Rattle.fit.specs.Solve.{better}
-use Rattle.fit.proofs.solve.better.Statement.{statement}
-use Rattle.fit.proofs.solve.better.Tie as tie
+use Rattle.fit.specs.Eliminate.{better}
+use Rattle.fit.proofs.eliminate.better.Statement.{statement}
+use Rattle.fit.proofs.eliminate.better.Tie as tie
 
 returns : tie.Need-returns
 unfolding better

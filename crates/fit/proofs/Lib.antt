@@ -6,3 +6,4 @@ pub mod SolveLaws
 pub mod LoopLaws
 pub mod PaddedLaws
 pub mod MonomialsLaws
+pub mod MappingLaws

@@ -78,7 +78,6 @@ pub record Filled (x y : Float) (m : Vector) (start total : ℕ) : Type 0 where
 
 module _ (x y : Float) where
   pub filled-none : Filled x y (replicate 21 nought) 0 0
-  unfolding padded
   filled-none = record {
     held = ap (padded 21) (upTo-none (ofDegree x y) 0 []);
     long = sym (ap length (upTo-none (ofDegree x y) 0 []));

@@ -10,7 +10,6 @@ use Rattle.fit.specs.Matrix.{Vector, nought}
 use Rattle.fit.specs.Padded.{padded}
 
 pub padded-length : (n : ℕ) (xs : Vector) → length xs ≤ n → length (padded n xs) ≡ n
-unfolding padded
 padded-length n xs h = length-append xs (replicate (n - length xs) nought) ∙ rest (length xs) (length (replicate (n - length xs) nought)) h (length-replicate (n - length xs) nought)
   where
     rest : (k r : ℕ) → k ≤ n → r ≡ n - k → k + r ≡ n
@@ -21,7 +20,6 @@ one-longer xs x = length-append xs (x ∷ [])
 
 -- xs.push(x)
 pub padded-push : (n : ℕ) (xs : Vector) (x : Float) → length xs < n → set (padded n xs) (length xs) x ≡ padded n (xs ++ (x ∷ []))
-unfolding padded
 padded-push n xs x h =
     ap (λ (k : ℕ). set (xs ++ replicate k nought) (length xs) x) (one-less (length xs) h)
     ∙ set-append-seam xs nought (replicate (n - (length xs + 1)) nought) x

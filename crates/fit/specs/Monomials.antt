@@ -1,6 +1,6 @@
 -- `monomials`: the terms of a polynomial at (x, y), in the Rust's order. The order is a number: 0 for the terms 1, x, y, xy, and else
--- the degree. Assumes nothing.
-use Prim.Native.Nat.{ℕ, _+_, _-_}
+-- the degree, where one above 5 counts as 5. Assumes nothing.
+use Prim.Native.Nat.{ℕ, _+_, _-_, min}
 use mathlib.Core.Bool.{cond}
 use mathlib.Core.List.{[], _∷_, _++_}
 use lib.ListN.{set}
@@ -29,7 +29,7 @@ abbrev pub upToDegree : ℕ → Float → Float → Vector
 upToDegree n x y = upTo (ofDegree x y) 0 (n + 1) []
 
 unfoldable pub monomials : ℕ → Float → Float → Vector
-monomials order x y = cond (eqb order 0) (one ∷ x ∷ y ∷ (x ⊗ y) ∷ []) (upToDegree order x y)
+monomials order x y = cond (eqb order 0) (one ∷ x ∷ y ∷ (x ⊗ y) ∷ []) (upToDegree (min order 5) x y)
 
 -- ---- what the code does to the array that holds them
 

@@ -5,5 +5,5 @@ use lib.ListN.{length, replicate}
 use Rattle.fit.specs.Matrix.{Vector, nought}
 
 -- xs in an array of n
-unfoldable pub padded : ℕ → Vector → Vector
+abbrev pub padded : ℕ → Vector → Vector
 padded n xs = xs ++ replicate (n - length xs) nought

@@ -1,7 +1,7 @@
-// The monomials of a polynomial. Its order is a number here: 0 for the terms 1, x, y, xy and else the degree. Assumes that the
-// degree is at most 5.
+// The monomials of a polynomial. Its order is a number here: 0 for the terms 1, x, y, xy and else the degree, where
+// one above 5 counts as 5. Assumes nothing.
 ghost use mathlib.Core.Path.{_≡_};
-ghost use Prim.Native.Nat.{_+_, _*_, _/_, _≤_};
+ghost use Prim.Native.Nat.{_+_, _≤_, min};
 ghost use Rattle.exact.specs.Loop.{upTo};
 ghost use Rattle.fit.specs.Monomials.{powers, putTerm};
 ghost use Rattle.fit.specs.Padded.{padded};
@@ -47,8 +47,14 @@ fn up_to_degree(n: usize, x: f64, y: f64) -> [f64; 21]
     m
 }
 
+// An order above 5 counts as 5.
+fn degree_of(order: u64) -> usize
+    ensures { λ r. ⌜ r ≡ min order 5 ⌝ }
+{
+    if order < 5 { order as usize } else { 5 }
+}
+
 pub fn monomials(order: u64, x: f64, y: f64) -> [f64; 21]
-    requires { ⌜ order ≤ 5 ⌝ }
     ensures { λ r. ⌜ r ≡ padded 21 (Monomials.monomials order x y) ⌝ }
 {
     if order == 0 {
@@ -59,5 +65,5 @@ pub fn monomials(order: u64, x: f64, y: f64) -> [f64; 21]
         m[3] = x * y;
         return m;
     }
-    up_to_degree(order as usize, x, y)
+    up_to_degree(degree_of(order), x, y)
 }

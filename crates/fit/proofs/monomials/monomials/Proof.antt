@@ -2,7 +2,6 @@
 -- Assumes nothing.
 use borrow.Author.Tests.{ne-eqb}
 use Rattle.fit.specs.Monomials.{monomials}
-use Rattle.fit.specs.Padded.{padded}
 use mathlib.Core.Path.{_∙_}
 use Prim.Native.Nat.{_-_}
 use borrow.Author.Needs.{needs}
@@ -10,12 +9,12 @@ use Rattle.fit.proofs.monomials.monomials.Statement.{statement}
 use Rattle.fit.proofs.monomials.monomials.Tie as tie
 
 returns : tie.Need-returns
-unfolding padded monomials
+unfolding monomials
 returns c = rw (c .if1 .taken)
 
 returns-2 : tie.Need-returns-2
 unfolding monomials
-returns-2 c = c .up-to-degree .ensures ∙ rw (ne-eqb _ _ (c .before .if1 .left))
+returns-2 c = c .up-to-degree .ensures ∙ rw (c .before .degree-of .ensures, ne-eqb _ _ (c .before .before .if1 .left))
 
 pub monomials-spec : {M : Type 1} → statement M
 monomials-spec =
@@ -26,5 +25,6 @@ monomials-spec =
     (λ c. search needs)
     (λ c. search needs)
     returns
+    (λ c κs. search needs)
     (λ c κs. search needs)
     returns-2)

@@ -7,3 +7,4 @@ pub mod LoopLaws
 pub mod PaddedLaws
 pub mod MonomialsLaws
 pub mod MappingLaws
+pub mod FitLaws

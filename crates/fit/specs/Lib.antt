@@ -10,3 +10,4 @@ pub mod Monomials
 pub mod Pairs
 pub mod Rows
 pub mod Mapping
+pub mod Fit

@@ -1,6 +1,7 @@
 // The fit: from pairs to the coefficients of a mapping.
 pub mod eliminate;
 pub mod invert;
+pub mod lstsq;
 pub mod mapping;
 pub mod monomials;
 pub mod normal;

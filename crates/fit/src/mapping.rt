@@ -48,7 +48,7 @@ fn lay(coef: &mut [f64; 256], start: usize, xs: &[f64], n: usize)
 }
 
 // The first n of xs are the coefficients.
-pub fn mapping_of(kind: u64, order: u64, xs: &[f64], n: usize) -> Mapping
+pub fn mapping_of_first(kind: u64, order: u64, xs: &[f64], n: usize) -> Mapping
     requires { ⌜ (n ≤ 256) × (n ≤ length (now xs)) ⌝ }
     ensures { λ r. ⌜ r ≡ Mappings.mapping kind order (take n (now (xs .entry))) ⌝ }
 {
@@ -60,6 +60,14 @@ pub fn mapping_of(kind: u64, order: u64, xs: &[f64], n: usize) -> Mapping
         count: n as u64,
         coef,
     }
+}
+
+// All of xs are the coefficients.
+pub fn mapping_of(kind: u64, order: u64, xs: &[f64]) -> Mapping
+    requires { ⌜ length (now xs) ≤ 256 ⌝ }
+    ensures { λ r. ⌜ r ≡ Mappings.mapping kind order (now (xs .entry)) ⌝ }
+{
+    mapping_of_first(kind, order, xs, xs.len())
 }
 
 // The first n of xs, and then the first n of ys.

@@ -1,9 +1,14 @@
 -- A row added by the code is the definition's next row, where its numbers and its right-hand side are the definition's: for one row a
--- pair and for two. Then the cases of what has a solution or none. Assumes nothing.
-use mathlib.Core.Path.{_≡_, sym, ap, _∙_}
-use mathlib.Core.Bool.{Bool, true, false, _&&_}
+-- pair and for two. Then the cases of what has a solution or none, and how many terms
+-- there can be. Assumes nothing.
+use mathlib.Core.Path.{_≡_, sym, ap, _∙_, subst⁻¹}
+use mathlib.Core.Bool.{Bool, true, false, _&&_, cond}
 use mathlib.Core.List.{_++_}
-use Prim.Native.Nat.{ℕ, _+_, _*_}
+use Prim.Native.Nat.{ℕ, _+_, _*_, _≤_}
+use lib.Dec.{eqb, lit≤}
+use Rattle.arguments.specs.Method.{affineTerms}
+use Rattle.arguments.specs.Order.{termsOf}
+use Rattle.arguments.proofs.OrderLaws.{terms-range}
 use lib.Ieee.{Float}
 use lib.ListN.{take}
 use Rattle.fit.specs.declared.mapping.Mapping.{Mapping}
@@ -47,3 +52,16 @@ module _ (s t : Solution) (n kind order : ℕ) {r : Fitted} where
   pub both-found : r ≡ fitted (mapping kind order (take n (s .x) ++ take n (t .x))) → s .found ≡ true → t .found ≡ true → r ≡ both s t n kind order
   unfolding both
   both-found e h g = some-8 (s .found && t .found) _ e (ap (λ (b : Bool). b && t .found) h ∙ g)
+
+-- ---- there is room for an affine method's terms
+
+few : (b : Bool) → cond b 4 3 ≤ 21
+few true = lit≤ tt
+few false = lit≤ tt
+
+pub affine-terms : {n : ℕ} (pairs : ℕ) → n ≡ affineTerms pairs → n ≤ 21
+unfolding affineTerms
+affine-terms pairs e = subst⁻¹ (λ (k : ℕ). k ≤ 21) e (few (eqb pairs 2))
+
+pub polynomial-terms : {n : ℕ} (order : Float) → n ≡ termsOf order → n ≤ 21
+polynomial-terms order e = subst⁻¹ (λ (k : ℕ). k ≤ 21) e (terms-range order .1)

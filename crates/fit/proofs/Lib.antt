@@ -8,3 +8,4 @@ pub mod PaddedLaws
 pub mod MonomialsLaws
 pub mod MappingLaws
 pub mod FitLaws
+pub mod InvertLaws

@@ -11,3 +11,8 @@ pub mod Pairs
 pub mod Rows
 pub mod Mapping
 pub mod Fit
+pub mod Affine
+pub mod Perspective
+pub mod Polynomial
+pub mod Barrel
+pub mod Shepards

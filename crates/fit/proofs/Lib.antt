@@ -9,3 +9,4 @@ pub mod MonomialsLaws
 pub mod MappingLaws
 pub mod FitLaws
 pub mod InvertLaws
+pub mod BuildLaws

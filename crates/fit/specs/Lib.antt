@@ -16,3 +16,4 @@ pub mod Perspective
 pub mod Polynomial
 pub mod Barrel
 pub mod Shepards
+pub mod Build

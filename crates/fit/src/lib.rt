@@ -1,6 +1,7 @@
 // The fit: from pairs to the coefficients of a mapping.
 pub mod affine;
 pub mod barrel;
+pub mod build;
 pub mod eliminate;
 pub mod invert;
 pub mod lstsq;

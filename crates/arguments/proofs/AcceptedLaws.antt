@@ -1,6 +1,6 @@
 -- What a fit may take for granted: where none of the refusals 3 to 7 applies, each of the table's tests failed, and each that
 -- failed says something of the method, the count, the numbers, the order and the pairs. Assumes nothing.
-use mathlib.Core.Path.{_≡_, refl, sym, ap, _∙_, subst}
+use mathlib.Core.Path.{_≡_, subst}
 use mathlib.Core.Logic.{_⊎_, ⊎-elim}
 use mathlib.Core.Bool.{Bool, true, false, not, _&&_, _||_}
 use mathlib.Core.List.{List}
@@ -9,7 +9,6 @@ use native.Mathlib.Omega.{arith}
 use lib.Dec.{eqb, ltb}
 use lib.ListN.{length}
 use borrow.Author.Tests.{ltb-false, eqb-true, not-false}
-use Rattle.exact.specs.Table.{firstOf}
 use Rattle.number.specs.Bytes.{argumentAt}
 use Rattle.arguments.specs.Method.{affineProjection, perspectiveProjection, polynomial, barrel, barrelInverse, present, pairMethod, skip, leastPairs}
 use Rattle.arguments.specs.Order.{goodOrder}

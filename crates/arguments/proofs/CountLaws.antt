@@ -3,11 +3,11 @@
 use mathlib.Core.Path.{_≡_, refl, sym, ap, _∙_, subst}
 use mathlib.Core.Logic.{_⊎_, inl, inr, ⊎-elim}
 use mathlib.Core.Bool.{Bool, true, false, not, _||_, true≢false, false≢true}
-use Prim.Native.Nat.{ℕ, _+_, _-_, _*_, _/_, _%_, _≤_, _<_}
+use Prim.Native.Nat.{ℕ, _-_, _*_, _/_, _%_, _≤_}
 use native.Mathlib.Omega.{arith}
 use lib.Dec.{eqb, ltb}
 use borrow.Author.Tests.{ltb-false, eqb-true, eqb-false, not-false}
-use Rattle.arguments.specs.Method.{affineProjection, perspectiveProjection, polynomial, barrel, barrelInverse, pairMethod, skip}
+use Rattle.arguments.specs.Method.{pairMethod, skip}
 use Rattle.arguments.specs.Refusal.{badValues, badFor}
 
 -- ---- tests joined by ||

@@ -2,4 +2,5 @@
 pub mod Method
 pub mod Order
 pub mod Store
+pub mod Pair
 pub mod Refusal

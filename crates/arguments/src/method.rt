@@ -1,8 +1,7 @@
 // The methods as types: each states its code, its least pair count and its term count, which the refusals and the fit
 // read. Assumes nothing.
 ghost use mathlib.Core.Path.{_≡_};
-ghost use Rattle.arguments.specs.Method as Method;
-ghost use Rattle.arguments.specs.Method.{present, affineTerms, leastPairs};
+ghost use Rattle.arguments.specs.Method.{affineTerms};
 ghost use Rattle.arguments.specs.Order.{bilinearOrder, degree, termsOf, goodOrder};
 
 pub struct Affine {}
@@ -140,76 +139,4 @@ impl Shepards {
     pub const CODE: u64 = 13;
 
     pub const LEAST_PAIRS: u64 = 1;
-}
-
-// Whether a code is one of the ten methods that are here.
-pub fn is_present(code: u64) -> bool
-    ensures { λ r. ⌜ r ≡ present code ⌝ }
-{
-    if 13 < code {
-        return false;
-    }
-    if code == 2 {
-        return false;
-    }
-    code < 8 || 10 < code
-}
-
-// What each method states, by its code: the least pairs, 0 where it takes none.
-pub fn least_pairs(code: u64, order: f64) -> u64
-    ensures { λ r. ⌜ r ≡ leastPairs code order ⌝ }
-{
-    if code == Affine::CODE {
-        return Affine::LEAST_PAIRS;
-    }
-    if code == Perspective::CODE {
-        return Perspective::LEAST_PAIRS;
-    }
-    if code == BilinearReverse::CODE {
-        return BilinearReverse::LEAST_PAIRS;
-    }
-    if code == BilinearForward::CODE {
-        return BilinearForward::LEAST_PAIRS;
-    }
-    if code == Polynomial::CODE {
-        return Polynomial::least_pairs(order);
-    }
-    if code == Shepards::CODE {
-        Shepards::LEAST_PAIRS
-    } else {
-        0
-    }
-}
-
-// The terms that it fits, 0 where it fits none.
-pub fn terms(code: u64, pairs: u64, order: f64) -> u64
-    ensures { λ r. ⌜ r ≡ Method.terms code pairs order ⌝ }
-{
-    if code == Affine::CODE {
-        return Affine::terms(pairs);
-    }
-    if code == Perspective::CODE {
-        return Perspective::TERMS;
-    }
-    if code == BilinearReverse::CODE {
-        return BilinearReverse::TERMS;
-    }
-    if code == BilinearForward::CODE {
-        return BilinearForward::TERMS;
-    }
-    if code == Polynomial::CODE {
-        return Polynomial::terms(order);
-    }
-    0
-}
-
-// How many arguments stand before the pairs.
-pub fn skip(code: u64) -> u64
-    ensures { λ r. ⌜ r ≡ Method.skip code ⌝ }
-{
-    if code == Polynomial::CODE {
-        Polynomial::SKIP
-    } else {
-        0
-    }
 }

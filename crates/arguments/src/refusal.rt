@@ -1,6 +1,6 @@
 // Refusals 3 to 7 of a method and its arguments: each test by itself, for every method code and every byte slice, then the
 // first number that applies. Assumes nothing.
-use crate::method;
+use crate::code;
 use crate::method::AffineProjection;
 use crate::method::Barrel;
 use crate::method::PerspectiveProjection;
@@ -94,7 +94,7 @@ pub fn pairs_of(method: u64, arguments: &[u8]) -> u64
     ensures { λ r. ⌜ r ≡ pairsOf method (now (arguments .entry)) ⌝ }
 {
     let n = store::count_of(arguments) as u64;
-    let skip = method::skip(method);
+    let skip = code::skip(method);
     if n < skip { 0 } else { (n - skip) / 4 }
 }
 
@@ -103,14 +103,14 @@ pub fn few_pairs(method: u64, arguments: &[u8]) -> bool
     ensures { λ r. ⌜ r ≡ fewPairs method (now (arguments .entry)) ⌝ }
 {
     let order = store::order_of(arguments);
-    pairs_of(method, arguments) < method::least_pairs(method, order)
+    pairs_of(method, arguments) < code::least_pairs(method, order)
 }
 
 // The first number from 3 to 7 that applies, 0 where none does.
 pub fn refusal(method: u64, arguments: &[u8]) -> u64
     ensures { λ r. ⌜ r ≡ Refusal.refusal method (now (arguments .entry)) ⌝ }
 {
-    if !method::is_present(method) {
+    if !code::is_present(method) {
         return 3;
     }
     if bad_count(method, arguments) {

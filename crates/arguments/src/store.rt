@@ -23,6 +23,7 @@ fn held_of(arguments: &[u8]) -> usize
     if n < 257 { n } else { 257 }
 }
 
+// The store of the arguments in these bytes.
 pub fn fill(arguments: &[u8]) -> Store
     ensures { λ r. ⌜ (r .values ≡ valuesOf (now (arguments .entry))) × (r .count ≡ heldOf (now (arguments .entry))) ⌝ }
 {

@@ -1,10 +1,9 @@
--- A value that a format holds is determined by its sign and size, since its bit pattern is; so rounding such a
--- value's own fraction gives the value back, and a sum with zero or a difference from zero is exact.
--- Assumes nothing.
+-- A value that a format holds is determined by its sign and size, since its bit pattern is (`held-unique`); so rounding
+-- such a value's own fraction gives the value back (`round-held`). Assumes nothing.
 use mathlib.Core.Path.{_≡_, refl, sym, ap, _∙_, subst}
-use mathlib.Core.Bool.{Bool, true, false, not, _&&_, cond}
+use mathlib.Core.Bool.{Bool, _&&_, cond}
 use Prim.Native.Nat.{ℕ, zero, suc, _+_, _-_, _*_, _/_, _%_, _^_, _≤_, _<_}
-use native.Mathlib.Nat.{mul-assoc, mul-comm, mul-right-comm, mul-left-comm, mul-one, one-mul, lt-of-not-le, lt-irrefl, lt-of-lt-of-le, le-of-suc-le-suc, lt-of-mul-lt-mul-right, mul-lt-mul-of-pos-right, zero-mul, pow-succ'}
+use native.Mathlib.Nat.{mul-assoc, mul-comm, mul-right-comm, mul-one, one-mul, lt-of-not-le, lt-irrefl, lt-of-lt-of-le, le-of-suc-le-suc, lt-of-mul-lt-mul-right, mul-lt-mul-of-pos-right, zero-mul, pow-succ'}
 use native.Mathlib.Omega.{arith}
 use lib.IntN.{ℤ, pos, negsuc}
 use lib.Dec.{T, leb, ltb, eqb, eqb→eq, ltb→lt, leb→le}

@@ -4,14 +4,16 @@ use mathlib.Core.Path.{_≡_, refl, sym, ap, _∙_, subst}
 use mathlib.Core.Bool.{Bool, true, false, not, false≢true}
 use Prim.Native.Nat.{ℕ, _+_, _*_, _/_, _%_, _-_, _≤_, _<_}
 use native.Mathlib.Nat.{mod-lt, mul-pos, zero-lt-suc}
-use lib.Dec.{T, leb, ltb}
+use lib.Dec.{T, leb}
 use lib.Pow.{pow-pos}
-use lib.Ieee.{Float, nan, inf, fin, Format, binary32, binary64, prec, hid, ones, top, div, ne, le, fits, isNan, nanBits, ofBits, toBits}
+use lib.Ieee.{Float, nan, inf, fin, Format, binary32, binary64, prec, hid, ones, top, div, ne, le, isNan, nanBits, ofBits, toBits}
 use lib.Ieee.Bits.{nanBits-is, nanBits-above}
 use borrow.Author.Tests.{lt-ltb, le-ltb}
-use Rattle.exact.proofs.Pattern.{infinite, pattern-order}
-use Rattle.number.specs.Bytes.{within}
-use Rattle.number.proofs.MagnitudeLaws.{nan-test, abs-bits}
+use Rattle.exact.proofs.Pattern.{infinite}
+use Rattle.exact.proofs.PatternOrder.{pattern-order}
+use Rattle.number.specs.Magnitude.{within}
+use Rattle.number.proofs.MagnitudeLaws.{abs-bits}
+use Rattle.number.proofs.MagnitudeTests.{nan-test}
 
 is-nan : (x : Float) → isNan x ≡ true → x ≡ nan
 unfolding isNan

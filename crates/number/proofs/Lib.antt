@@ -1,5 +1,14 @@
 -- The laws of the number tools, a file for each subject. Other crates cite the `..Laws`.
+mod RootCases
+mod RootDigits
+mod RootNear
+mod RootNumbers
+mod RootPositive
+mod RootScale
+mod RootSettle
+mod RootValue
 pub mod BytesLaws
+pub mod BytesParts
 pub mod FloatBits
 pub mod FloatBytes
 pub mod FloorCode
@@ -8,7 +17,10 @@ pub mod FloorNear
 pub mod FloorRound
 pub mod FloorValue
 pub mod MagnitudeLaws
+pub mod MagnitudeTests
 pub mod NarrowBits
 pub mod NarrowLaws
 pub mod NarrowLow
 pub mod NarrowNormal
+pub mod RootLaws
+pub mod RootWhole

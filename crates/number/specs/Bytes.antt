@@ -1,11 +1,10 @@
 -- How bytes are numbers and floats, for the whole product: a number has its lowest byte first, and a float is its
 -- IEEE 754 pattern as such a number. A list of bytes reads as 0 past its end. Assumes nothing.
-use Prim.Native.Nat.{ℕ, zero, suc, _+_, _*_, _/_, _%_}
-use mathlib.Core.Bool.{Bool}
+use Prim.Native.Nat.{ℕ, zero, suc, _+_, _-_, _*_, _/_, _%_, _^_}
 use mathlib.Core.List.{List}
+use lib.IntN.{ℤ, pos, negsuc}
 use lib.ListN.{getD, set}
-use lib.Ieee.{Float, Format, binary32, binary64, ofBits, toBits, le}
-use Rattle.number.specs.Magnitude.{abs}
+use lib.Ieee.{Float, binary32, binary64, ofBits, toBits}
 
 -- ---- numbers
 
@@ -31,6 +30,14 @@ putU32 = putNumber 4
 abbrev pub putU64 : List ℕ → ℕ → ℕ → List ℕ
 putU64 = putNumber 8
 
+-- a signed number of 64 bits as the number that its bits stand for: -1 is 2^64 - 1
+unfoldable pub twosComplement : ℤ → ℕ
+twosComplement (pos n) = n
+twosComplement (negsuc n) = 2 ^ 64 - suc n
+
+abbrev pub putI64 : List ℕ → ℕ → ℤ → List ℕ
+putI64 s at z = putU64 s at (twosComplement z)
+
 -- ---- floats. Every NaN pattern is read as `nan`, which is written as 0x7fc00000 or 0x7ff8000000000000.
 
 abbrev pub f32At : List ℕ → ℕ → Float
@@ -51,9 +58,3 @@ sampleAt s k = f32At s (4 * k)
 
 abbrev pub argumentAt : List ℕ → ℕ → Float
 argumentAt s k = f64At s (8 * k)
-
--- ---- limits
-
--- x is at most `limit` in magnitude. A NaN is not, and under a finite limit neither is an infinity.
-unfoldable pub within : Float → Float → Bool
-within limit x = le (abs x) limit

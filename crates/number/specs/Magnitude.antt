@@ -21,3 +21,7 @@ fmax x y = cond (isNan x) y (cond (lt x y) y x)
 -- above all: Rust's `max_by(|i, j| a[i].abs().total_cmp(&a[j].abs()))`, with one NaN and no payloads.
 unfoldable pub reaching : Float → Float → Bool
 reaching best next = isNan next || le (abs best) (abs next)
+
+-- x is at most `limit` in magnitude. A NaN is not, and under a finite limit neither is an infinity.
+unfoldable pub within : Float → Float → Bool
+within limit x = le (abs x) limit

@@ -3,8 +3,10 @@
 ghost use mathlib.Core.Path.{_≡_};
 ghost use Prim.Native.Nat.{_+_, _*_, _≤_};
 ghost use lib.ListN.{length};
-ghost use lib.Ieee.{binary32, binary64, ofBits, toBits};
-ghost use Rattle.number.specs.Bytes.{u32At, u64At, f32At, f64At, putU32, putU64, putF32, putF64, within};
+ghost use lib.Ieee.{binary32, binary64, ofBits};
+ghost use Rattle.number.specs.Bytes.{u32At, u64At, f32At, f64At, putU32, putU64, putI64, putF32, putF64};
+ghost use Rattle.number.specs.Magnitude.{within};
+use crate::pattern;
 
 // Four bytes as a number, the lowest first.
 fn joined(b0: u8, b1: u8, b2: u8, b3: u8) -> u32
@@ -45,98 +47,51 @@ pub fn put_u64(s: &mut [u8], at: usize, n: u64)
     put_u32(s, at + 4, (n / 4294967296) as u32);
 }
 
-// The float of a pattern. A NaN's pattern may not be made a float as it is, so each gives the one NaN.
-pub fn f32_of_bits(bits: u32) -> f32
-    ensures { λ r. ⌜ r ≡ ofBits binary32 bits ⌝ }
+pub fn put_i64(s: &mut [u8], at: usize, n: i64)
+    requires { ⌜ at + 8 ≤ length (now s) ⌝ }
+    ensures { λ _. ⌜ now (s .exit) ≡ putI64 (now (s .entry)) at n ⌝ }
 {
-    if bits % 2147483648 > 2139095040 {
-        return 0.0 / 0.0;
-    }
-    f32::from_bits(bits)
-}
-
-pub fn f64_of_bits(bits: u64) -> f64
-    ensures { λ r. ⌜ r ≡ ofBits binary64 bits ⌝ }
-{
-    if bits % 9223372036854775808 > 9218868437227405312 {
-        return 0.0 / 0.0;
-    }
-    f64::from_bits(bits)
-}
-
-// The pattern of a float, of a NaN the one with the sign clear and only the highest digit set.
-pub fn bits_of_f32(x: f32) -> u32
-    ensures { λ r. ⌜ r ≡ toBits binary32 x ⌝ }
-{
-    if x != x {
-        return 0x7fc0_0000;
-    }
-    f32::to_bits(x)
-}
-
-pub fn bits_of_f64(x: f64) -> u64
-    ensures { λ r. ⌜ r ≡ toBits binary64 x ⌝ }
-{
-    if x != x {
-        return 0x7ff8_0000_0000_0000;
-    }
-    f64::to_bits(x)
+    put_u64(s, at, pattern::bits_of_i64(n));
 }
 
 pub fn f32_at(s: &[u8], at: usize) -> f32
     requires { ⌜ at + 4 ≤ length (now s) ⌝ }
     ensures { λ r. ⌜ r ≡ f32At (now (s .entry)) at ⌝ }
 {
-    f32_of_bits(u32_at(s, at))
+    pattern::f32_of_bits(u32_at(s, at))
 }
 
 pub fn f64_at(s: &[u8], at: usize) -> f64
     requires { ⌜ at + 8 ≤ length (now s) ⌝ }
     ensures { λ r. ⌜ r ≡ f64At (now (s .entry)) at ⌝ }
 {
-    f64_of_bits(u64_at(s, at))
+    pattern::f64_of_bits(u64_at(s, at))
 }
 
 pub fn put_f32(s: &mut [u8], at: usize, x: f32)
     requires { ⌜ at + 4 ≤ length (now s) ⌝ }
     ensures { λ _. ⌜ now (s .exit) ≡ putF32 (now (s .entry)) at x ⌝ }
 {
-    put_u32(s, at, bits_of_f32(x));
+    put_u32(s, at, pattern::bits_of_f32(x));
 }
 
 pub fn put_f64(s: &mut [u8], at: usize, x: f64)
     requires { ⌜ at + 8 ≤ length (now s) ⌝ }
     ensures { λ _. ⌜ now (s .exit) ≡ putF64 (now (s .entry)) at x ⌝ }
 {
-    put_u64(s, at, bits_of_f64(x));
-}
-
-// Whether a pattern is that of a number at most `limit` in magnitude, the limit given by its own pattern: the order
-// of floats without a sign is the order of their patterns.
-pub fn f32_bits_within(bits: u32, limit: u32) -> bool
-    requires { ⌜ limit ≤ 0x7f80_0000 ⌝ }
-    ensures { λ r. ⌜ r ≡ within (ofBits binary32 limit) (ofBits binary32 bits) ⌝ }
-{
-    bits % 2147483648 <= limit
-}
-
-pub fn f64_bits_within(bits: u64, limit: u64) -> bool
-    requires { ⌜ limit ≤ 0x7ff0_0000_0000_0000 ⌝ }
-    ensures { λ r. ⌜ r ≡ within (ofBits binary64 limit) (ofBits binary64 bits) ⌝ }
-{
-    bits % 9223372036854775808 <= limit
+    put_u64(s, at, pattern::bits_of_f64(x));
 }
 
 pub fn f32_within(s: &[u8], at: usize, limit: u32) -> bool
     requires { ⌜ (at + 4 ≤ length (now s)) × (limit ≤ 0x7f80_0000) ⌝ }
     ensures { λ r. ⌜ r ≡ within (ofBits binary32 limit) (f32At (now (s .entry)) at) ⌝ }
 {
-    f32_bits_within(u32_at(s, at), limit)
+    pattern::f32_bits_within(u32_at(s, at), limit)
 }
 
 pub fn f64_within(s: &[u8], at: usize, limit: u64) -> bool
     requires { ⌜ (at + 8 ≤ length (now s)) × (limit ≤ 0x7ff0_0000_0000_0000) ⌝ }
     ensures { λ r. ⌜ r ≡ within (ofBits binary64 limit) (f64At (now (s .entry)) at) ⌝ }
 {
-    f64_bits_within(u64_at(s, at), limit)
+    pattern::f64_bits_within(u64_at(s, at), limit)
 }

@@ -4,6 +4,7 @@ pub mod bytes;
 pub mod floor;
 pub mod magnitude;
 pub mod narrow;
+pub mod pattern;
 pub mod power;
 pub mod root;
 pub mod wrapping;

@@ -1,5 +1,4 @@
 -- `bad_count` is its definition: the tests are the definition's own, in its order. Assumes nothing.
-use mathlib.Core.Path.{_≡_, _∙_}
 use borrow.Author.Needs.{needs}
 use borrow.Author.Tests.{lt-ltb, le-ltb, eq-eqb, ne-eqb}
 use Rattle.arguments.specs.Refusal.{badCount}

@@ -1,5 +1,4 @@
 -- `bad_order` is its definition: only a polynomial has an order to test. Assumes nothing.
-use mathlib.Core.Path.{_≡_, _∙_}
 use borrow.Author.Needs.{needs}
 use borrow.Author.Tests.{ne-eqb}
 use Rattle.arguments.specs.Refusal.{badOrder}

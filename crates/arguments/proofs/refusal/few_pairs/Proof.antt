@@ -1,5 +1,4 @@
 -- `few_pairs` is its definition: both sides of the comparison are. Assumes nothing.
-use mathlib.Core.Path.{_≡_, _∙_}
 use borrow.Author.Needs.{needs}
 use Rattle.arguments.specs.Refusal.{fewPairs}
 use Rattle.arguments.proofs.refusal.few_pairs.Statement.{statement}

@@ -1,5 +1,4 @@
 -- `pairs_of` is its definition: where there is no order the difference is 0. Assumes nothing.
-use mathlib.Core.Path.{_≡_, _∙_}
 use native.Mathlib.Omega.{arith}
 use borrow.Author.Needs.{needs}
 use Rattle.arguments.specs.Refusal.{pairsOf}

@@ -6,7 +6,7 @@ use borrow.Author.Needs.{needs}
 use lib.ListN.{length}
 use Rattle.exact.specs.Loop.{upTo}
 use Rattle.exact.proofs.Loop.{upTo-none, upTo-next, upTo-last}
-use Rattle.arguments.specs.Store.{heldOf, zeros, keep, valuesOf}
+use Rattle.arguments.specs.Store.{zeros, keep, valuesOf}
 use Rattle.arguments.proofs.StoreLaws.{held-room}
 use Rattle.arguments.proofs.store.fill.Statement.{statement}
 use Rattle.arguments.proofs.store.fill.Tie as tie

@@ -2,7 +2,7 @@
 use native.Mathlib.Omega.{arith}
 use lib.ListN.{length-set}
 use borrow.Author.Needs.{needs}
-use Rattle.number.proofs.BytesLaws.{put-four}
+use Rattle.number.proofs.BytesParts.{put-four}
 use Rattle.number.proofs.bytes.put_u32.Statement.{statement}
 use Rattle.number.proofs.bytes.put_u32.Tie as tie
 

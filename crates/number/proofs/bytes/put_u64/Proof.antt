@@ -1,7 +1,7 @@
 -- `number::bytes::put_u64` meets its contract: eight bytes are twice four, of the number's lower and upper half.
 -- Assumes nothing.
 use mathlib.Core.Path.{_∙_}
-use Rattle.number.proofs.BytesLaws.{put-eight}
+use Rattle.number.proofs.BytesParts.{put-eight}
 use borrow.Author.Needs.{needs}
 use Rattle.number.proofs.bytes.put_u64.Statement.{statement}
 use Rattle.number.proofs.bytes.put_u64.Tie as tie

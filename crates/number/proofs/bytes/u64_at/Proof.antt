@@ -1,5 +1,5 @@
 -- `number::bytes::u64_at` meets its contract: eight bytes are twice four. Assumes nothing.
-use Rattle.number.proofs.BytesLaws.{number-eight}
+use Rattle.number.proofs.BytesParts.{number-eight}
 use borrow.Author.Needs.{needs}
 use Rattle.number.proofs.bytes.u64_at.Statement.{statement}
 use Rattle.number.proofs.bytes.u64_at.Tie as tie

@@ -1,10 +1,9 @@
 -- `number::magnitude::abs_f32` meets its contract. Up to zero the difference 0 - x is exact, and above zero, as at a NaN,
 -- x is its own magnitude. Assumes nothing.
-use mathlib.Core.Path.{_≡_, sym, ap, _∙_, subst}
-use mathlib.Core.Bool.{Bool, true}
+use mathlib.Core.Path.{sym, subst}
 use lib.Dec.{T}
-use lib.Ieee.{Float, binary32, fits, sub, le}
-use Rattle.number.proofs.MagnitudeLaws.{abs-of-difference, abs-otherwise}
+use lib.Ieee.{binary32}
+use Rattle.number.proofs.MagnitudeTests.{abs-of-difference, abs-otherwise}
 use Rattle.number.proofs.magnitude.abs_f32.Statement.{statement}
 use Rattle.number.proofs.magnitude.abs_f32.Tie as tie
 

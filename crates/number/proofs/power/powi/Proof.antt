@@ -1,6 +1,6 @@
 -- `number::power::powi` meets its contract. Each way out rewrites with the test that led there, and the last one is
 -- the case of an exponent that is none of 0 to 4. Assumes nothing.
-use mathlib.Core.Path.{_≡_, refl, sym, ap}
+use mathlib.Core.Path.{_≡_, refl}
 use Prim.Native.Nat.{ℕ, zero, suc}
 use lib.Ieee.{Float}
 use Rattle.exact.specs.Double.{_⊗_}

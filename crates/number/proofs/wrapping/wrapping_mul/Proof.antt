@@ -1,8 +1,8 @@
 -- `number::wrapping::wrapping_mul` meets its contract. With a and b cut into halves of 32 bits, a * b is what the code
 -- adds up and a multiple of 2^64: the product of the upper halves, and what the crossed products have above 32 bits.
 -- Assumes nothing.
-use mathlib.Core.Path.{_≡_, refl, sym, ap, _∙_, subst}
-use Prim.Native.Nat.{ℕ, _+_, _*_, _/_, _%_, _^_, _<_, _≤_}
+use mathlib.Core.Path.{_≡_, sym, ap, _∙_}
+use Prim.Native.Nat.{ℕ, _+_, _*_, _/_, _%_, _^_, _<_}
 use native.Mathlib.Nat.{div-add-mod', mul-add-mod-self-left, mul-le-mul-left, mul-lt-mul-of-pos-right, le-of-lt, lt-of-le-of-lt}
 use native.Mathlib.Omega.{arith}
 use lib.Dec.{lit<}

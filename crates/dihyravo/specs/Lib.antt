@@ -1,0 +1,2 @@
+-- The definitions of the exported calls.
+pub mod Answer

@@ -1,0 +1,42 @@
+// The product's static library: each call here is exported, and is thin over a crate that does the work. For every argument; a slice
+// comes as a pointer and a length.
+use names::Named;
+ghost use mathlib.Core.Path.{_≡_};
+ghost use Prim.Native.Nat.{_^_};
+ghost use Rattle.names.specs.Names.{lookup, methods, policies, interpolations, Below};
+ghost use Rattle.dihyravo.specs.Answer.{answer};
+
+// A code, or minus the refusal's number.
+fn number(r: Named) -> i64
+    requires { ⌜ Below (2 ^ 63) r ⌝ }
+    ensures { λ z. ⌜ z ≡ answer r ⌝ }
+{
+    match r {
+        Named::Code(n) => n as i64,
+        Named::Refused => -3,
+    }
+}
+
+// The code of a distortion method's name, or -3.
+#[no_mangle]
+pub extern "C" fn dihyravo_method(name: &[u8]) -> i64
+    ensures { λ r. ⌜ r ≡ answer (lookup methods (now (name .entry))) ⌝ }
+{
+    number(names::method(name))
+}
+
+// The code of a virtual pixel policy's name, or -3.
+#[no_mangle]
+pub extern "C" fn dihyravo_policy(name: &[u8]) -> i64
+    ensures { λ r. ⌜ r ≡ answer (lookup policies (now (name .entry))) ⌝ }
+{
+    number(names::policy(name))
+}
+
+// The code of an interpolation's name, or -3.
+#[no_mangle]
+pub extern "C" fn dihyravo_interpolation(name: &[u8]) -> i64
+    ensures { λ r. ⌜ r ≡ answer (lookup interpolations (now (name .entry))) ⌝ }
+{
+    number(names::interpolation(name))
+}

@@ -1,0 +1,30 @@
+// Bytes compared with a name, ASCII case ignored. For every two slices.
+ghost use mathlib.Core.Path.{_≡_};
+ghost use Rattle.names.specs.Names.{lowercase, sameName};
+
+// u8::to_ascii_lowercase
+fn to_ascii_lowercase(b: u8) -> u8
+    ensures { λ r. ⌜ r ≡ lowercase b ⌝ }
+{
+    if 65 <= b {
+        if b <= 90 {
+            return b + 32;
+        }
+    }
+    b
+}
+
+// Whether s, in lower case, is the name.
+pub(crate) fn same_name(s: &[u8], name: &[u8]) -> bool
+    ensures { λ r. ⌜ r ≡ sameName (now (s .entry)) (now (name .entry)) ⌝ }
+{
+    if s.len() != name.len() {
+        return false;
+    }
+    for i in 0..s.len() {
+        if to_ascii_lowercase(s[i]) != name[i] {
+            return false;
+        }
+    }
+    true
+}

@@ -10,3 +10,4 @@ pub mod MappingLaws
 pub mod FitLaws
 pub mod InvertLaws
 pub mod BuildLaws
+pub mod TermsLaws

@@ -2,8 +2,8 @@
 -- the degree, where one above 5 counts as 5. Assumes nothing.
 use Prim.Native.Nat.{ℕ, _+_, _-_, min}
 use mathlib.Core.Bool.{cond}
-use mathlib.Core.List.{[], _∷_, _++_}
-use lib.ListN.{set}
+use mathlib.Core.List.{List, [], _∷_, _++_}
+use lib.ListN.{getD, set}
 use lib.Dec.{eqb}
 use lib.Ieee.{Float}
 use Rattle.exact.specs.Double.{_⊗_}
@@ -30,6 +30,24 @@ upToDegree n x y = upTo (ofDegree x y) 0 (n + 1) []
 
 unfoldable pub monomials : ℕ → Float → Float → Vector
 monomials order x y = cond (eqb order 0) (one ∷ x ∷ y ∷ (x ⊗ y) ∷ []) (upToDegree (min order 5) x y)
+
+-- ---- the same by their exponents of x and y, for the degrees 1 to 5: (degree + 1) (degree + 2) / 2 of them
+
+abbrev pub exponents : List (ℕ × ℕ)
+exponents =
+    (0, 0) ∷
+    (1, 0) ∷ (0, 1) ∷
+    (2, 0) ∷ (1, 1) ∷ (0, 2) ∷
+    (3, 0) ∷ (2, 1) ∷ (1, 2) ∷ (0, 3) ∷
+    (4, 0) ∷ (3, 1) ∷ (2, 2) ∷ (1, 3) ∷ (0, 4) ∷
+    (5, 0) ∷ (4, 1) ∷ (3, 2) ∷ (2, 3) ∷ (1, 4) ∷ (0, 5) ∷ []
+
+abbrev pub monomial : Float → Float → ℕ × ℕ → Float
+monomial x y e = power x (e .0) ⊗ power y (e .1)
+
+-- the monomial numbered k, which has the same number in every degree that has it
+abbrev pub monomialAt : Float → Float → ℕ → Float
+monomialAt x y k = monomial x y (getD exponents k (0, 0))
 
 -- ---- what the code does to the array that holds them
 

@@ -3,7 +3,7 @@ use Prim.Native.Nat.{ℕ}
 use mathlib.Core.Bool.{cond}
 use mathlib.Core.List.{[], _∷_}
 use lib.Dec.{eqb}
-use lib.Ieee.{Float, neg}
+use lib.Ieee.{neg}
 use Rattle.exact.specs.Double.{_⊖_}
 use Rattle.number.specs.Power.{one}
 use Rattle.arguments.specs.Method.{affineTerms}

@@ -1,6 +1,5 @@
 -- `invert_affine` and `invert3`: none, with zeros, where the determinant's magnitude is too small. One that is a NaN passes.
 -- Assumes nothing.
-use Prim.Native.Nat.{ℕ}
 use mathlib.Core.Bool.{true, false, cond}
 use mathlib.Core.List.{[], _∷_}
 use lib.ListN.{replicate}

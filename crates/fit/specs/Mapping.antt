@@ -1,12 +1,11 @@
 -- The fitted mapping: a kind, the order of its monomials, and its coefficients in the order of the Rust's fields, zeros after them.
 -- Assumes nothing.
 use Prim.Native.Nat.{ℕ}
-use mathlib.Core.Bool.{Bool, _&&_, cond}
-use mathlib.Core.List.{[], _++_}
-use lib.ListN.{length, take}
+use mathlib.Core.Bool.{Bool, cond}
+use mathlib.Core.List.{[]}
+use lib.ListN.{length}
 use Rattle.fit.specs.declared.mapping.Mapping.{Mapping}
 use Rattle.fit.specs.declared.mapping.Fitted.{Fitted}
-use Rattle.fit.specs.declared.solve.Solution.{Solution}
 use Rattle.fit.specs.Matrix.{Vector}
 use Rattle.fit.specs.Padded.{padded}
 

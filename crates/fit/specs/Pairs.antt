@@ -1,6 +1,5 @@
 -- Pairs: u, v in the picture and x, y in the output, four numbers each, after `skip` others in the store. Assumes nothing.
 use Prim.Native.Nat.{ℕ, _+_, _*_}
-use lib.Ieee.{Float}
 use Rattle.fit.specs.declared.pairs.Pair.{Pair}
 use Rattle.fit.specs.Matrix.{Vector, at}
 

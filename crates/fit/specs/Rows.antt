@@ -1,5 +1,4 @@
 -- The rows of least squares that a pair gives, as the Rust's `vec![..]` has them, each in an array of 21. Assumes nothing.
-use Prim.Native.Nat.{ℕ}
 use mathlib.Core.List.{[], _∷_}
 use lib.Ieee.{Float, neg}
 use Rattle.exact.specs.Double.{_⊗_}

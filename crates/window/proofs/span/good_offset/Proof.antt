@@ -1,14 +1,16 @@
-use mathlib.Core.Path.{_≡_, refl, sym, ap, _∙_}
-use Prim.Native.Nat.{ℕ, _+_, _-_, _≤_, _<_}
-use native.Mathlib.Omega.{arith}
-use borrow.Author.Needs.{needs}
+-- `window::span::good_offset` meets its contract: the two tests are one of the magnitude. Assumes nothing.
+use mathlib.Core.Path.{_≡_, ap, _∙_}
+use mathlib.Core.Bool.{_&&_}
+use lib.IntN.{ℤ, pos, negsuc}
+use lib.Signed.{leZ}
+use mir.Syntax.{w64}
+use mir.ValLaws.{toZ-ofZ}
+use Rattle.window.proofs.SpanLaws.{offset-tests}
 use Rattle.window.proofs.span.good_offset.Statement.{statement}
 use Rattle.window.proofs.span.good_offset.Tie as tie
-use Rattle.window.proofs.span.good_offset.Reads as reads
-use Rattle.window.proofs.span.good_offset.Lts as lts
 
 returns : tie.Need-returns
-returns c = ?
+returns c = ap (λ (z : ℤ). leZ (negsuc 1048575) z && leZ z (pos 1048576)) (toZ-ofZ w64 (c .args .from) (c .fits .from)) ∙ offset-tests (c .args .from)
 
 pub good-offset-spec : {M : Type 1} → statement M
 good-offset-spec = tie.close (tie.spec returns)

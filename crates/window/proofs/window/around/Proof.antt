@@ -1,25 +1,12 @@
-use mathlib.Core.Path.{_≡_, refl, sym, ap, _∙_}
-use Prim.Native.Nat.{ℕ, _+_, _-_, _≤_, _<_}
-use native.Mathlib.Omega.{arith}
+-- `window::window::around` meets its contract: each side by its own edges. Assumes nothing.
+use mathlib.Core.Path.{_≡_, _∙_}
 use borrow.Author.Needs.{needs}
+use Rattle.window.specs.Window.{joined}
 use Rattle.window.proofs.window.around.Statement.{statement}
 use Rattle.window.proofs.window.around.Tie as tie
-use Rattle.window.proofs.window.around.Reads as reads
-use Rattle.window.proofs.window.around.Lts as lts
-use Rattle.window.proofs.span.fitted.Reads as fitted-reads
-use Rattle.window.proofs.window.joined.Reads as joined-reads
-
-fitted-requires : tie.Need-fitted-requires
-fitted-requires c κs = search needs
-
-fitted-requires-2 : tie.Need-fitted-requires-2
-fitted-requires-2 c κs = search needs
-
-joined-requires : tie.Need-joined-requires
-joined-requires c κs = search needs
 
 returns : tie.Need-returns
-returns c = cc
+returns c = c .joined .ensures ∙ (λ i. joined (c .before .before .fitted .ensures i) (c .before .fitted2 .ensures i))
 
 pub around-spec : {M : Type 1} → statement M
-around-spec = tie.close (tie.spec fitted-requires fitted-requires-2 joined-requires returns)
+around-spec = tie.close (tie.spec (λ c κs. search needs) (λ c κs. search needs) (λ c κs. search needs) returns)

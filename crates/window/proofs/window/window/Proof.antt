@@ -1,32 +1,27 @@
-use mathlib.Core.Path.{_≡_, refl, sym, ap, _∙_}
-use Prim.Native.Nat.{ℕ, _+_, _-_, _≤_, _<_}
-use native.Mathlib.Omega.{arith}
+-- `window::window::window` meets its contract: each way out is the case of the definition that the tests took. Assumes nothing.
+use mathlib.Core.Path.{_≡_, sym, ap, _∙_}
 use borrow.Author.Needs.{needs}
+use mathlib.Core.Bool.{Bool, true, false, cond}
+use lib.IntN.{ℤ, pos}
+use mir.Syntax.{w64}
+use mir.ValLaws.{toZ-ofZ}
+use Rattle.window.specs.Window.{given, best, window}
 use Rattle.window.proofs.window.window.Statement.{statement}
 use Rattle.window.proofs.window.window.Tie as tie
-use Rattle.window.proofs.window.window.Reads as reads
-use Rattle.window.proofs.window.window.Lts as lts
-use Rattle.window.proofs.window.best.Reads as best-reads
-use Rattle.window.proofs.window.given.Reads as given-reads
-
-given-requires : tie.Need-given-requires
-given-requires c κs = search needs
 
 returns : tie.Need-returns
-returns c = ?
-
-best-requires : tie.Need-best-requires
-best-requires c κs = search needs
+unfolding window
+returns c =
+    let s = c .before .before in
+    rw (c .before .if1 .taken) (c .given .ensures ∙ (λ i. given (s .args .view-width) (s .args .view-height) (toZ-ofZ w64 (s .args .view-x) (s .fits .view-x) i) (toZ-ofZ w64 (s .args .view-y) (s .fits .view-y) i)))
 
 returns-2 : tie.Need-returns-2
-returns-2 c = ?
-
-given-requires-2 : tie.Need-given-requires-2
-given-requires-2 c κs = search needs
+unfolding window
+returns-2 c = rw (c .before .before .if1 .left, c .before .if2 .taken) (c .best .ensures)
 
 returns-3 : tie.Need-returns-3
-returns-3 c = ?
+unfolding window
+returns-3 c = rw (c .before .before .if1 .left, c .before .if2 .left) (c .given2 .ensures)
 
 pub window-spec : {M : Type 1} → statement M
-window-spec =
-    tie.close (tie.spec given-requires returns best-requires returns-2 given-requires-2 returns-3)
+window-spec = tie.close (tie.spec (λ c κs. search needs) returns (λ c κs. search needs) returns-2 (λ c κs. search needs) returns-3)

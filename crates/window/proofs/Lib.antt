@@ -2,3 +2,5 @@
 pub mod CeilLaws
 pub mod SpanLaws
 pub mod EdgeLaws
+pub mod WindowLaws
+pub mod Examples

@@ -16,7 +16,7 @@ use Rattle.window.proofs.window.best.Tie as tie
 
 -- what was found, for the sides as floats, is what the definition judges
 module _ (kind : ℕ) (coef : Vector) (width height : ℕ) (w h : Float) (f : Found)
-  (ew : w ≡ ofInt binary64 (pos width)) (eh : h ≡ ofInt binary64 (pos height)) (ef : f ≡ bestfit kind coef w h) where
+    (ew : w ≡ ofInt binary64 (pos width)) (eh : h ≡ ofInt binary64 (pos height)) (ef : f ≡ bestfit kind coef w h) where
   of-found : judged f width height ≡ best kind coef width height
   of-found = ap (λ (x : Found). judged x width height) (ef ∙ (λ i. bestfit kind coef (ew i) (eh i)))
 

@@ -2,5 +2,6 @@
 pub mod CeilLaws
 pub mod SpanLaws
 pub mod EdgeLaws
+pub mod HalfLaws
 pub mod WindowLaws
 pub mod Examples

@@ -44,7 +44,7 @@ held-side z n = go (leb (natAbs z) 1048576) (ltb 0 n) (leb n 4096) (leb→le (na
 
 fitted-side : (low high : Float) → Sides (fitted low high)
 unfolding fitted reach
-fitted-side low high = go (finite (low ⊖ half) && finite (high ⊕ half))
+fitted-side low high = go (finite low && finite high)
   where
     go : (b : Bool) → Sides (cond b (held (floorℤ (low ⊖ half)) (atLeastOne (ceilℤ (high ⊕ half) -ℤ floorℤ (low ⊖ half)))) Out)
     go true = held-side (floorℤ (low ⊖ half)) (atLeastOne (ceilℤ (high ⊕ half) -ℤ floorℤ (low ⊖ half)))

@@ -37,8 +37,7 @@ unfoldable pub reach : ℤ → ℤ → Span
 unfolding held atLeastOne
 reach from to = held from (atLeastOne (to -ℤ from))
 
--- from floor(low - 0.5) to ceil(high + 0.5), where both are numbers. They are where low and high are: half a pixel takes no number
--- to an infinity.
+-- from floor(low - 0.5) to ceil(high + 0.5), where both edges are numbers
 unfoldable pub fitted : Float → Float → Span
 unfolding reach
-fitted low high = cond (finite (low ⊖ half) && finite (high ⊕ half)) (reach (floorℤ (low ⊖ half)) (ceilℤ (high ⊕ half))) Out
+fitted low high = cond (finite low && finite high) (reach (floorℤ (low ⊖ half)) (ceilℤ (high ⊕ half))) Out

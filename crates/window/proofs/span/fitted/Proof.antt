@@ -6,7 +6,8 @@ use borrow.Author.Tests.{not-true, not-false}
 use mathlib.Core.Bool.{Bool, true, false, not, _&&_, cond}
 use lib.IntN.{ℤ, pos}
 use lib.Signed.{_≤ℤ_}
-use lib.Ieee.{Float, le}
+use lib.Dec.{T}
+use lib.Ieee.{Float, binary64, le, fits}
 use lib.Ieee.Scale.{finite}
 use mir.Syntax.{w64}
 use mir.Val.{SFits, ofZ, toZ}
@@ -17,6 +18,7 @@ use Rattle.window.specs.declared.span.Span.{Span}
 use Rattle.window.specs.declared.span.Span.the-variants.{Out}
 use Rattle.window.specs.Ceil.{ceilℤ, ceilI64}
 use Rattle.window.specs.Span.{half, reach, fitted}
+use Rattle.window.proofs.HalfLaws.{less-half, more-half}
 use Rattle.window.proofs.EdgeLaws.{edge, low-edge, high-refused, high-edge, floor-fits, ceil-fits, ceil-most}
 use Rattle.window.proofs.span.fitted.Statement.{statement}
 use Rattle.window.proofs.span.fitted.Tie as tie
@@ -30,18 +32,22 @@ either : (a : Bool) → cond a Out Out ≡ Out
 either true = refl
 either false = refl
 
-module _ (low high : Float) where
+module _ (low high : Float) (l : T (fits binary64 low)) (g : T (fits binary64 high)) where
   abbrev bottom : Float
   bottom = low ⊖ half
 
   abbrev top : Float
   top = high ⊕ half
 
+  -- half a pixel changes no test
+  tested : (s : Span) → cond (finite bottom) (cond (finite top) s Out) Out ≡ cond (finite low && finite high) s Out
+  tested s = both (finite bottom) (finite top) s ∙ (λ i. cond (less-half low l i && more-half high g i) s Out)
+
   refused : (finite top && le top edge) ≡ false → Out ≡ fitted low high
   unfolding fitted
   refused h =
       sym (either (finite bottom)) ∙ sym (ap (λ (s : Span). cond (finite bottom) s Out) (high-refused top (floorℤ bottom) h))
-      ∙ both (finite bottom) (finite top) (reach (floorℤ bottom) (ceilℤ top))
+      ∙ tested (reach (floorℤ bottom) (ceilℤ top))
 
   -- what the code hands to `reach`, read back
   module _ (from to : ℤ) (f : from ≡ floorI64 bottom) (t : to ≡ ceilI64 top) where
@@ -60,24 +66,30 @@ module _ (low high : Float) where
         e ∙ (λ i. reach (read-from i) (read-to i))
         ∙ low-edge bottom (ceilI64 top)
         ∙ ap (λ (s : Span). cond (finite bottom) s Out) (high-edge top (floorℤ bottom) h)
-        ∙ both (finite bottom) (finite top) (reach (floorℤ bottom) (ceilℤ top))
+        ∙ tested (reach (floorℤ bottom) (ceilℤ top))
+
+fits-low : (s : tie.Start) → T (fits binary64 (s .args .low))
+fits-low s = subst T (sym (s .good .0 .1)) tt
+
+fits-high : (s : tie.Start) → T (fits binary64 (s .args .high))
+fits-high s = subst T (sym (s .good .1 .0 .1)) tt
 
 returns : tie.Need-returns
 returns c =
     let s = c .before .before in
-    refused (s .args .low) (s .args .high) (sym (c .before .counts .ensures) ∙ not-true (c .before .counts .result) (c .if1 .taken))
+    refused (s .args .low) (s .args .high) (fits-low s) (fits-high s) (sym (c .before .counts .ensures) ∙ not-true (c .before .counts .result) (c .if1 .taken))
 
 reach-requires : tie.Need-reach-requires
 reach-requires c κs =
     let s = c .before .before .before .before in
-    most (s .args .low) (s .args .high) (c .before .floor-i64 .result) (c .ceil-i64 .result) (c .before .floor-i64 .ensures) (c .ceil-i64 .ensures)
+    most (s .args .low) (s .args .high) (fits-low s) (fits-high s) (c .before .floor-i64 .result) (c .ceil-i64 .result) (c .before .floor-i64 .ensures) (c .ceil-i64 .ensures)
 
 returns-2 : tie.Need-returns-2
 returns-2 c =
     let k = c .before in
     let t = k .before .before .before in
     let s = t .before in
-    answer (s .args .low) (s .args .high) (k .before .floor-i64 .result) (k .ceil-i64 .result) (k .before .floor-i64 .ensures) (k .ceil-i64 .ensures)
+    answer (s .args .low) (s .args .high) (fits-low s) (fits-high s) (k .before .floor-i64 .result) (k .ceil-i64 .result) (k .before .floor-i64 .ensures) (k .ceil-i64 .ensures)
     (c .reach .result) (c .reach .ensures) (sym (t .counts .ensures) ∙ not-false (t .counts .result) (k .before .before .if1 .left))
 
 pub fitted-spec : {M : Type 1} → statement M

@@ -1,21 +1,10 @@
-use mathlib.Core.Path.{_≡_, refl, sym, ap, _∙_}
-use Prim.Native.Nat.{ℕ, _+_, _-_, _≤_, _<_}
-use native.Mathlib.Omega.{arith}
+-- `window::corners::affine_corner` meets its contract: one row for each coordinate. Assumes nothing.
 use borrow.Author.Needs.{needs}
 use Rattle.window.proofs.corners.affine_corner.Statement.{statement}
 use Rattle.window.proofs.corners.affine_corner.Tie as tie
-use Rattle.window.proofs.corners.affine_corner.Reads as reads
-use Rattle.window.proofs.corners.affine_corner.Lts as lts
-use Rattle.window.proofs.corners.form.Reads as form-reads
-
-form-requires : tie.Need-form-requires
-form-requires c κs = search needs
-
-form-requires-2 : tie.Need-form-requires-2
-form-requires-2 c κs = search needs
 
 returns : tie.Need-returns
 returns c = cc
 
 pub affine-corner-spec : {M : Type 1} → statement M
-affine-corner-spec = tie.close (tie.spec form-requires form-requires-2 returns)
+affine-corner-spec = tie.close (tie.spec (λ c κs. search needs) (λ c κs. search needs) returns)

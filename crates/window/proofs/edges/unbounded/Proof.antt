@@ -1,13 +1,9 @@
-use mathlib.Core.Path.{_≡_, refl, sym, ap, _∙_}
-use Prim.Native.Nat.{ℕ, _+_, _-_, _≤_, _<_}
-use native.Mathlib.Omega.{arith}
+-- `window::edges::unbounded` meets its contract: 1 / 0 is infinity. Assumes nothing.
+use mathlib.Core.Path.{refl}
 use lib.Ieee.{div, ofBits, neg}
 use Rattle.window.specs.Edges.{unbounded}
-use borrow.Author.Needs.{needs}
 use Rattle.window.proofs.edges.unbounded.Statement.{statement}
 use Rattle.window.proofs.edges.unbounded.Tie as tie
-use Rattle.window.proofs.edges.unbounded.Reads as reads
-use Rattle.window.proofs.edges.unbounded.Lts as lts
 
 returns : tie.Need-returns
 unfolding unbounded div ofBits neg

@@ -1,0 +1,7 @@
+-- The laws of the window's definitions, each file under its subject.
+pub mod CeilLaws
+pub mod SpanLaws
+pub mod EdgeLaws
+pub mod HalfLaws
+pub mod WindowLaws
+pub mod Examples

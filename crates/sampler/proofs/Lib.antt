@@ -1,0 +1,1 @@
+-- The laws of the sampler, a file for each subject.

@@ -1,0 +1,22 @@
+-- The pixel at an integer index, virtual outside: the Rust's `Sampler::at`. Assumes nothing.
+use Prim.Native.Nat.{ℕ}
+use mathlib.Core.List.{List}
+use lib.IntN.{ℤ}
+use Rattle.sampler.specs.Colour.{zero, half, one, grey}
+use Rattle.sampler.specs.Named.{named}
+use Rattle.sampler.specs.Pixel.{pixelAt}
+use Rattle.sampler.specs.declared.colour.Rgba.{Rgba}
+use Rattle.sampler.specs.declared.named.Tap.{Tap}
+use Rattle.sampler.specs.declared.named.Tap.the-variants.{Pixel, Background, Black, White, Gray, Transparent}
+
+-- what was named, as a colour
+unfoldable pub samples : List ℕ → ℕ → ℕ → Rgba → Tap → Rgba
+samples bytes width channels background (Pixel x y) = pixelAt bytes width channels x y
+samples bytes width channels background Background = background
+samples bytes width channels background Black = grey zero one
+samples bytes width channels background White = grey one one
+samples bytes width channels background Gray = grey half one
+samples bytes width channels background Transparent = grey zero zero
+
+unfoldable pub at : List ℕ → ℕ → ℕ → ℕ → ℕ → Rgba → ℤ → ℤ → Rgba
+at bytes width height channels policy background x y = samples bytes width channels background (named policy width height x y)

@@ -1,0 +1,8 @@
+-- The definitions of the sampler, a file for each module of src/.
+pub mod At
+pub mod Colour
+pub mod Index
+pub mod Named
+pub mod Pixel
+pub mod Random
+pub mod Store

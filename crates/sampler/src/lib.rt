@@ -1,0 +1,9 @@
+// The sampler: from an index or a source point to a colour. Pictures are lent bytes, little-endian f32 samples row by
+// row, and nothing is converted up front.
+pub mod at;
+pub mod colour;
+pub mod index;
+pub mod named;
+pub mod pixel;
+pub mod random;
+pub mod store;

@@ -1,7 +1,14 @@
 -- The laws of the sampler, a file for each subject.
+pub mod CubicBounds
 pub mod CubicError
 pub mod CubicExact
+pub mod CubicExamples
 pub mod CubicKernel
+pub mod CubicMove
+pub mod CubicOrder
 pub mod CubicPieces
+pub mod CubicShape
+pub mod Sizes
 pub mod WeightedFinite
 pub mod WeightedOpaque
+pub mod WeightedWeights

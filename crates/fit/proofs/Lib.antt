@@ -3,3 +3,7 @@ pub mod EliminateLaws
 pub mod NormalLaws
 pub mod ShapeLaws
 pub mod SolveLaws
+pub mod LoopLaws
+pub mod PaddedLaws
+pub mod MonomialsLaws
+pub mod MappingLaws

@@ -8,3 +8,5 @@ pub mod Forward
 pub mod Barrel
 pub mod Shepards
 pub mod Inverse
+pub mod ExactPoint
+pub mod Conditions

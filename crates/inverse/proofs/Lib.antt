@@ -5,3 +5,5 @@ pub mod PolynomialLaws
 pub mod UsableLaws
 pub mod MonomialsNear
 pub mod PointNear
+pub mod BarrelExample
+pub mod ConditionsExamples

@@ -1,5 +1,5 @@
--- Between neighbours: a number of at most p digits with zeros after them, from 2 ^ (p - 1) * 2 ^ g on, is a multiple of 2 ^ g. So, in units, a format of p
--- digits has no value between q * 2 ^ g and the next multiple of 2 ^ g on either side, for a q of p digits that is not the least of them, or, above, for any.
+-- Between neighbours: a number of at most p digits with zeros after them, from 2 ^ (p - 1) * 2 ^ g on, is a multiple of 2 ^ g. So, in units, a format
+-- of p digits has no value strictly between q * 2 ^ g and the next multiple of 2 ^ g, for a q of p digits; below it, for a q above 2 ^ (p - 1).
 -- Provides: `next-below`, `next-above`. Assumes nothing.
 use mathlib.Core.Path.{_≡_, sym, ap, _∙_, subst}
 use mathlib.Core.Logic.{inl, inr}

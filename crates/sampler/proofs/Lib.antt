@@ -1,4 +1,5 @@
 -- The laws of the sampler, a file for each subject.
+pub mod AtLaws
 pub mod CubicBounds
 pub mod CubicError
 pub mod CubicExact
@@ -8,7 +9,14 @@ pub mod CubicMove
 pub mod CubicOrder
 pub mod CubicPieces
 pub mod CubicShape
+pub mod IndexCode
+pub mod IndexLaws
+pub mod NamedCode
+pub mod NamedExamples
+pub mod NamedLaws
+pub mod PixelCode
 pub mod Sizes
+pub mod StoreLaws
 pub mod WeightedFinite
 pub mod WeightedOpaque
 pub mod WeightedWeights

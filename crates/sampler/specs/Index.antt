@@ -1,14 +1,13 @@
 -- An index along one side of a picture, of n pixels numbered from 0: where it falls by each rule of the Rust. An index
 -- below 0 is `negsuc a`, which is -1 - a: a steps back from -1. Assumes nothing.
-use Prim.Native.Nat.{ℕ, _+_, _-_, _*_, _/_, _%_}
-use mathlib.Core.Bool.{Bool, true, false, cond}
+use Prim.Native.Nat.{ℕ, _+_, _-_, _*_, _/_, _%_, _^_}
+use mathlib.Core.Bool.{Bool, false, cond}
 use lib.Dec.{ltb}
 use lib.IntN.{ℤ, pos, negsuc}
 
--- v < 0
-unfoldable pub negative : ℤ → Bool
-negative (pos a) = false
-negative (negsuc a) = true
+-- the index that 64 bits stand for in two's complement
+unfoldable pub signed : ℕ → ℤ
+signed b = cond (ltb b (2 ^ 63)) (pos b) (negsuc (2 ^ 64 - 1 - b))
 
 -- 0 <= v && v < n
 unfoldable pub within : ℤ → ℕ → Bool

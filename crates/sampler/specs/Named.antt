@@ -1,7 +1,7 @@
 -- Which pixel of the picture, or which colour, a policy names at an index: the Rust's `Sampler::at` without the samples.
 -- An index inside names its own pixel under every policy. Assumes nothing.
-use Prim.Native.Nat.{ℕ, _+_, _/_, _%_, _^_}
-use mathlib.Core.Bool.{Bool, true, false, cond, _&&_}
+use Prim.Native.Nat.{ℕ, _+_, _/_, _%_, _^_, _<_}
+use mathlib.Core.Bool.{cond, _&&_}
 use mathlib.Core.List.{List, [], _∷_}
 use lib.Dec.{eqb}
 use lib.ListN.{getD}
@@ -30,7 +30,7 @@ policy code = getD policies code Random
 unfoldable pub picked : ℕ → ℕ → ℕ → Tap
 picked w h z = Tap.Pixel (z % w) (z / 2 ^ 32 % h)
 
-unfoldable pub outside : Policy → ℕ → ℕ → ℤ → ℤ → Tap
+abbrev pub outside : Policy → ℕ → ℕ → ℤ → ℤ → Tap
 outside Edge w h x y = Tap.Pixel (clamped x w) (clamped y h)
 outside Background w h x y = Tap.Background
 outside Black w h x y = Tap.Black
@@ -48,3 +48,12 @@ outside Random w h x y = picked w h (mix (twosComplement x) (twosComplement y))
 
 unfoldable pub named : ℕ → ℕ → ℕ → ℤ → ℤ → Tap
 named code w h x y = cond (within x w && within y h) (Tap.Pixel (mag x) (mag y)) (outside (policy code) w h x y)
+
+-- a pixel that was named lies inside the picture
+abbrev pub Lies : ℕ → ℕ → Tap → Type 0
+Lies w h (Tap.Pixel x y) = (x < w) × (y < h)
+Lies w h Tap.Background = Unit
+Lies w h Tap.Black = Unit
+Lies w h Tap.White = Unit
+Lies w h Tap.Gray = Unit
+Lies w h Tap.Transparent = Unit

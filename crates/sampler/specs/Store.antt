@@ -12,14 +12,16 @@ use Rattle.sampler.specs.declared.colour.Rgba.{Rgba}
 abbrev pub putSample : List ℕ → ℕ → Float → List ℕ
 putSample bytes k v = putF32 bytes (4 * k) v
 
+-- a colour without its alpha, from the sample numbered k on
+abbrev pub putRgb : List ℕ → ℕ → Rgba → List ℕ
+putRgb bytes k c = putSample (putSample (putSample bytes k (c .r)) (k + 1) (c .g)) (k + 2) (c .b)
+
 -- from the sample numbered k on: four channels as they are, three without alpha, one as luma
 unfoldable pub narrowed : List ℕ → ℕ → ℕ → Rgba → List ℕ
 narrowed bytes channels k c =
     cond (eqb channels 4)
-    (putSample (putSample (putSample (putSample bytes k (c .r)) (k + 1) (c .g)) (k + 2) (c .b)) (k + 3) (c .a))
-    (cond (eqb channels 3)
-    (putSample (putSample (putSample bytes k (c .r)) (k + 1) (c .g)) (k + 2) (c .b))
-    (putSample bytes k (luma c)))
+    (putSample (putRgb bytes k c) (k + 3) (c .a))
+    (cond (eqb channels 3) (putRgb bytes k c) (putSample bytes k (luma c)))
 
 -- the bytes with the colour as their pixel numbered p, row by row
 unfoldable pub putPixel : List ℕ → ℕ → ℕ → Rgba → List ℕ

@@ -1,16 +1,15 @@
-// Which pixel of the picture, or which colour, a policy names at an index, for every i64: a function for each rule. A
-// picture has 1 to 4,096 columns and rows.
+// Which pixel of the picture, or which colour, a policy names at an index, for every i64: a function for each rule. The
+// rules take an index as its 64 bits. A picture has 1 to 4,096 columns and rows.
 ghost use mathlib.Core.Path.{_≡_};
-ghost use Prim.Native.Nat.{_≤_, _<_};
+ghost use Prim.Native.Nat.{_<_};
+ghost use Rattle.sampler.specs.Index.{signed};
 ghost use Rattle.sampler.specs.Named as Named;
 ghost use Rattle.sampler.specs.Named.{Policy, outside};
 ghost use Rattle.sampler.specs.Pixel.{Sizes};
 use crate::index::clamped;
 use crate::index::mirror;
 use crate::index::parity;
-use crate::index::steps;
 use crate::index::tile;
-use crate::index::within;
 use crate::random::mix;
 use number::pattern::bits_of_i64;
 
@@ -24,64 +23,64 @@ pub enum Tap {
     Transparent,
 }
 
-fn edge(w: u64, h: u64, x: i64, y: i64) -> Tap
+fn edge(w: u64, h: u64, x: u64, y: u64) -> Tap
     requires { ⌜ Sizes w h ⌝ }
-    ensures { λ r. ⌜ r ≡ outside Policy.Edge w h x y ⌝ }
+    ensures { λ r. ⌜ r ≡ outside Policy.Edge w h (signed x) (signed y) ⌝ }
 {
     Tap::Pixel(clamped(x, w), clamped(y, h))
 }
 
-fn tiled(w: u64, h: u64, x: i64, y: i64) -> Tap
+fn tiled(w: u64, h: u64, x: u64, y: u64) -> Tap
     requires { ⌜ Sizes w h ⌝ }
-    ensures { λ r. ⌜ r ≡ outside Policy.Tile w h x y ⌝ }
+    ensures { λ r. ⌜ r ≡ outside Policy.Tile w h (signed x) (signed y) ⌝ }
 {
     Tap::Pixel(tile(x, w), tile(y, h))
 }
 
-fn mirrored(w: u64, h: u64, x: i64, y: i64) -> Tap
+fn mirrored(w: u64, h: u64, x: u64, y: u64) -> Tap
     requires { ⌜ Sizes w h ⌝ }
-    ensures { λ r. ⌜ r ≡ outside Policy.Mirror w h x y ⌝ }
+    ensures { λ r. ⌜ r ≡ outside Policy.Mirror w h (signed x) (signed y) ⌝ }
 {
     Tap::Pixel(mirror(x, w), mirror(y, h))
 }
 
-fn horizontal_tile(w: u64, h: u64, x: i64, y: i64) -> Tap
+fn horizontal_tile(w: u64, h: u64, x: u64, y: u64) -> Tap
     requires { ⌜ Sizes w h ⌝ }
-    ensures { λ r. ⌜ r ≡ outside Policy.HorizontalTile w h x y ⌝ }
+    ensures { λ r. ⌜ r ≡ outside Policy.HorizontalTile w h (signed x) (signed y) ⌝ }
 {
-    if within(y, h) {
-        return Tap::Pixel(tile(x, w), steps(y));
+    if y < h {
+        return Tap::Pixel(tile(x, w), y);
     }
     Tap::Background
 }
 
-fn vertical_tile(w: u64, h: u64, x: i64, y: i64) -> Tap
+fn vertical_tile(w: u64, h: u64, x: u64, y: u64) -> Tap
     requires { ⌜ Sizes w h ⌝ }
-    ensures { λ r. ⌜ r ≡ outside Policy.VerticalTile w h x y ⌝ }
+    ensures { λ r. ⌜ r ≡ outside Policy.VerticalTile w h (signed x) (signed y) ⌝ }
 {
-    if within(x, w) {
-        return Tap::Pixel(steps(x), tile(y, h));
+    if x < w {
+        return Tap::Pixel(x, tile(y, h));
     }
     Tap::Background
 }
 
-fn horizontal_tile_edge(w: u64, h: u64, x: i64, y: i64) -> Tap
+fn horizontal_tile_edge(w: u64, h: u64, x: u64, y: u64) -> Tap
     requires { ⌜ Sizes w h ⌝ }
-    ensures { λ r. ⌜ r ≡ outside Policy.HorizontalTileEdge w h x y ⌝ }
+    ensures { λ r. ⌜ r ≡ outside Policy.HorizontalTileEdge w h (signed x) (signed y) ⌝ }
 {
     Tap::Pixel(tile(x, w), clamped(y, h))
 }
 
-fn vertical_tile_edge(w: u64, h: u64, x: i64, y: i64) -> Tap
+fn vertical_tile_edge(w: u64, h: u64, x: u64, y: u64) -> Tap
     requires { ⌜ Sizes w h ⌝ }
-    ensures { λ r. ⌜ r ≡ outside Policy.VerticalTileEdge w h x y ⌝ }
+    ensures { λ r. ⌜ r ≡ outside Policy.VerticalTileEdge w h (signed x) (signed y) ⌝ }
 {
     Tap::Pixel(clamped(x, w), tile(y, h))
 }
 
-fn checker_tile(w: u64, h: u64, x: i64, y: i64) -> Tap
+fn checker_tile(w: u64, h: u64, x: u64, y: u64) -> Tap
     requires { ⌜ Sizes w h ⌝ }
-    ensures { λ r. ⌜ r ≡ outside Policy.CheckerTile w h x y ⌝ }
+    ensures { λ r. ⌜ r ≡ outside Policy.CheckerTile w h (signed x) (signed y) ⌝ }
 {
     if parity(x, w) == parity(y, h) {
         return Tap::Pixel(tile(x, w), tile(y, h));
@@ -89,18 +88,18 @@ fn checker_tile(w: u64, h: u64, x: i64, y: i64) -> Tap
     Tap::Background
 }
 
-fn random(w: u64, h: u64, x: i64, y: i64) -> Tap
+fn random(w: u64, h: u64, x: u64, y: u64) -> Tap
     requires { ⌜ Sizes w h ⌝ }
-    ensures { λ r. ⌜ r ≡ outside Policy.Random w h x y ⌝ }
+    ensures { λ r. ⌜ r ≡ outside Policy.Random w h (signed x) (signed y) ⌝ }
 {
-    let z = mix(bits_of_i64(x), bits_of_i64(y));
+    let z = mix(x, y);
     Tap::Pixel(z % w, z / 4294967296 % h)
 }
 
 // The codes count from 0 in the order of the Rust's `VirtualPixel`.
-fn named_outside(policy: u64, w: u64, h: u64, x: i64, y: i64) -> Tap
+fn named_outside(policy: u64, w: u64, h: u64, x: u64, y: u64) -> Tap
     requires { ⌜ Sizes w h ⌝ }
-    ensures { λ r. ⌜ r ≡ outside (Named.policy policy) w h x y ⌝ }
+    ensures { λ r. ⌜ r ≡ outside (Named.policy policy) w h (signed x) (signed y) ⌝ }
 {
     match policy {
         0 => edge(w, h, x, y),
@@ -120,13 +119,15 @@ fn named_outside(policy: u64, w: u64, h: u64, x: i64, y: i64) -> Tap
     }
 }
 
-// The inside test comes before any rule.
+// The inside test comes before any rule. The bits of an index below 0 are a number above every size.
 pub fn named(policy: u64, w: u64, h: u64, x: i64, y: i64) -> Tap
     requires { ⌜ Sizes w h ⌝ }
     ensures { λ r. ⌜ r ≡ Named.named policy w h x y ⌝ }
 {
-    if within(x, w) && within(y, h) {
-        return Tap::Pixel(steps(x), steps(y));
+    let i = bits_of_i64(x);
+    let j = bits_of_i64(y);
+    if i < w && j < h {
+        return Tap::Pixel(i, j);
     }
-    named_outside(policy, w, h, x, y)
+    named_outside(policy, w, h, i, j)
 }

@@ -3,31 +3,44 @@ ghost use mathlib.Core.Path.{_≡_};
 ghost use Prim.Native.Nat.{_+_, _*_, _≤_, _<_};
 ghost use lib.ListN.{length};
 ghost use Rattle.sampler.specs.Store as Store;
-ghost use Rattle.sampler.specs.Store.{putPixel};
+ghost use Rattle.sampler.specs.Store.{putSample, putRgb, putPixel};
 use crate::colour::Rgba;
 use crate::colour::luma;
 use number::bytes::put_f32;
 
-// From the sample numbered k on.
+// The sample numbered k.
+fn put_sample(band: &mut [u8], k: u64, v: f32)
+    requires { ⌜ (k + 1) * 4 ≤ length (now band) ⌝ }
+    ensures { λ _. ⌜ now (band .exit) ≡ putSample (now (band .entry)) k v ⌝ }
+{
+    put_f32(band, 4 * k as usize, v);
+}
+
+// The colour without its alpha, from the sample numbered k on.
+fn put_rgb(band: &mut [u8], k: u64, c: Rgba)
+    requires { ⌜ (k + 3) * 4 ≤ length (now band) ⌝ }
+    ensures { λ _. ⌜ now (band .exit) ≡ putRgb (now (band .entry)) k c ⌝ }
+{
+    put_sample(band, k, c.r);
+    put_sample(band, k + 1, c.g);
+    put_sample(band, k + 2, c.b);
+}
+
+// From the sample numbered k on, as many samples as there are channels.
 fn narrowed(band: &mut [u8], channels: u64, k: u64, c: Rgba)
     requires { ⌜ (0 < channels) × ((k + channels) * 4 ≤ length (now band)) ⌝ }
     ensures { λ _. ⌜ now (band .exit) ≡ Store.narrowed (now (band .entry)) channels k c ⌝ }
 {
-    let at = 4 * k as usize;
     if channels == 4 {
-        put_f32(band, at, c.r);
-        put_f32(band, at + 4, c.g);
-        put_f32(band, at + 8, c.b);
-        put_f32(band, at + 12, c.a);
+        put_rgb(band, k, c);
+        put_sample(band, k + 3, c.a);
         return;
     }
     if channels == 3 {
-        put_f32(band, at, c.r);
-        put_f32(band, at + 4, c.g);
-        put_f32(band, at + 8, c.b);
+        put_rgb(band, k, c);
         return;
     }
-    put_f32(band, at, luma(c));
+    put_sample(band, k, luma(c));
 }
 
 // The pixel numbered p.

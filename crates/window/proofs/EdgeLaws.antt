@@ -6,27 +6,20 @@ use native.Mathlib.Nat.{le-div-iff-mul-le}
 use native.Mathlib.Omega.{arith}
 use mathlib.Core.Bool.{Bool, true, false, not, _&&_, cond, true≢false}
 use lib.IntN.{ℤ, pos, negsuc, negℤ, natAbs}
-use lib.Signed.{leZ, _≤ℤ_}
 use lib.Dec.{T, leb, ltb, leb→le, le→leb, nleb→lt, ltb→lt, nltb→le, not-T, lit≤, lit<}
 use lib.Ieee.{Float, nan, inf, fin, binary64, up, down, lt, le, ofBits}
 use lib.Ieee.Fits.{down-pos}
 use lib.Ieee.Scale.{finite}
-use mir.Syntax.{w64}
-use mir.Val.{SFits}
 use Rattle.exact.proofs.Operands.{same-test}
 use Rattle.exact.proofs.Order.{le-flip}
 use Rattle.number.specs.Floor.{ceilDiv, floorℤ, inDomain, floorI64}
-use Rattle.number.proofs.FloorLaws.{floor-size, floor-integer, floor-integer-out}
+use Rattle.number.proofs.FloorLaws.{floor-integer, floor-integer-out}
 use Rattle.window.specs.declared.span.Span.{Span}
 use Rattle.window.specs.declared.span.Span.the-variants.{Of, Out}
 use Rattle.window.specs.Ceil.{ceilℤ, ceilI64}
 use Rattle.window.specs.Span.{goodOffset, reach}
-use Rattle.window.proofs.CeilLaws.{ceil-size, small-fits, ceil-in, ceil-out}
+use Rattle.window.proofs.CeilLaws.{by-test, ceil-in, ceil-out}
 use Rattle.window.proofs.SpanLaws.{offset-far, reach-off, reach-high, reach-low}
-
-by-test : {A : Type 0} (b : Bool) → (T b → A) → (T (not b) → A) → A
-by-test true f g = f tt
-by-test false f g = g tt
 
 -- ---- quotients of what is at least 2^31
 module _ (a c : ℕ) (P : 0 < c) (h : 2147483648 * c < a) where
@@ -111,26 +104,3 @@ high-edge (fin true m e) z h =
     by-test (inDomain (fin true m e))
     (λ d. ap (reach z) (ceil-in (fin true m e) d))
     (λ d. ap (reach z) (ceil-out (fin true m e) d) ∙ (unfold ceilℤ in reach-far z (m * up e / down e) (rounded-down (m * up e) (down e) (down-pos e) (outside true m e d))))
-
--- ---- what fits an i64
-pub floor-fits : (x : Float) → SFits w64 (floorI64 x)
-floor-fits x =
-    by-test (inDomain x)
-    (λ d. subst (SFits w64) (sym (floor-integer x d)) (record { sfits = small-fits (floorℤ x) (floor-size x d) }))
-    (λ d. subst (SFits w64) (sym (floor-integer-out x d)) (record { sfits = lit< tt }))
-
-pub ceil-fits : (x : Float) → SFits w64 (ceilI64 x)
-ceil-fits x =
-    by-test (inDomain x)
-    (λ d. subst (SFits w64) (sym (ceil-in x d)) (record { sfits = small-fits (ceilℤ x) (ceil-size x d) }))
-    (λ d. subst (SFits w64) (sym (ceil-out x d)) (record { sfits = lit< tt }))
-
-pub ceil-most : (x : Float) → ceilI64 x ≤ℤ pos 2147483648
-ceil-most x =
-    by-test (inDomain x)
-    (λ d. subst (λ (z : ℤ). z ≤ℤ pos 2147483648) (sym (ceil-in x d)) (record { le = most (ceilℤ x) (ceil-size x d) }))
-    (λ d. subst (λ (z : ℤ). z ≤ℤ pos 2147483648) (sym (ceil-out x d)) (record { le = tt }))
-  where
-    most : (z : ℤ) → natAbs z ≤ 2147483648 → T (leZ z (pos 2147483648))
-    most (pos n) h = le→leb n 2147483648 h
-    most (negsuc n) h = tt

@@ -14,7 +14,7 @@ use mir.ValLaws.{toZ-ofZ}
 use Rattle.number.specs.Floor.{inDomain, floorℤ, floorI64}
 use Rattle.number.proofs.FloorLaws.{floor-size, floor-integer, floor-integer-out}
 use Rattle.window.specs.Ceil.{ceilℤ, ceilI64}
-use Rattle.window.proofs.CeilLaws.{ceil-floor, domain-neg, ceil-size, small-fits, ceil-in, ceil-out}
+use Rattle.window.proofs.CeilLaws.{by-test, ceil-floor, domain-neg, ceil-size, small-fits, ceil-in, ceil-out}
 use Rattle.window.proofs.ceil.ceil_i64.Statement.{statement}
 use Rattle.window.proofs.ceil.ceil_i64.Tie as tie
 
@@ -22,10 +22,6 @@ use Rattle.window.proofs.ceil.ceil_i64.Tie as tie
 no-least : (z : ℤ) → natAbs z ≤ 2147483648 → ofZ w64 z ≡ 9223372036854775808 → ⊥
 no-least (pos n) h e = omega arith
 no-least (negsuc n) h e = omega arith
-
-by-domain : {A : Type 0} (b : Bool) → (T b → A) → (T (not b) → A) → A
-by-domain true f g = f tt
-by-domain false f g = g tt
 
 module _ (x : Float) (F : ℤ) (e : F ≡ floorI64 (neg x)) where
   inside : T (inDomain x) → F ≡ floorℤ (neg x)
@@ -36,12 +32,12 @@ module _ (x : Float) (F : ℤ) (e : F ≡ floorI64 (neg x)) where
 
   least : ofZ w64 F ≡ 9223372036854775808 → negsuc 9223372036854775807 ≡ ceilI64 x
   least h =
-      by-domain (inDomain x)
+      by-test (inDomain x)
       (λ d. absurd (no-least (floorℤ (neg x)) (floor-size (neg x) (subst T (sym (domain-neg x)) d)) (ap (ofZ w64) (sym (inside d)) ∙ h)))
       (λ d. sym (ceil-out x d))
 
   in-domain : (ofZ w64 F ≡ 9223372036854775808 → ⊥) → T (inDomain x)
-  in-domain h = by-domain (inDomain x) (λ d. d) (λ d. absurd (h (ap (ofZ w64) (outside d))))
+  in-domain h = by-test (inDomain x) (λ d. d) (λ d. absurd (h (ap (ofZ w64) (outside d))))
 
   -- the negation is the ceiling
   module _ (h : ofZ w64 F ≡ 9223372036854775808 → ⊥) where

@@ -19,7 +19,8 @@ use Rattle.window.specs.declared.span.Span.the-variants.{Out}
 use Rattle.window.specs.Ceil.{ceilℤ, ceilI64}
 use Rattle.window.specs.Span.{half, reach, fitted}
 use Rattle.window.proofs.HalfLaws.{less-half, more-half}
-use Rattle.window.proofs.EdgeLaws.{edge, low-edge, high-refused, high-edge, floor-fits, ceil-fits, ceil-most}
+use Rattle.window.proofs.CeilLaws.{floor-fits, ceil-fits, ceil-most}
+use Rattle.window.proofs.EdgeLaws.{edge, low-edge, high-refused, high-edge}
 use Rattle.window.proofs.span.fitted.Statement.{statement}
 use Rattle.window.proofs.span.fitted.Tie as tie
 

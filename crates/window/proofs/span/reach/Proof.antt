@@ -15,7 +15,8 @@ use mir.ValLaws.{toZ-ofZ}
 use Rattle.window.specs.declared.span.Span.{Span}
 use Rattle.window.specs.declared.span.Span.the-variants.{Out}
 use Rattle.window.specs.Span.{goodOffset, held, atLeastOne, reach}
-use Rattle.window.proofs.SpanLaws.{plus, Count, one-positive, diff-low, diff-high, offset-le, reach-off}
+use Rattle.window.proofs.DifferenceLaws.{plus, Count, one-positive, diff-low, diff-high}
+use Rattle.window.proofs.SpanLaws.{offset-le, reach-off}
 use Rattle.window.proofs.span.reach.Statement.{statement}
 use Rattle.window.proofs.span.reach.Tie as tie
 

@@ -23,7 +23,7 @@ use Rattle.exact.proofs.Ranges.{abs-grow}
 use Rattle.exact.proofs.Operations.{add-rounds, sub-rounds}
 use Rattle.exact.proofs.Monotone.{rounds-finite}
 use Rattle.exact.proofs.PatternOrder.{pattern-order}
-use Rattle.exact.proofs.PatternDigits.{finite-bits}
+use Rattle.exact.proofs.FloatPatterns.{finite-bits}
 use Rattle.number.proofs.MagnitudeLaws.{abs-fits}
 use Rattle.number.specs.Magnitude.{abs}
 use Rattle.window.specs.Span.{half}
@@ -38,7 +38,7 @@ most = ofBits binary64 0x7fef_ffff_ffff_ffff
 
 -- ---- |x| is at most it
 under-most : (m : ℕ) (e : ℤ) → T (fits binary64 (fin false m e)) → T (le (fin false m e) most)
-under-most m e t = by-bits (toBits binary64 (fin false m e)) (finite-bits m e t) (ofBits-toBits binary64 (fin false m e) t)
+under-most m e t = by-bits (toBits binary64 (fin false m e)) (finite-bits binary64 false m e t) (ofBits-toBits binary64 (fin false m e) t)
   where
     by-bits : (b : ℕ) → b < 9218868437227405312 → ofBits binary64 b ≡ fin false m e → T (le (fin false m e) most)
     by-bits b h i =

@@ -1,7 +1,7 @@
 -- An edge beyond 2^31 is beyond the limits: the floor there is at least 2^31 in size, and so is the ceiling. So the whole numbers
 -- that floor and ceil count give the same side as the floor and the ceiling of any float. Assumes nothing.
 use mathlib.Core.Path.{_≡_, refl, sym, ap, _∙_, subst}
-use Prim.Native.Nat.{ℕ, zero, suc, _+_, _-_, _*_, _/_, _≤_, _<_}
+use Prim.Native.Nat.{ℕ, zero, suc, _-_, _*_, _/_, _≤_, _<_}
 use native.Mathlib.Nat.{le-div-iff-mul-le}
 use native.Mathlib.Omega.{arith}
 use mathlib.Core.Bool.{Bool, true, false, not, _&&_, cond, true≢false}
@@ -14,8 +14,7 @@ use Rattle.exact.proofs.Operands.{same-test}
 use Rattle.exact.proofs.Order.{le-flip}
 use Rattle.number.specs.Floor.{ceilDiv, floorℤ, inDomain, floorI64}
 use Rattle.number.proofs.FloorLaws.{floor-integer, floor-integer-out}
-use Rattle.window.specs.declared.span.Span.{Span}
-use Rattle.window.specs.declared.span.Span.the-variants.{Of, Out}
+use Rattle.window.specs.declared.span.Span.the-variants.{Out}
 use Rattle.window.specs.Ceil.{ceilℤ, ceilI64}
 use Rattle.window.specs.Span.{goodOffset, reach}
 use Rattle.window.proofs.CeilLaws.{by-test, ceil-in, ceil-out}

@@ -2,9 +2,9 @@
 -- with a side of 0 it is refused. Assumes nothing.
 use mathlib.Core.Path.{_≡_, refl}
 use mathlib.Core.Bool.{true, false}
-use mathlib.Core.List.{[], _∷_}
+use mathlib.Core.List.{_∷_}
 use lib.IntN.{pos, negsuc}
-use lib.Ieee.{Float, binary64, ofBits, ofFields, ofInt, odd, lt, eq, add, sub, mul, div, neg, isNan, sum, round, units, size, span, climb}
+use lib.Ieee.{ofBits, ofFields, ofInt, odd, lt, eq, add, sub, mul, div, neg, isNan, sum, round, units, size, span, climb}
 use Rattle.number.specs.Floor.{floorℤ}
 use Rattle.number.specs.Magnitude.{abs, fmin, fmax}
 use Rattle.number.specs.Power.{one}

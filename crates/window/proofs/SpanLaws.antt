@@ -7,7 +7,6 @@ use mathlib.Core.Bool.{Bool, true, false, _&&_, cond}
 use lib.IntN.{ℤ, pos, negsuc, natAbs, _-ℤ_}
 use lib.Signed.{leZ}
 use lib.Dec.{T, leb, ltb, leb→le, leb·suc-suc}
-use Rattle.window.specs.declared.span.Span.{Span}
 use Rattle.window.specs.declared.span.Span.the-variants.{Of, Out}
 use Rattle.window.specs.Span.{goodOffset, goodLength, held, atLeastOne, reach}
 use Rattle.window.proofs.DifferenceLaws.{Count, one-positive, diff-low, diff-high}

@@ -1,6 +1,5 @@
 -- Where a window comes out, its sides are from 1 to 4,096 and its offsets at most 1,048,576 either way: each side is tested last,
 -- wherever it comes from. Assumes nothing.
-use mathlib.Core.Path.{_≡_, refl, sym, subst}
 use Prim.Native.Nat.{ℕ, _≤_, _<_}
 use mathlib.Core.Bool.{Bool, true, false, _&&_, cond}
 use lib.Dec.{T, leb, ltb, leb→le, ltb→lt}
@@ -12,7 +11,6 @@ use Rattle.number.specs.Floor.{floorℤ}
 use Rattle.fit.specs.Matrix.{Vector}
 use Rattle.window.specs.declared.bestfit.Found.{Found}
 use Rattle.window.specs.declared.bestfit.Found.the-variants.{Box, Nothing}
-use Rattle.window.specs.declared.edges.Edges.{Edges}
 use Rattle.window.specs.declared.span.Span.{Span}
 use Rattle.window.specs.declared.span.Span.the-variants.{Of, Out}
 use Rattle.window.specs.declared.window.Placed.{Placed}
@@ -20,7 +18,7 @@ use Rattle.window.specs.declared.window.Placed.the-variants.{Window, Ref
 use Rattle.window.specs.Bestfit.{bestfit}
 use Rattle.window.specs.Ceil.{ceilℤ}
 use Rattle.window.specs.Span.{half, goodOffset, goodLength, held, atLeastOne, reach, fitted}
-use Rattle.window.specs.Window.{joined, given, around, judged, window}
+use Rattle.window.specs.Window.{joined, given, judged, window}
 
 -- ---- a side
 pub record Side (from : ℤ) (length : ℕ) : Type 0 where

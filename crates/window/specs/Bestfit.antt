@@ -1,7 +1,7 @@
 -- `bestfit` up to the box: for an affine mapping and for a homography m, inverted. Nothing for the other kinds, where there is no
 -- inverse, and where a corner is at the horizon. Assumes nothing.
 use Prim.Native.Nat.{ℕ}
-use mathlib.Core.Bool.{Bool, cond}
+use mathlib.Core.Bool.{cond}
 use mathlib.Core.List.{[], _∷_}
 use lib.Dec.{eqb}
 use lib.Ieee.{Float}

@@ -1,12 +1,11 @@
 -- `window::bestfit::affine_box` meets its contract: each way out is the case of the definition that the test took. Assumes nothing.
-use mathlib.Core.Path.{_≡_, refl, sym, ap, _∙_}
+use mathlib.Core.Path.{_≡_, sym, ap, _∙_}
 use borrow.Author.Needs.{needs}
 use borrow.Author.Tests.{not-true, not-false}
 use mathlib.Core.Bool.{Bool, true, false, not, cond}
 use lib.Ieee.{Float}
 use Rattle.fit.specs.declared.invert.AffineInverse.{AffineInverse}
 use Rattle.window.specs.declared.edges.Edges.{Edges}
-use Rattle.window.specs.declared.bestfit.Found.{Found}
 use Rattle.window.specs.declared.bestfit.Found.the-variants.{Box, Nothing}
 use Rattle.window.specs.Corners.{affineEdges}
 use Rattle.window.specs.Bestfit.{affineFound}

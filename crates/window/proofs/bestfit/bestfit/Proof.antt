@@ -1,5 +1,4 @@
 -- `window::bestfit::bestfit` meets its contract: by the kind. Assumes nothing.
-use mathlib.Core.Path.{_≡_, _∙_}
 use borrow.Author.Needs.{needs}
 use borrow.Author.Tests.{eq-eqb, ne-eqb}
 use Rattle.window.specs.Bestfit.{bestfit}

@@ -1,5 +1,5 @@
 -- `window::span::good_offset` meets its contract: the two tests are one of the magnitude. Assumes nothing.
-use mathlib.Core.Path.{_≡_, ap, _∙_}
+use mathlib.Core.Path.{ap, _∙_}
 use mathlib.Core.Bool.{_&&_}
 use lib.IntN.{ℤ, pos, negsuc}
 use lib.Signed.{leZ}

@@ -8,7 +8,6 @@ use lib.Dec.{leb, ltb}
 use mir.Syntax.{w64}
 use mir.Val.{ofZ, toZ}
 use mir.ValLaws.{toZ-ofZ}
-use Rattle.window.specs.declared.span.Span.{Span}
 use Rattle.window.specs.declared.span.Span.the-variants.{Of, Out}
 use Rattle.window.specs.Span.{goodOffset, goodLength, held}
 use Rattle.window.proofs.span.held.Statement.{statement}

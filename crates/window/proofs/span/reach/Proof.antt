@@ -1,7 +1,7 @@
 -- `window::span::reach` meets its contract. Where the end is not above the start the count is 1; else it is their difference, which
 -- is positive and small enough to be cast. Assumes nothing.
-use mathlib.Core.Path.{_≡_, refl, sym, ap, _∙_, subst}
-use Prim.Native.Nat.{ℕ, suc, _+_, _^_, _≤_, _<_}
+use mathlib.Core.Path.{_≡_, sym, ap, _∙_, subst}
+use Prim.Native.Nat.{suc, _^_, _≤_, _<_}
 use native.Mathlib.Omega.{arith}
 use borrow.Author.Needs.{needs}
 use borrow.Author.Tests.{not-true, not-false}
@@ -12,8 +12,6 @@ use lib.Dec.{T, leb→le}
 use mir.Syntax.{w64}
 use mir.Val.{Fits, SFits, ofZ, toZ}
 use mir.ValLaws.{toZ-ofZ}
-use Rattle.window.specs.declared.span.Span.{Span}
-use Rattle.window.specs.declared.span.Span.the-variants.{Out}
 use Rattle.window.specs.Span.{goodOffset, held, atLeastOne, reach}
 use Rattle.window.proofs.DifferenceLaws.{plus, Count, one-positive, diff-low, diff-high}
 use Rattle.window.proofs.SpanLaws.{offset-le, reach-off}

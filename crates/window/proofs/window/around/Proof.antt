@@ -1,5 +1,5 @@
 -- `window::window::around` meets its contract: each side by its own edges. Assumes nothing.
-use mathlib.Core.Path.{_≡_, _∙_}
+use mathlib.Core.Path.{_∙_}
 use borrow.Author.Needs.{needs}
 use Rattle.window.specs.Window.{joined}
 use Rattle.window.proofs.window.around.Statement.{statement}

@@ -1,5 +1,5 @@
 -- `window::window::joined` meets its contract: by the two variants, whose offsets are read back from their bits. Assumes nothing.
-use mathlib.Core.Path.{_≡_, refl}
+use mathlib.Core.Path.{_≡_}
 use borrow.Author.Needs.{needs}
 use mir.Syntax.{w64}
 use mir.Val.{toZ, ofZ}

@@ -1,11 +1,9 @@
 -- `window::window::window` meets its contract: each way out is the case of the definition that the tests took. Assumes nothing.
-use mathlib.Core.Path.{_≡_, sym, ap, _∙_}
+use mathlib.Core.Path.{_∙_}
 use borrow.Author.Needs.{needs}
-use mathlib.Core.Bool.{Bool, true, false, cond}
-use lib.IntN.{ℤ, pos}
 use mir.Syntax.{w64}
 use mir.ValLaws.{toZ-ofZ}
-use Rattle.window.specs.Window.{given, best, window}
+use Rattle.window.specs.Window.{given, window}
 use Rattle.window.proofs.window.window.Statement.{statement}
 use Rattle.window.proofs.window.window.Tie as tie
 

@@ -1,0 +1,5 @@
+-- The definitions of the listing, a file for each module of src/.
+pub mod Names
+pub mod Print
+pub mod Reader
+pub mod Word

@@ -1,1 +1,3 @@
 -- The laws of the listing.
+pub mod Fed
+pub mod NamesLaws

@@ -1,3 +1,4 @@
 -- The laws of the listing.
 pub mod Fed
 pub mod NamesLaws
+pub mod PrintLaws

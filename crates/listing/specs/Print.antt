@@ -5,8 +5,8 @@ use Prim.Native.String.{String, [] as none, _∷_ as _then_}
 use mathlib.Core.Bool.{cond}
 use mathlib.Core.List.{List, [], _∷_, _++_}
 use lib.Dec.{ltb}
-use lib.ListN.{set}
-use lib.Ieee.{Float, binary64, toBits}
+use lib.ListN.{getD, set}
+use lib.Ieee.{Float, nan, binary64, toBits}
 
 -- s with a text from `at` on
 unfoldable pub put : List ℕ → ℕ → List ℕ → List ℕ
@@ -31,14 +31,14 @@ hexText (suc k) n = hexDigit (n / 2 ^ (4 * k) % 16) ∷ hexText k n
 abbrev pub lineText : ℕ → Float → List ℕ
 lineText name x = name ∷ (32 ∷ (hexText 16 (toBits binary64 x) ++ 10 ∷ []))
 
--- coefficients under names that follow one another
-unfoldable pub linesText : ℕ → List Float → List ℕ
-linesText name [] = []
-linesText name (x ∷ xs) = lineText name x ++ linesText (name + 1) xs
+-- n coefficients from the one numbered k on; a (97) is the name of the first
+unfoldable pub linesText : ℕ → ℕ → List Float → List ℕ
+linesText k zero coefficients = []
+linesText k (suc n) coefficients = lineText (97 + k) (getD coefficients k nan) ++ linesText (k + 1) n coefficients
 
--- from a (97) on
+-- the six of `Affine`: u is a x + b y + c, and v is d x + e y + f
 unfoldable pub listingText : List Float → List ℕ
-listingText coefficients = bytes "name bits\n" ++ linesText 97 coefficients
+listingText coefficients = bytes "name bits\n" ++ linesText 0 6 coefficients
 
 -- a refusal's number has one digit here
 unfoldable pub refusedText : ℕ → List ℕ

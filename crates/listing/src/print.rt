@@ -48,9 +48,10 @@ fn put_line(out: &mut [u8; 124], at: usize, name: u8, x: f64) -> usize
     at + 19
 }
 
-fn put_lines(out: &mut [u8; 124], at: usize, coefficients: &[f64; 6]) -> usize
+// The six coefficients of `Affine`.
+fn put_lines(out: &mut [u8; 124], at: usize, coefficients: &[f64; 256]) -> usize
     requires { ⌜ at + 114 ≤ 124 ⌝ }
-    ensures { λ r. ⌜ (r ≡ at + 114) × (now (out .exit) ≡ put (now (out .entry)) at (linesText 97 (now (coefficients .entry)))) ⌝ }
+    ensures { λ r. ⌜ (r ≡ at + 114) × (now (out .exit) ≡ put (now (out .entry)) at (linesText 0 6 (now (coefficients .entry)))) ⌝ }
 {
     for k in 0..6 {
         put_line(out, at + 19 * k, b'a' + k as u8, coefficients[k]);
@@ -58,7 +59,8 @@ fn put_lines(out: &mut [u8; 124], at: usize, coefficients: &[f64; 6]) -> usize
     at + 114
 }
 
-pub fn listing(out: &mut [u8; 124], coefficients: &[f64; 6]) -> usize
+// The whole listing, of the coefficients that a fit has first.
+pub fn listing(out: &mut [u8; 124], coefficients: &[f64; 256]) -> usize
     ensures { λ r. ⌜ (r ≡ 124) × (now (out .exit) ≡ put (now (out .entry)) 0 (listingText (now (coefficients .entry)))) ⌝ }
 {
     let at = put_text(out, 0, b"name bits\n");

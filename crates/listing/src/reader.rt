@@ -194,7 +194,10 @@ fn is_empty(w: Word) -> bool
         Word::Empty => true,
         Word::Minus => false,
         Word::Name(_) => false,
-        Word::Number { negative: _, size: _ } => false,
+        Word::Number {
+            negative: _,
+            size: _,
+        } => false,
         Word::Wrong => false,
     }
 }

@@ -23,8 +23,7 @@ loop-holds c = (refl, search needs)
 loop-again : tie.Need-loop-again Inv-loop μ-loop
 loop-again c =
     let l = c .before .before .before .before .loop in
-    let chunk = c .before .before .before .before .before .before .args .chunk .now in
-    (
+    let chunk = c .before .before .before .before .before .before .args .chunk .now in (
       ap (λ (t : State). fed t (drop (l .k + 1) chunk)) (c .step .ensures) ∙ sym (fed-next _ chunk (l .k) (omega arith)) ∙ l .inv .0,
       search needs,
     )

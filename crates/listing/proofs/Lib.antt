@@ -1,4 +1,6 @@
 -- The laws of the listing.
 pub mod Fed
 pub mod NamesLaws
+pub mod NumeralLaws
+pub mod PairLaws
 pub mod PrintLaws

@@ -2,4 +2,5 @@
 pub mod Names
 pub mod Print
 pub mod Reader
+pub mod Text
 pub mod Word

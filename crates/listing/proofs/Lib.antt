@@ -2,5 +2,6 @@
 pub mod Fed
 pub mod NamesLaws
 pub mod NumeralLaws
+pub mod OrderLaws
 pub mod PairLaws
 pub mod PrintLaws

@@ -71,11 +71,20 @@ pairsText (p ∷ ps) = pairText p ++ pairsText ps
 abbrev pub Order : Type 0
 Order = Four ℕ
 
+abbrev pub allNames : Order → Bool
+allNames o = ltb (o .col0) 4 && (ltb (o .col1) 4 && (ltb (o .col2) 4 && ltb (o .col3) 4))
+
+abbrev pub unlike : ℕ → ℕ → Bool
+unlike a b = not (eqb a b)
+
+abbrev pub allUnlike : Order → Bool
+allUnlike o =
+    unlike (o .col0) (o .col1) && unlike (o .col0) (o .col2) && unlike (o .col0) (o .col3) && unlike (o .col1) (o .col2)
+    && unlike (o .col1) (o .col3)
+    && unlike (o .col2) (o .col3)
+
 unfoldable pub isOrder : Order → Bool
-isOrder o =
-    ltb (o .col0) 4 && (ltb (o .col1) 4 && (ltb (o .col2) 4 && ltb (o .col3) 4))
-    && (not (eqb (o .col0) (o .col1)) && (not (eqb (o .col0) (o .col2)) && not (eqb (o .col0) (o .col3))))
-    && (not (eqb (o .col1) (o .col2)) && (not (eqb (o .col1) (o .col3)) && not (eqb (o .col2) (o .col3))))
+isOrder o = allNames o && allUnlike o
 
 -- u is 117, v 118, x 120 and y 121
 unfoldable pub letter : ℕ → ℕ

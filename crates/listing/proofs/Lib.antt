@@ -1,7 +1,9 @@
 -- The laws of the listing.
 pub mod Fed
+pub mod KeptLaws
 pub mod NamesLaws
 pub mod NumeralLaws
 pub mod OrderLaws
 pub mod PairLaws
+pub mod PixelsLaws
 pub mod PrintLaws

@@ -31,17 +31,17 @@ grown-large size d h = rw (lt-ltb 6710886 size h)
 
 held-digit : (m size d : ℕ) → d < 10 → Held m size → Held (10 * m + d) (grown size d)
 held-digit m size d h r = elim (lt-or-le 6710886 size) [
-    inl large ↦ record {
-      exact = λ l. let e : size ≡ m = r .exact (omega arith) in omega (arith, grown-large size d large);
-      above = λ l. omega (arith, grown-large size d large);
-    }
+  | inl large ↦ record {
+    exact = λ l. let e : size ≡ m = r .exact (omega arith) in omega (arith, grown-large size d large);
+    above = λ l. omega (arith, grown-large size d large);
+  }
   | inr small ↦ record {
-      exact = λ l. let e : size ≡ m = r .exact (omega arith) in omega (arith, grown-small size d small);
-      above = λ l. elim (lt-or-le limit m) [
-          inl over ↦ omega (arith, r .above over)
-        | inr within ↦ omega (arith, r .exact within, grown-small size d small)
-      ];
-    }
+    exact = λ l. let e : size ≡ m = r .exact (omega arith) in omega (arith, grown-small size d small);
+    above = λ l. elim (lt-or-le limit m) [
+      | inl over ↦ omega (arith, r .above over)
+      | inr within ↦ omega (arith, r .exact within, grown-small size d small)
+    ];
+  }
 ]
 
 -- the size that further digits make

@@ -100,7 +100,7 @@ at-most k n l = omega (arith, l)
 at-below : (n : ℕ) (f : ℕ → Bool) → T (below n f) → (k : ℕ) → k < n → T (f k)
 unfolding below
 at-below (suc n) f h k l = elim (eq-or-lt-of-le (at-most k n l)) [
-    inl e ↦ subst (λ (j : ℕ). T (f j)) (sym e) (both (f n) (below n f) h .0)
+  | inl e ↦ subst (λ (j : ℕ). T (f j)) (sym e) (both (f n) (below n f) h .0)
   | inr g ↦ at-below n f (both (f n) (below n f) h .1) k g
 ]
 
@@ -131,14 +131,14 @@ fine o h =
     let t = at-below 4 _ (at-below 4 _ (at-below 4 _ (at-below 4 _ tested (o .col0) l0) (o .col1) l1) (o .col2) l2) (o .col3) l3 in
     let b = both (isFree o) (isBack o) (implied (isOrder o) (isFree o && isBack o) t h) in
     let f =
-        parts (eqb (columnOf none (o .col0)) 4) (eqb (columnOf (names1 o) (o .col1)) 4) (eqb (columnOf (names2 o) (o .col2)) 4)
-        (eqb (columnOf (names3 o) (o .col3)) 4)
-        (b .0)
+    parts (eqb (columnOf none (o .col0)) 4) (eqb (columnOf (names1 o) (o .col1)) 4) (eqb (columnOf (names2 o) (o .col2)) 4)
+    (eqb (columnOf (names3 o) (o .col3)) 4)
+    (b .0)
     in
     let s =
-        parts (eqb (slotOf (namesOf o) 0) (o .col0)) (eqb (slotOf (namesOf o) 1) (o .col1)) (eqb (slotOf (namesOf o) 2) (o .col2))
-        (eqb (slotOf (namesOf o) 3) (o .col3))
-        (b .1)
+    parts (eqb (slotOf (namesOf o) 0) (o .col0)) (eqb (slotOf (namesOf o) 1) (o .col1)) (eqb (slotOf (namesOf o) 2) (o .col2))
+    (eqb (slotOf (namesOf o) 3) (o .col3))
+    (b .1)
     in
     record {
       free0 = eqb→eq _ 4 (f .0);

@@ -79,9 +79,9 @@ unlike a b = not (eqb a b)
 
 abbrev pub allUnlike : Order → Bool
 allUnlike o =
-    unlike (o .col0) (o .col1) && unlike (o .col0) (o .col2) && unlike (o .col0) (o .col3) && unlike (o .col1) (o .col2)
-    && unlike (o .col1) (o .col3)
-    && unlike (o .col2) (o .col3)
+    unlike (o .col0) (o .col1)
+    && (unlike (o .col0) (o .col2)
+    && (unlike (o .col0) (o .col3) && (unlike (o .col1) (o .col2) && (unlike (o .col1) (o .col3) && unlike (o .col2) (o .col3)))))
 
 unfoldable pub isOrder : Order → Bool
 isOrder o = allNames o && allUnlike o

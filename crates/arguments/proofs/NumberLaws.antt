@@ -1,0 +1,48 @@
+-- Where refusal 5 does not apply every argument is good, and a good number is finite. One bad number would have made the test
+-- false for good, since a turn never makes it true again. Assumes nothing.
+use mathlib.Core.Path.{_≡_, refl, sym, ap, _∙_, subst}
+use mathlib.Core.Bool.{Bool, true, false, _&&_, true≢false}
+use mathlib.Core.List.{List}
+use Prim.Native.Nat.{ℕ, _+_, _<_, zero-le}
+use native.Mathlib.Omega.{arith}
+use lib.Dec.{T}
+use lib.Ieee.{Float, binary64, ofBits}
+use lib.Ieee.Scale.{finite}
+use borrow.Author.Tests.{not-false}
+use Rattle.exact.specs.Loop.{upTo}
+use Rattle.exact.proofs.Loop.{upTo-next, upTo-keep, upTo-join}
+use Rattle.number.specs.Bytes.{argumentAt}
+use Rattle.number.specs.Magnitude.{within}
+use Rattle.number.proofs.MagnitudeLaws.{abs-limited}
+use Rattle.arguments.specs.Store.{countOf}
+use Rattle.arguments.specs.Refusal.{goodNumber, stillGood, badNumber}
+
+and-false : (b : Bool) → (b && false) ≡ false
+and-false true = refl
+and-false false = refl
+
+module _ (bytes : List ℕ) where
+  -- all turns up to n, from true on
+  abbrev all : ℕ → Bool
+  all n = upTo (stillGood bytes) 0 n true
+
+  -- a bad number, and all later turns
+  spoilt : (k n : ℕ) → k < n → goodNumber (argumentAt bytes k) ≡ false → all n ≡ false
+  unfolding stillGood
+  spoilt k n h bad =
+      upTo-join (stillGood bytes) 0 true (k + 1) n zero-le (omega arith)
+      ∙ upTo-keep (stillGood bytes) (k + 1) (all (k + 1)) (λ (b : Bool). b ≡ false) n (omega arith)
+      (λ j y a b p. ap (λ (t : Bool). t && goodNumber (argumentAt bytes j)) p)
+      (sym (upTo-next (stillGood bytes) 0 true k zero-le refl) ∙ ap (λ (t : Bool). all k && t) bad ∙ and-false (all k))
+
+  pub all-good : badNumber bytes ≡ false → (k : ℕ) → k < countOf bytes → goodNumber (argumentAt bytes k) ≡ true
+  unfolding badNumber
+  all-good fine k h = go (goodNumber (argumentAt bytes k)) refl
+    where
+      go : (g : Bool) → goodNumber (argumentAt bytes k) ≡ g → g ≡ true
+      go true e = refl
+      go false e = absurd (true≢false (sym (not-false (all (countOf bytes)) fine) ∙ spoilt k (countOf bytes) h e))
+
+pub good-finite : (x : Float) → goodNumber x ≡ true → T (finite x)
+unfolding goodNumber within ofBits
+good-finite x e = abs-limited x (ofBits binary64 0x4130_0000_0000_0000) tt (subst T (sym e) tt)

@@ -1,0 +1,66 @@
+-- Refusals 3 to 7 over a method and its arguments alone, as document 01's table has them: each test by itself, then the table.
+-- A test stands on its own and may be asked out of turn; the table's order says which number a caller gets. Assumes nothing.
+use Prim.Native.Nat.{ℕ, _-_, _/_, _%_}
+use mathlib.Core.Bool.{Bool, true, not, _&&_, _||_, cond}
+use mathlib.Core.List.{List, [], _∷_}
+use lib.ListN.{length}
+use lib.Dec.{eqb, ltb}
+use lib.Ieee.{Float, binary64, ofBits}
+use Rattle.exact.specs.Loop.{upTo}
+use Rattle.exact.specs.Table.{firstOf}
+use Rattle.number.specs.Bytes.{argumentAt}
+use Rattle.number.specs.Magnitude.{within}
+use Rattle.arguments.specs.Method.{affineProjection, perspectiveProjection, polynomial, barrel, barrelInverse, present, skip, leastPairs}
+use Rattle.arguments.specs.Order.{goodOrder}
+use Rattle.arguments.specs.Store.{countOf, orderOf}
+
+-- ---- 4, count
+-- n values of a pair method, after the order: under 4, not in fours, or over 64 pairs
+unfoldable pub badValues : ℕ → Bool
+badValues n = ltb n 4 || not (eqb (n % 4) 0) || ltb 64 (n / 4)
+
+-- the wrong number of arguments n for the method m
+unfoldable pub badFor : ℕ → ℕ → Bool
+badFor m n =
+    cond (eqb m affineProjection) (not (eqb n 6))
+    (cond (eqb m perspectiveProjection) (not (eqb n 8))
+    (cond (eqb m barrel || eqb m barrelInverse) (ltb n 3)
+    (cond (eqb m polynomial) (eqb n 0 || badValues (n - 1))
+    (badValues n))))
+
+-- bytes that end inside an argument, more than 257 arguments, or the wrong number for the method
+unfoldable pub badCount : ℕ → List ℕ → Bool
+badCount m bytes = not (eqb (length bytes % 8) 0) || ltb 257 (countOf bytes) || badFor m (countOf bytes)
+
+-- ---- 5, number
+-- finite and at most 1,048,576 in magnitude
+unfoldable pub goodNumber : Float → Bool
+goodNumber x = within (ofBits binary64 0x4130_0000_0000_0000) x  -- 1048576.0
+
+unfoldable pub stillGood : List ℕ → ℕ → Bool → Bool
+stillGood bytes k good = good && goodNumber (argumentAt bytes k)
+
+-- an argument that is no good number
+unfoldable pub badNumber : List ℕ → Bool
+badNumber bytes = not (upTo (stillGood bytes) 0 (countOf bytes) true)
+
+-- ---- 6, order
+unfoldable pub badOrder : ℕ → List ℕ → Bool
+badOrder m bytes = eqb m polynomial && not (goodOrder (orderOf bytes))
+
+-- ---- 7, few
+-- how many pairs the arguments of a pair method are
+unfoldable pub pairsOf : ℕ → List ℕ → ℕ
+pairsOf m bytes = (countOf bytes - skip m) / 4
+
+-- under the method's least pairs. (For `Affine` and `Shepards` it is 1, so what is under that is refused by 4 already.)
+unfoldable pub fewPairs : ℕ → List ℕ → Bool
+fewPairs m bytes = ltb (pairsOf m bytes) (leastPairs m (orderOf bytes))
+
+-- ---- the table
+abbrev pub refusals : ℕ → List ℕ → List (ℕ × Bool)
+refusals m bytes =
+    (3, not (present m)) ∷ ((4, badCount m bytes) ∷ ((5, badNumber bytes) ∷ ((6, badOrder m bytes) ∷ ((7, fewPairs m bytes) ∷ []))))
+
+unfoldable pub refusal : ℕ → List ℕ → ℕ
+refusal m bytes = firstOf (refusals m bytes)

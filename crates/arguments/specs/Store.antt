@@ -1,0 +1,32 @@
+-- The argument store: 257 numbers, zero at first, filled from the caller's bytes, with the count beside them. Assumes nothing.
+use Prim.Native.Nat.{ℕ, _/_, min}
+use mathlib.Core.Bool.{cond}
+use mathlib.Core.List.{List}
+use lib.Dec.{eqb}
+use lib.ListN.{length, set, replicate}
+use lib.Ieee.{Float, ofBits, binary64}
+use Rattle.exact.specs.Loop.{upTo}
+use Rattle.number.specs.Bytes.{argumentAt}
+
+-- how many whole arguments the bytes hold
+abbrev pub countOf : List ℕ → ℕ
+countOf bytes = length bytes / 8
+
+-- how many of them the store has room for: all, where no refusal applies
+unfoldable pub heldOf : List ℕ → ℕ
+heldOf bytes = min (countOf bytes) 257
+
+-- 257 numbers, zero at first
+unfoldable pub zeros : List Float
+zeros = replicate 257 (ofBits binary64 0)  -- 0.0
+
+unfoldable pub keep : List ℕ → ℕ → List Float → List Float
+keep bytes k values = set values k (argumentAt bytes k)
+
+-- the store's numbers
+unfoldable pub valuesOf : List ℕ → List Float
+valuesOf bytes = upTo (keep bytes) 0 (heldOf bytes) (replicate 257 (ofBits binary64 0))  -- 0.0
+
+-- the first argument, which is a polynomial's order; 0.0 where there is none
+unfoldable pub orderOf : List ℕ → Float
+orderOf bytes = cond (eqb (countOf bytes) 0) (ofBits binary64 0) (argumentAt bytes 0)  -- 0.0

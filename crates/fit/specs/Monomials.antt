@@ -1,0 +1,41 @@
+-- `monomials`: the terms of a polynomial at (x, y), in the Rust's order. The order is a number: 0 for the terms 1, x, y, xy, and else
+-- the degree, where one above 5 counts as 5. Assumes nothing.
+use Prim.Native.Nat.{ℕ, _+_, _-_, min}
+use mathlib.Core.Bool.{cond}
+use mathlib.Core.List.{[], _∷_, _++_}
+use lib.ListN.{set}
+use lib.Dec.{eqb}
+use lib.Ieee.{Float}
+use Rattle.exact.specs.Double.{_⊗_}
+use Rattle.exact.specs.Loop.{upTo}
+use Rattle.number.specs.Power.{one, power}
+use Rattle.fit.specs.Matrix.{Vector, at}
+
+-- x.powi(total - j) * y.powi(j)
+abbrev pub term : Float → Float → ℕ → ℕ → Float
+term x y total j = power x (total - j) ⊗ power y j
+
+-- out.push(..)
+unfoldable pub push : Float → Float → ℕ → ℕ → Vector → Vector
+push x y total j out = out ++ (term x y total j ∷ [])
+
+-- for j in 0..=total
+unfoldable pub ofDegree : Float → Float → ℕ → Vector → Vector
+unfolding push
+ofDegree x y total out = upTo (push x y total) 0 (total + 1) out
+
+-- for total in 0..=n
+abbrev pub upToDegree : ℕ → Float → Float → Vector
+upToDegree n x y = upTo (ofDegree x y) 0 (n + 1) []
+
+unfoldable pub monomials : ℕ → Float → Float → Vector
+monomials order x y = cond (eqb order 0) (one ∷ x ∷ y ∷ (x ⊗ y) ∷ []) (upToDegree (min order 5) x y)
+
+-- ---- what the code does to the array that holds them
+
+-- the powers 0 to 5
+abbrev pub powers : Float → Vector
+powers x = power x 0 ∷ power x 1 ∷ power x 2 ∷ power x 3 ∷ power x 4 ∷ power x 5 ∷ []
+
+unfoldable pub putTerm : Vector → Vector → ℕ → ℕ → ℕ → Vector → Vector
+putTerm px py start total j m = set m (start + j) (at px (total - j) ⊗ at py j)

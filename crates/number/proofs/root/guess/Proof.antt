@@ -1,0 +1,20 @@
+-- `number::root::guess` is safe: half of a finite pattern can be taken from the constant, and what is left is below the infinity's pattern. Nothing
+-- is said of the result, and nothing rests on it. Assumes nothing.
+use Prim.Native.Nat.{_-_, _/_}
+use native.Mathlib.Omega.{arith}
+use borrow.Author.Needs.{needs}
+use Rattle.exact.proofs.PatternDigits.{no-nan}
+use Rattle.number.proofs.root.guess.Statement.{statement}
+use Rattle.number.proofs.root.guess.Tie as tie
+
+sub-y : tie.Need-sub-y
+sub-y c = search needs
+
+float-from-bits-y : tie.Need-float-from-bits-y
+float-from-bits-y c = no-nan (6910404192293093376 - c .args .bits / 2) (omega arith)
+
+returns : tie.Need-returns
+returns c = search needs
+
+pub guess-spec : {M : Type 1} → statement M
+guess-spec = tie.close (tie.spec sub-y float-from-bits-y returns)

@@ -1,4 +1,5 @@
 -- The laws of the listing.
+pub mod EndLaws
 pub mod Fed
 pub mod KeptLaws
 pub mod LargeLaws

@@ -9,7 +9,7 @@ use native.Mathlib.Omega.{arith}
 use lib.ListN.{length, getD, set, drop, length-append, drop-of-length-le}
 use lib.Seq.{drop-cons}
 use lib.Ieee.{Float, nan, binary64, toBits}
-use Rattle.listing.specs.Print.{put, hexDigit, hexText, lineText, linesText}
+use Rattle.listing.specs.Print.{put, hexDigit, hexText, lineText, linesText, listingText, refusedText}
 
 -- ---- a text, byte by byte
 pub put-next : (s : List ℕ) (at : ℕ) (text : List ℕ) (k : ℕ) → k < length text → put s (at + k) (drop k text) ≡ put (set s (at + k) (getD text k 0)) (at + (k + 1)) (drop (k + 1) text)
@@ -88,3 +88,22 @@ unfolding put linesText
 lines-end s at cs k h =
     let e : 6 - k ≡ 0 = omega arith in
     rw e
+
+-- ---- how long the texts are
+pub refused-length : (n : ℕ) → length (refusedText n) ≡ 10
+unfolding refusedText
+refused-length n = refl
+
+lines-length : (k n : ℕ) (cs : List Float) → length (linesText k n cs) ≡ 19 * n
+unfolding linesText
+lines-length k zero cs = refl
+lines-length k (suc n) cs =
+    let line = lineText (97 + k) (getD cs k nan) in
+    length-append line (linesText (k + 1) n cs) ∙ more (length line) _ n (line-length (97 + k) (getD cs k nan)) (lines-length (k + 1) n cs)
+  where
+    more : (l m n : ℕ) → l ≡ 19 → m ≡ 19 * n → l + m ≡ 19 * suc n
+    more l m n a b = omega arith
+
+pub listing-length : (cs : List Float) → length (listingText cs) ≡ 124
+unfolding listingText
+listing-length cs = ap (λ (k : ℕ). suc (suc (suc (suc (suc (suc (suc (suc (suc (suc k)))))))))) (lines-length 0 6 cs)

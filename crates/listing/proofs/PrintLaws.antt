@@ -6,7 +6,7 @@ use Prim.Native.Nat.{ℕ, zero, suc, _+_, _-_, _*_, _/_, _%_, _^_, _≤_, _<_}
 use native.Mathlib.Nat.{add-assoc, add-zero, add-suc}
 use native.Mathlib.Numerals.{add-one}
 use native.Mathlib.Omega.{arith}
-use lib.ListN.{length, getD, set, drop, length-append, drop-of-length-le}
+use lib.ListN.{length, getD, set, drop, length-set, length-append, drop-of-length-le}
 use lib.Seq.{drop-cons}
 use lib.Ieee.{Float, nan, binary64, toBits}
 use Rattle.listing.specs.Print.{put, hexDigit, hexText, lineText, linesText, listingText, refusedText}
@@ -107,3 +107,9 @@ lines-length k (suc n) cs =
 pub listing-length : (cs : List Float) → length (listingText cs) ≡ 124
 unfolding listingText
 listing-length cs = ap (λ (k : ℕ). suc (suc (suc (suc (suc (suc (suc (suc (suc (suc k)))))))))) (lines-length 0 6 cs)
+
+-- a buffer keeps its length
+pub put-length : (s : List ℕ) (at : ℕ) (text : List ℕ) → length (put s at text) ≡ length s
+unfolding put
+put-length s at [] = refl
+put-length s at (b ∷ text) = put-length (set s at b) (at + 1) text ∙ length-set s at b

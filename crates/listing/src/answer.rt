@@ -1,5 +1,5 @@
-// From the end of the text to what is printed: a refusal, or the listing of the `Affine` that is fitted to the pairs. Assumes that the
-// arguments are the reader's 2,048 bytes.
+// From the end of the text to what is printed: a refusal, or the listing of the `Affine` that is fitted to the pairs. For every state
+// of the reader.
 use crate::print;
 use crate::reader;
 use crate::reader::Outcome;
@@ -24,8 +24,7 @@ fn fit_pairs(arguments: &[u8], out: &mut [u8; 124]) -> usize
     print::listing(out, &coef)
 }
 
-// The text to print is so many bytes at the start of `out`.
-pub fn answer(s: Reader, arguments: &[u8], out: &mut [u8; 124]) -> usize
+fn answer_from(s: Reader, arguments: &[u8], out: &mut [u8; 124]) -> usize
     requires { ⌜ 2048 ≤ length (now arguments) ⌝ }
     ensures { λ r. ⌜ (r ≡ length (answerText s (now (arguments .entry)))) × (now (out .exit) ≡ put (now (out .entry)) 0 (answerText s (now (arguments .entry)))) ⌝ }
 {
@@ -34,4 +33,11 @@ pub fn answer(s: Reader, arguments: &[u8], out: &mut [u8; 124]) -> usize
         Outcome::Refused(n) => print::refused(out, n),
         Outcome::Arguments(n) => fit_pairs(&arguments[..n as usize], out),
     }
+}
+
+// The text to print is so many bytes at the start of `out`.
+pub fn answer(s: Reader, arguments: &[u8; 2048], out: &mut [u8; 124]) -> usize
+    ensures { λ r. ⌜ (r ≡ length (answerText s (now (arguments .entry)))) × (now (out .exit) ≡ put (now (out .entry)) 0 (answerText s (now (arguments .entry)))) ⌝ }
+{
+    answer_from(s, arguments, out)
 }

@@ -1,4 +1,4 @@
--- `listing::answer::answer` meets its contract: each case of the outcome is that of the definition, and the arguments of a text that
+-- `listing::answer::answer_from` meets its contract: each case of the outcome is that of the definition, and the arguments of a text that
 -- is accepted lie within the bytes. Assumes nothing.
 use Prim.Native.Nat.{ℕ, _≤_}
 use mathlib.Core.Path.{_≡_, sym, ap, subst, _∙_}
@@ -11,8 +11,8 @@ use Rattle.listing.specs.Print.{put}
 use Rattle.listing.specs.Answer.{outcomeText, answerText}
 use Rattle.listing.proofs.EndLaws.{AtMost, finish-at-most}
 use Rattle.listing.proofs.PrintLaws.{refused-length}
-use Rattle.listing.proofs.answer.answer.Statement.{statement}
-use Rattle.listing.proofs.answer.answer.Tie as tie
+use Rattle.listing.proofs.answer.answer_from.Statement.{statement}
+use Rattle.listing.proofs.answer.answer_from.Tie as tie
 
 slice-aggregate-fit-pairs : tie.Need-slice-aggregate-fit-pairs
 slice-aggregate-fit-pairs c =
@@ -30,8 +30,8 @@ returns-2 : tie.Need-returns-2
 unfolding answerText outcomeText
 returns-2 c = rw (sym (c .before .before .before .before .before .before .finish .ensures) ∙ c .before .before .before .before .end2 .given .1) (c .fit-pairs .ensures)
 
-pub answer-spec : {M : Type 1} → statement M
-answer-spec =
+pub answer-from-spec : {M : Type 1} → statement M
+answer-from-spec =
     tie.close
     (tie.spec
     (λ c κs. search needs)

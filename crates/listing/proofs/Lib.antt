@@ -10,3 +10,4 @@ pub mod PairLaws
 pub mod PixelsLaws
 pub mod PrintLaws
 pub mod ReadBack
+pub mod WordForm

@@ -3,6 +3,7 @@ pub mod EndLaws
 pub mod Fed
 pub mod KeptLaws
 pub mod LargeLaws
+pub mod LineForm
 pub mod NamesLaws
 pub mod NumeralLaws
 pub mod OrderLaws

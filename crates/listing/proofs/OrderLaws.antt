@@ -9,6 +9,7 @@ use native.Mathlib.Nat.{eq-or-lt-of-le}
 use native.Mathlib.Omega.{arith}
 use borrow.Author.Tests.{eq-eqb, lt-ltb}
 use lib.Dec.{T, eqb, ltb, eqb→eq, ltb→lt, lit<}
+use lib.Ieee.Fits.{eq→eqb}
 use Rattle.listing.specs.declared.word.Word.the-variants.{Empty, Name}
 use Rattle.listing.specs.declared.names.Names.{Names}
 use Rattle.listing.specs.Word.{nameOf, first, next}
@@ -67,7 +68,7 @@ module _ (o : Order) where
     pub low2 : o .col2 < 4
     pub low3 : o .col3 < 4
 
-  abbrev isFree : Bool
+  abbrev pub isFree : Bool
   isFree = eqb (columnOf none (o .col0)) 4 && (eqb (columnOf names1 (o .col1)) 4 && (eqb (columnOf names2 (o .col2)) 4 && eqb (columnOf names3 (o .col3)) 4))
 
   abbrev isBack : Bool
@@ -154,3 +155,27 @@ fine o h =
       low2 = l2;
       low3 = l3;
     }
+
+-- the other way: names that find their columns free, one after another, are an order
+test-free : ℕ → ℕ → ℕ → ℕ → Bool
+unfolding isOrder
+test-free a b c d = not (isFree (four a b c d)) || isOrder (four a b c d)
+
+tested-free : T (below 4 (λ (a : ℕ). below 4 (λ (b : ℕ). below 4 (λ (c : ℕ). below 4 (λ (d : ℕ). test-free a b c d)))))
+unfolding below test-free isOrder columnOf placed
+tested-free = tt
+
+joined : (a b c d : Bool) → T a → T b → T c → T d → T (a && (b && (c && d)))
+joined true true true d p q r s = s
+
+pub free-order : (o : Order) → o .col0 < 4 → o .col1 < 4 → o .col2 < 4 → o .col3 < 4 → columnOf none (o .col0) ≡ 4 → columnOf (names1 o) (o .col1) ≡ 4 → columnOf (names2 o) (o .col2) ≡ 4 → columnOf (names3 o) (o .col3) ≡ 4 → T (isOrder o)
+unfolding test-free
+free-order o l0 l1 l2 l3 e0 e1 e2 e3 =
+    let t = at-below 4 _ (at-below 4 _ (at-below 4 _ (at-below 4 _ tested-free (o .col0) l0) (o .col1) l1) (o .col2) l2) (o .col3) l3 in
+    implied (isFree o) (isOrder o) t
+    (joined (eqb (columnOf none (o .col0)) 4) (eqb (columnOf (names1 o) (o .col1)) 4) (eqb (columnOf (names2 o) (o .col2)) 4)
+    (eqb (columnOf (names3 o) (o .col3)) 4)
+    (eq→eqb e0)
+    (eq→eqb e1)
+    (eq→eqb e2)
+    (eq→eqb e3))

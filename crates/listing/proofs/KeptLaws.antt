@@ -6,8 +6,8 @@ use mathlib.Core.List.{List, [], _∷_, _++_}
 use Prim.Native.Nat.{ℕ, zero, suc, _+_, _-_, _*_, _≤_, _<_}
 use native.Mathlib.Omega.{arith}
 use lib.ListN.{length}
-use lib.Ieee.{Float, binary64, toBits}
-use Rattle.number.specs.Bytes.{f64At, putF64, argumentAt}
+use lib.Ieee.{Float}
+use Rattle.number.specs.Bytes.{f64At}
 use Rattle.number.proofs.BytesLaws.{put-length}
 use Rattle.number.proofs.FloatBytes.{f64-put, f64-beside}
 use Rattle.exact.proofs.UnitPatterns.{lt-or-le}

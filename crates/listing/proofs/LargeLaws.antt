@@ -11,7 +11,7 @@ use Rattle.exact.proofs.UnitPatterns.{lt-or-le}
 use Rattle.listing.specs.Word.{limit}
 use Rattle.listing.specs.Reader.{isLarge}
 use Rattle.listing.specs.Text.{Numeral, digits, AllDigits, magnitude, Pair, Proper, AllProper, Within, AllWithin}
-use Rattle.listing.proofs.NumeralLaws.{Held, sizeOf, held}
+use Rattle.listing.proofs.NumeralLaws.{sizeOf, held}
 use Rattle.listing.proofs.PairLaws.{largeAfter, largeAll}
 
 -- ---- one number

@@ -4,7 +4,7 @@ use mathlib.Core.Path.{_≡_, refl, sym, ap, subst, _∙_}
 use mathlib.Core.Logic.{inl, inr}
 use mathlib.Core.Bool.{Bool, true, false, cond}
 use mathlib.Core.List.{List, [], _∷_, _++_, append-assoc, append-nil}
-use Prim.Native.Nat.{ℕ, zero, suc, _+_, _-_, _≤_, _<_}
+use Prim.Native.Nat.{ℕ, _+_, _-_, _≤_, _<_}
 use native.Mathlib.Omega.{arith}
 use borrow.Author.Tests.{lt-ltb}
 use lib.Dec.{T, ltb}
@@ -124,9 +124,9 @@ module _ (o : Order) (is : T (isOrder o)) (ps : List Pair) (proper : AllProper p
   pair-ends : (p : Pair) → Proper p → Seen (namesOf o) 0 (counted (1 + length ps)) (text o ps ++ pairText p)
   unfolding counted numberCells
   pair-ends p d = elim (lt-or-le (length ps) 64) [
-      inl l ↦ subst (λ (k : ℕ). Seen (namesOf o) 0 k (text o ps ++ pairText p)) (ap (λ (k : ℕ). 1 + k) (one-longer ps p) ∙ counts (length ps) l)
-          (subst (Seen (namesOf o) 0 (1 + length (ps ++ p ∷ []))) (append-nil _ ∙ text-more o ps p)
-          (in-pairs o is (ps ++ p ∷ []) (all-proper ps p proper d) (omega (arith, one-longer ps p)) [] tt))
+    | inl l ↦ subst (λ (k : ℕ). Seen (namesOf o) 0 k (text o ps ++ pairText p)) (ap (λ (k : ℕ). 1 + k) (one-longer ps p) ∙ counts (length ps) l)
+        (subst (Seen (namesOf o) 0 (1 + length (ps ++ p ∷ []))) (append-nil _ ∙ text-more o ps p)
+        (in-pairs o is (ps ++ p ∷ []) (all-proper ps p proper d) (omega (arith, one-longer ps p)) [] tt))
     | inr g ↦ too-many _ _ _ _ (over (length ps) g)
   ]
     where

@@ -1,15 +1,14 @@
 -- A number's text is read as that number: each digit grows it, and one that has passed the limit stays above it. Assumes nothing.
-use mathlib.Core.Path.{_≡_, refl, sym, ap, _∙_}
-use mathlib.Core.Logic.{_⊎_, inl, inr}
-use mathlib.Core.Bool.{Bool, true, false, cond}
-use mathlib.Core.List.{List, [], _∷_, _++_, map}
-use Prim.Native.Nat.{ℕ, zero, suc, _+_, _-_, _*_, _≤_, _<_}
+use mathlib.Core.Path.{_≡_, refl, ap, _∙_}
+use mathlib.Core.Logic.{inl, inr}
+use mathlib.Core.Bool.{Bool, true, false}
+use mathlib.Core.List.{List, [], _∷_}
+use Prim.Native.Nat.{ℕ, _+_, _-_, _*_, _≤_, _<_}
 use native.Mathlib.Omega.{arith}
-use borrow.Author.Tests.{eq-eqb, ne-eqb, lt-ltb, le-ltb}
-use lib.Dec.{eqb, ltb}
+use borrow.Author.Tests.{ne-eqb, lt-ltb, le-ltb}
 use Rattle.exact.proofs.UnitPatterns.{lt-or-le}
 use Rattle.listing.specs.declared.word.Word.{Word}
-use Rattle.listing.specs.declared.word.Word.the-variants.{Empty, Minus, Name, Number, Wrong}
+use Rattle.listing.specs.declared.word.Word.the-variants.{Empty, Minus, Number}
 use Rattle.listing.specs.declared.reader.Reader.{Reader}
 use Rattle.listing.specs.Word.{limit, nameOf, grown, digit, first, next}
 use Rattle.listing.specs.Reader.{State, withWord, step, fed}

@@ -2,15 +2,15 @@
 -- name back, is a test over the 256 fours of numbers below 4, which is computed. Assumes nothing.
 use mathlib.Core.Path.{_≡_, refl, sym, ap, subst, _∙_}
 use mathlib.Core.Logic.{inl, inr}
-use mathlib.Core.Bool.{Bool, true, false, not, _&&_, _||_, cond}
-use mathlib.Core.List.{List, [], _∷_, _++_}
+use mathlib.Core.Bool.{Bool, true, false, not, _&&_, _||_}
+use mathlib.Core.List.{List, [], _∷_}
 use Prim.Native.Nat.{ℕ, zero, suc, _+_, _≤_, _<_}
 use native.Mathlib.Nat.{eq-or-lt-of-le}
 use native.Mathlib.Omega.{arith}
 use borrow.Author.Tests.{eq-eqb, lt-ltb}
 use lib.Dec.{T, eqb, ltb, eqb→eq, ltb→lt, lit<}
 use lib.Ieee.Fits.{eq→eqb}
-use Rattle.listing.specs.declared.word.Word.the-variants.{Empty, Name}
+use Rattle.listing.specs.declared.word.Word.the-variants.{Name}
 use Rattle.listing.specs.declared.names.Names.{Names}
 use Rattle.listing.specs.Word.{nameOf, first, next}
 use Rattle.listing.specs.Names.{none, columnOf, placed, slotOf}

@@ -1,15 +1,14 @@
 -- A pair's text is read as its four numbers: each goes to the place that its column's name has in the line's pair, and a line more is
 -- counted. Assumes nothing.
-use mathlib.Core.Path.{_≡_, refl, sym, ap, _∙_}
-use mathlib.Core.Bool.{Bool, true, false, cond}
+use mathlib.Core.Path.{_≡_, sym, ap, _∙_}
+use mathlib.Core.Bool.{Bool}
 use mathlib.Core.List.{List, [], _∷_, _++_}
 use Prim.Native.Nat.{ℕ, _+_, _-_, _*_, _≤_, _<_}
 use native.Mathlib.Omega.{arith}
-use borrow.Author.Tests.{eq-eqb, ne-eqb, lt-ltb, le-ltb}
+use borrow.Author.Tests.{ne-eqb, lt-ltb, le-ltb}
 use native.Mathlib.Nat.{add-zero}
 use lib.Dec.{lit<}
 use lib.ListN.{length}
-use lib.Ieee.{Float}
 use Rattle.number.specs.Bytes.{putF64}
 use Rattle.listing.specs.declared.word.Word.the-variants.{Empty, Number}
 use Rattle.listing.specs.declared.names.Names.{Names}

@@ -3,11 +3,11 @@
 use mathlib.Core.Path.{_≡_, refl, sym, ap, subst, _∙_}
 use mathlib.Core.Logic.{_⊎_, inl, inr}
 use mathlib.Core.Bool.{Bool, true, false, cond}
-use mathlib.Core.List.{List, [], _∷_, _++_, map}
-use Prim.Native.Nat.{ℕ, _+_, _-_, _≤_, _<_}
+use mathlib.Core.List.{List, [], _∷_, _++_}
+use Prim.Native.Nat.{ℕ, _+_, _-_, _<_}
 use native.Mathlib.Omega.{arith}
-use borrow.Author.Tests.{eq-eqb, ne-eqb, lt-ltb, le-ltb, eqb-true, eqb-false}
-use lib.Dec.{T, eqb, ltb}
+use borrow.Author.Tests.{ne-eqb, lt-ltb, le-ltb, eqb-true, eqb-false}
+use lib.Dec.{eqb, ltb}
 use Rattle.exact.proofs.UnitPatterns.{lt-or-le}
 use Rattle.listing.specs.declared.word.Word.{Word}
 use Rattle.listing.specs.declared.word.Word.the-variants.{Empty, Minus, Name, Number, Wrong}
@@ -32,11 +32,11 @@ same-or-not a b = go (eqb a b) refl
 digit-form : (negative : Bool) (size b : ℕ) (t : List ℕ) → ((d size : ℕ) → d < 10 → b ≡ 48 + d → WordText (Number negative size) t) → WordText (digit negative size b) t
 unfolding digit
 digit-form negative size b t k = elim (lt-or-le b 48) [
-    inl l ↦ rw (lt-ltb b 48 l) (wrong t)
+  | inl l ↦ rw (lt-ltb b 48 l) (wrong t)
   | inr g ↦ elim (lt-or-le 57 b) [
-        inl l ↦ rw (le-ltb b 48 g, lt-ltb 57 b l) (wrong t)
-      | inr h ↦ rw (le-ltb b 48 g, le-ltb 57 b h) (k (b - 48) (grown size (b - 48)) (omega arith) (omega arith))
-    ]
+    | inl l ↦ rw (le-ltb b 48 g, lt-ltb 57 b l) (wrong t)
+    | inr h ↦ rw (le-ltb b 48 g, le-ltb 57 b h) (k (b - 48) (grown size (b - 48)) (omega arith) (omega arith))
+  ]
 ]
 
 -- a byte with a name is that name's letter
@@ -54,13 +54,13 @@ letter-name b = go (eqb b 117) (eqb b 118) (eqb b 120) (eqb b 121) (eqb-true b 1
 first-form : (b : ℕ) → WordText (first b) (b ∷ [])
 unfolding first numeralText
 first-form b = elim (same-or-not b 45) [
-    inl e ↦ subst (λ (c : ℕ). WordText (cond (eqb c 45) Minus (cond (ltb (nameOf c) 4) (Name (nameOf c)) (digit false 0 c))) (c ∷ [])) (sym e) minus
+  | inl e ↦ subst (λ (c : ℕ). WordText (cond (eqb c 45) Minus (cond (ltb (nameOf c) 4) (Name (nameOf c)) (digit false 0 c))) (c ∷ [])) (sym e) minus
   | inr n ↦ elim (lt-or-le (nameOf b) 4) [
-        inl l ↦ rw (ne-eqb b 45 n, lt-ltb (nameOf b) 4 l) (subst (λ (c : ℕ). WordText (Name (nameOf b)) (c ∷ [])) (letter-name b l) (name (nameOf b) l))
-      | inr g ↦ rw (ne-eqb b 45 n, le-ltb (nameOf b) 4 g)
-            (digit-form false 0 b (b ∷ []) (λ d size l e. subst (λ (c : ℕ). WordText (Number false size) (c ∷ [])) (sym e)
-            (number (record { negative = false; first = d; rest = [] }) size (l, tt))))
-    ]
+    | inl l ↦ rw (ne-eqb b 45 n, lt-ltb (nameOf b) 4 l) (subst (λ (c : ℕ). WordText (Name (nameOf b)) (c ∷ [])) (letter-name b l) (name (nameOf b) l))
+    | inr g ↦ rw (ne-eqb b 45 n, le-ltb (nameOf b) 4 g)
+        (digit-form false 0 b (b ∷ []) (λ d size l e. subst (λ (c : ℕ). WordText (Number false size) (c ∷ [])) (sym e)
+        (number (record { negative = false; first = d; rest = [] }) size (l, tt))))
+  ]
 ]
 
 -- one digit more

@@ -3,7 +3,9 @@
 use Prim.Native.Nat.{ℕ, _+_, _*_, _≤_, _<_}
 use mathlib.Core.Bool.{Bool, not, _&&_, cond}
 use mathlib.Core.List.{List, [], _∷_, _++_, map}
-use lib.Dec.{eqb, ltb}
+use mathlib.Core.Path.{_≡_}
+use lib.Dec.{T, eqb, ltb}
+use lib.ListN.{length}
 use Rattle.listing.specs.Word.{limit}
 
 -- ---- a number: its sign, and its digits, the highest first, at least one
@@ -105,3 +107,13 @@ Within p = (magnitude (p .col0) ≤ limit) × ((magnitude (p .col1) ≤ limit) �
 abbrev pub AllWithin : List Pair → Type 0
 AllWithin [] = Unit {0}
 AllWithin (p ∷ ps) = Within p × AllWithin ps
+
+-- a text that document 01 describes: some order of the names, and 1 to 64 pairs
+pub record Described (input : List ℕ) : Type 0 where
+  pub order : Order
+  pub isOne : T (isOrder order)
+  pub pairs : List Pair
+  pub proper : AllProper pairs
+  pub some : 0 < length pairs
+  pub room : length pairs ≤ 64
+  pub is : input ≡ text order pairs

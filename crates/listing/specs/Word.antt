@@ -2,7 +2,7 @@
 -- -0 is 0. Assumes nothing.
 use Prim.Native.Nat.{ℕ, _+_, _-_, _*_}
 use mathlib.Core.Bool.{Bool, true, false, cond}
-use lib.Dec.{eqb, leb, ltb}
+use lib.Dec.{eqb, ltb}
 use lib.IntN.{pos}
 use lib.Ieee.{Float, binary64, ofBits, ofInt}
 use Rattle.exact.specs.Double.{_⊖_, _⊘_}

@@ -1,13 +1,10 @@
 -- `listing::answer::answer_from` meets its contract: each case of the outcome is that of the definition, and the arguments of a text that
 -- is accepted lie within the bytes. Assumes nothing.
-use Prim.Native.Nat.{ℕ, _≤_}
-use mathlib.Core.Path.{_≡_, sym, ap, subst, _∙_}
-use mathlib.Core.List.{List}
+use Prim.Native.Nat.{_≤_}
+use mathlib.Core.Path.{sym, subst, _∙_}
 use native.Mathlib.Omega.{arith}
 use borrow.Author.Needs.{needs}
-use lib.ListN.{length, take, length-take}
-use Rattle.listing.specs.declared.reader.Outcome.{Outcome}
-use Rattle.listing.specs.Print.{put}
+use lib.ListN.{length-take}
 use Rattle.listing.specs.Answer.{outcomeText, answerText}
 use Rattle.listing.proofs.EndLaws.{AtMost, finish-at-most}
 use Rattle.listing.proofs.PrintLaws.{refused-length}

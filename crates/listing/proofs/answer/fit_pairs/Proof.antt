@@ -1,6 +1,5 @@
 -- `listing::answer::fit_pairs` meets its contract: what is printed follows the fit's answer. Assumes nothing.
-use mathlib.Core.Path.{sym, ap, _∙_}
-use mathlib.Core.Bool.{cond}
+use mathlib.Core.Path.{sym, _∙_}
 use borrow.Author.Needs.{needs}
 use borrow.Author.Tests.{eq-eqb, ne-eqb}
 use Rattle.listing.specs.Answer.{fitText, fittedText}

@@ -1,6 +1,5 @@
 -- `listing::reader::is_large` meets its contract. Each way out is what the definition picks where its tests are as the code found them. Assumes nothing.
 use borrow.Author.Tests.{lt-ltb, le-ltb}
-use borrow.Author.Needs.{needs}
 use Rattle.listing.specs.Reader.{isLarge}
 use Rattle.listing.proofs.reader.is_large.Statement.{statement}
 use Rattle.listing.proofs.reader.is_large.Tie as tie

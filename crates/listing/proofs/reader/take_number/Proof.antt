@@ -1,5 +1,4 @@
 -- `listing::reader::take_number` meets its contract. Each way out is what the definition picks where its tests are as the code found them. Assumes nothing.
-use mathlib.Core.Path.{ap}
 use borrow.Author.Tests.{eq-eqb, ne-eqb}
 use borrow.Author.Needs.{needs}
 use Rattle.listing.specs.Reader.{takeNumber}

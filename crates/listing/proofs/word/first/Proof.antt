@@ -1,5 +1,4 @@
 -- `listing::word::first` meets its contract. Each way out is what the definition picks where its tests are as the code found them. Assumes nothing.
-use mathlib.Core.Path.{ap, _∙_}
 use borrow.Author.Tests.{eq-eqb, ne-eqb, lt-ltb, le-ltb}
 use borrow.Author.Needs.{needs}
 use Rattle.listing.specs.Word.{first}

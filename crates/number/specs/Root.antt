@@ -3,7 +3,8 @@
 use Prim.Native.Nat.{ℕ, zero, suc, _+_, _-_, _*_, _/_, _^_, _<_}
 use mathlib.Core.Bool.{Bool, true, false, cond}
 use lib.Dec.{leb, ltb}
-use lib.Ieee.{Float, nan, inf, fin, binary64, up, down, size, round}
+use Rattle.exact.specs.Double.{_⊕_, _⊖_, _⊗_}
+use lib.Ieee.{Float, nan, inf, fin, binary64, up, down, size, round, ofBits}
 use lib.Ieee.Positive.{num, den}
 
 -- The whole part s of the square root of a, for an a of at most k pairs of binary digits: s * s ≤ a < (s + 1) * (s + 1).
@@ -49,3 +50,26 @@ MidpointUnder y r x = (num y * den r + num r * den y) * (num y * den r + num r *
 
 abbrev pub MidpointOver : Float → Float → Float → Type 0
 MidpointOver y r x = num x * (2 * (den y * den r)) * (2 * (den y * den r)) < (num y * den r + num r * den y) * (num y * den r + num r * den y) * den x
+
+-- ---- The code's guess, operation by operation. Nothing rests on how close it is: an exact test settles each answer.
+-- a polynomial in w = x y y near 1 / √w
+abbrev pub towardOne : Float → Float
+towardOne w =
+    ofBits binary64 0x4005_de50_112a_652c ⊖ ofBits binary64 0x4012_9390_019c_287b ⊗ w -- 2.733551153284358, 4.6441040278970105
+    ⊕ w ⊗ w ⊗ (ofBits binary64 0x4016_b69a_203c_baa9 ⊖ ofBits binary64 0x4010_85fe_9a69_0e86 ⊗ w -- 5.678322318750966, 4.130854046499399
+    ⊕ w ⊗ w ⊗ (ofBits binary64 0x3ffa_2a9a_cd56_1fa0 ⊖ ofBits binary64 0x3fd1_6da4_022b_5992 ⊗ w)) -- 1.6354015370325001, 0.27231693469857376
+
+-- the leading digits of g, by 2 ^ 27 + 1
+abbrev pub leading : Float → Float
+leading g = g ⊗ ofBits binary64 0x41a0_0000_0200_0000 ⊖ (g ⊗ ofBits binary64 0x41a0_0000_0200_0000 ⊖ g)
+
+-- from the leading digits on, with half of 1 / √x
+abbrev pub stepped : Float → Float → Float → Float
+stepped d top half = top ⊕ (d ⊕ d ⊗ d ⊗ half)
+
+abbrev pub guessed : Float → Float → Float
+guessed x y =
+    let p = towardOne (x ⊗ y ⊗ y) in
+    let top = leading (x ⊗ y ⊗ p) in
+    let half = ofBits binary64 0x3fe0_0000_0000_0000 ⊗ y ⊗ p in -- 0.5
+    stepped ((x ⊖ top ⊗ top) ⊗ half) top half

@@ -1,13 +1,13 @@
-// The square root, rounded to the nearest f64, for every f64. A guess by float arithmetic, of which nothing
-// is proved, is settled by an exact test on whole numbers; where no test passes, the root is worked out digit
+// The square root, rounded to the nearest f64, for every f64. A guess by float arithmetic, whose closeness
+// nobody proves, is settled by an exact test on whole numbers; where no test passes, the root is worked out digit
 // by digit. So the answer does not rest on how good the guess is, only the time does.
 ghost use mathlib.Core.Path.{_≡_};
 ghost use mathlib.Core.Bool.{true, cond};
 ghost use Prim.Native.Nat.{_+_, _-_, _*_, _/_, _%_, _^_, _≤_, _<_};
 ghost use lib.Dec.{T, ltb};
-ghost use lib.Ieee.{binary64, toBits};
+ghost use lib.Ieee.{binary64, ofBits, toBits};
 ghost use lib.Ieee.Positive as Positive;
-ghost use Rattle.number.specs.Root.{nearestRoot};
+ghost use Rattle.number.specs.Root.{nearestRoot, guessed};
 ghost use Rattle.number.specs.Root as Root;
 
 const DIGITS: u64 = 0x10_0000_0000_0000; // 2^52, the weight of the exponent's field
@@ -67,6 +67,7 @@ fn exponent(bits: u64) -> u64
 // from that, cut to its leading digits so that their square is exact, and a step from there.
 fn guess(x: f64, bits: u64) -> f64
     requires { ⌜ bits < 0x7ff0_0000_0000_0000 ⌝ }
+    ensures { λ r. ⌜ r ≡ guessed x (ofBits binary64 (0x5fe6_b000_0000_0000 - bits / 2)) ⌝ }
 {
     let y = f64::from_bits(0x5fe6_b000_0000_0000 - bits / 2);
     let z = x * y;

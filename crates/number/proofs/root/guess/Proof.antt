@@ -1,5 +1,5 @@
--- `number::root::guess` is safe: half of a finite pattern can be taken from the constant, and what is left is below the infinity's pattern. Nothing
--- is said of the result, and nothing rests on it. Assumes nothing.
+-- `number::root::guess` is safe: half of a finite pattern can be taken from the constant, and what is left is below the infinity's pattern. Its result is the
+-- float expression that the definition writes out; nothing rests on how close that is. Assumes nothing.
 use Prim.Native.Nat.{_-_, _/_}
 use native.Mathlib.Omega.{arith}
 use lib.Ieee.{binary64}

@@ -9,7 +9,7 @@ use native.Mathlib.Omega.{arith}
 use borrow.Author.Tests.{eq-eqb, ne-eqb, lt-ltb, le-ltb}
 use lib.Dec.{T, eqb, ltb}
 use lib.ListN.{length}
-use Rattle.exact.proofs.UnitPatterns.{lt-or-le}
+use Rattle.exact.proofs.Naturals.{lt-or-le}
 use Rattle.listing.specs.declared.word.Word.{Word}
 use Rattle.listing.specs.declared.word.Word.the-variants.{Empty, Name, Number, Wrong}
 use Rattle.listing.specs.declared.names.Names.{Names}

@@ -10,7 +10,7 @@ use lib.Ieee.{Float}
 use Rattle.number.specs.Bytes.{f64At}
 use Rattle.number.proofs.BytesLaws.{put-length}
 use Rattle.number.proofs.FloatBytes.{f64-put, f64-beside}
-use Rattle.exact.proofs.UnitPatterns.{lt-or-le}
+use Rattle.exact.proofs.Naturals.{lt-or-le}
 use Rattle.listing.specs.declared.names.Names.{Names}
 use Rattle.listing.specs.Word.{pixels}
 use Rattle.listing.specs.Names.{slotOf}

@@ -7,7 +7,7 @@ use mathlib.Core.List.{List, [], _∷_}
 use Prim.Native.Nat.{ℕ, _≤_, _<_}
 use native.Mathlib.Omega.{arith}
 use borrow.Author.Tests.{lt-ltb, le-ltb}
-use Rattle.exact.proofs.UnitPatterns.{lt-or-le}
+use Rattle.exact.proofs.Naturals.{lt-or-le}
 use Rattle.listing.specs.Word.{limit}
 use Rattle.listing.specs.Reader.{isLarge}
 use Rattle.listing.specs.Text.{Numeral, digits, AllDigits, magnitude, Pair, Proper, AllProper, Within, AllWithin}

@@ -9,7 +9,7 @@ use native.Mathlib.Omega.{arith}
 use borrow.Author.Tests.{lt-ltb}
 use lib.Dec.{T, ltb}
 use lib.ListN.{length, length-append}
-use Rattle.exact.proofs.UnitPatterns.{lt-or-le}
+use Rattle.exact.proofs.Naturals.{lt-or-le}
 use Rattle.listing.specs.declared.names.Names.{Names}
 use Rattle.listing.specs.Names.{none, columnOf, placed}
 use Rattle.listing.specs.Reader.{counted}

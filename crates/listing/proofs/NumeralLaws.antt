@@ -6,7 +6,7 @@ use mathlib.Core.List.{List, [], _∷_}
 use Prim.Native.Nat.{ℕ, _+_, _-_, _*_, _≤_, _<_}
 use native.Mathlib.Omega.{arith}
 use borrow.Author.Tests.{ne-eqb, lt-ltb, le-ltb}
-use Rattle.exact.proofs.UnitPatterns.{lt-or-le}
+use Rattle.exact.proofs.Naturals.{lt-or-le}
 use Rattle.listing.specs.declared.word.Word.{Word}
 use Rattle.listing.specs.declared.word.Word.the-variants.{Empty, Minus, Number}
 use Rattle.listing.specs.declared.reader.Reader.{Reader}

@@ -5,6 +5,7 @@ use libc::STDOUT_FILENO;
 use listing::answer;
 use listing::reader;
 use listing::reader::Reader;
+use listing::text;
 
 // What a read leaves: the reader, and whether to read on.
 struct Turn {
@@ -30,7 +31,7 @@ fn read_some(s: Reader, arguments: &mut [u8; 2048]) -> Turn {
         };
     }
     let n = io::count(got, &chunk);
-    let reader = reader::feed(s, &chunk[..n], arguments);
+    let reader = text::feed(s, &chunk[..n], arguments);
     Turn { reader, more: true }
 }
 

@@ -9,6 +9,7 @@ pub mod NamesLaws
 pub mod NumeralLaws
 pub mod OnlyThese
 pub mod OrderLaws
+pub mod OrderTests
 pub mod PairLaws
 pub mod PixelsLaws
 pub mod PrintLaws

@@ -14,7 +14,8 @@ use Rattle.listing.specs.declared.names.Names.{Names}
 use Rattle.listing.specs.Names.{none, columnOf, placed}
 use Rattle.listing.specs.Reader.{counted}
 use Rattle.listing.specs.Text.{Numeral, digits, AllDigits, numeralText, Pair, Proper, AllProper, pairText, pairsText, Order, isOrder, letter, orderText, text}
-use Rattle.listing.proofs.OrderLaws.{namesOf, free-order}
+use Rattle.listing.proofs.OrderLaws.{namesOf}
+use Rattle.listing.proofs.OrderTests.{free-order}
 
 -- ---- names that are placed, each where its column is free
 

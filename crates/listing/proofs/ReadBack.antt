@@ -20,7 +20,8 @@ use Rattle.listing.specs.Text.{Numeral, digits, AllDigits, magnitude, Pa
 use Rattle.listing.proofs.Fed.{fed-append}
 use Rattle.listing.proofs.NumeralLaws.{sizeOf, held}
 use Rattle.listing.proofs.PairLaws.{between, largeAll, bytesAll, pairs-read}
-use Rattle.listing.proofs.OrderLaws.{fine, namesOf, order-read}
+use Rattle.listing.proofs.OrderLaws.{namesOf, order-read}
+use Rattle.listing.proofs.OrderTests.{fine}
 use Rattle.listing.proofs.KeptLaws.{Apart, pairs-stand}
 use Rattle.listing.proofs.LargeLaws.{all-small, all-within}
 

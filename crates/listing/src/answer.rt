@@ -1,9 +1,9 @@
 // From the end of the text to what is printed: a refusal, or the listing of the `Affine` that is fitted to the pairs. For every state
 // of the reader.
 use crate::print;
-use crate::reader;
 use crate::reader::Outcome;
 use crate::reader::Reader;
+use crate::text;
 ghost use mathlib.Core.Path.{_≡_};
 ghost use Prim.Native.Nat.{_≤_};
 ghost use lib.ListN.{length};
@@ -28,7 +28,7 @@ fn answer_from(s: Reader, arguments: &[u8], out: &mut [u8; 124]) -> usize
     requires { ⌜ 2048 ≤ length (now arguments) ⌝ }
     ensures { λ r. ⌜ (r ≡ length (answerText s (now (arguments .entry)))) × (now (out .exit) ≡ put (now (out .entry)) 0 (answerText s (now (arguments .entry)))) ⌝ }
 {
-    let end = reader::finish(s);
+    let end = text::finish(s);
     match end {
         Outcome::Refused(n) => print::refused(out, n),
         Outcome::Arguments(n) => fit_pairs(&arguments[..n as usize], out),

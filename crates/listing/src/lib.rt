@@ -4,4 +4,6 @@ pub mod answer;
 pub mod names;
 pub mod print;
 pub mod reader;
+pub mod take;
+pub mod text;
 pub mod word;

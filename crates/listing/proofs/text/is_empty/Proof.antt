@@ -1,9 +1,9 @@
--- `listing::reader::is_empty` meets its contract: each case of the enum is that of the definition. Assumes nothing.
+-- `listing::text::is_empty` meets its contract: each case of the enum is that of the definition. Assumes nothing.
 use mathlib.Core.Path.{sym, ap}
 use borrow.Author.Needs.{needs}
 use Rattle.listing.specs.Reader.{isEmpty}
-use Rattle.listing.proofs.reader.is_empty.Statement.{statement}
-use Rattle.listing.proofs.reader.is_empty.Tie as tie
+use Rattle.listing.proofs.text.is_empty.Statement.{statement}
+use Rattle.listing.proofs.text.is_empty.Tie as tie
 
 returns : tie.Need-returns
 unfolding isEmpty

@@ -1,9 +1,9 @@
--- `listing::reader::finish` meets its contract. Each way out is what the definition picks where its tests are as the code found them. Assumes nothing.
+-- `listing::text::finish` meets its contract. Each way out is what the definition picks where its tests are as the code found them. Assumes nothing.
 use borrow.Author.Tests.{eq-eqb, ne-eqb, lt-ltb, le-ltb}
 use borrow.Author.Needs.{needs}
 use Rattle.listing.specs.Reader.{badForm, finish}
-use Rattle.listing.proofs.reader.finish.Statement.{statement}
-use Rattle.listing.proofs.reader.finish.Tie as tie
+use Rattle.listing.proofs.text.finish.Statement.{statement}
+use Rattle.listing.proofs.text.finish.Tie as tie
 
 returns : tie.Need-returns
 unfolding finish badForm

@@ -1,8 +1,8 @@
--- `listing::reader::is_large` meets its contract. Each way out is what the definition picks where its tests are as the code found them. Assumes nothing.
+-- `listing::take::is_large` meets its contract. Each way out is what the definition picks where its tests are as the code found them. Assumes nothing.
 use borrow.Author.Tests.{lt-ltb, le-ltb}
 use Rattle.listing.specs.Reader.{isLarge}
-use Rattle.listing.proofs.reader.is_large.Statement.{statement}
-use Rattle.listing.proofs.reader.is_large.Tie as tie
+use Rattle.listing.proofs.take.is_large.Statement.{statement}
+use Rattle.listing.proofs.take.is_large.Tie as tie
 
 returns : tie.Need-returns
 unfolding isLarge

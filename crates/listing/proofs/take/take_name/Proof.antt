@@ -1,9 +1,9 @@
--- `listing::reader::take_name` meets its contract. Each way out is what the definition picks where its tests are as the code found them. Assumes nothing.
+-- `listing::take::take_name` meets its contract. Each way out is what the definition picks where its tests are as the code found them. Assumes nothing.
 use borrow.Author.Tests.{eq-eqb, ne-eqb}
 use borrow.Author.Needs.{needs}
 use Rattle.listing.specs.Reader.{takeName}
-use Rattle.listing.proofs.reader.take_name.Statement.{statement}
-use Rattle.listing.proofs.reader.take_name.Tie as tie
+use Rattle.listing.proofs.take.take_name.Statement.{statement}
+use Rattle.listing.proofs.take.take_name.Tie as tie
 
 returns : tie.Need-returns
 unfolding takeName

@@ -1,11 +1,11 @@
--- `listing::reader::keep` meets its contract. A column holds one of four names, so a pair of the first 64 has its four places. Assumes nothing.
+-- `listing::take::keep` meets its contract. A column holds one of four names, so a pair of the first 64 has its four places. Assumes nothing.
 use borrow.Author.Tests.{lt-ltb, le-ltb}
 use borrow.Author.Needs.{needs}
 use native.Mathlib.Omega.{arith}
 use Rattle.listing.specs.Reader.{kept}
 use Rattle.listing.proofs.NamesLaws.{slot-lt}
-use Rattle.listing.proofs.reader.keep.Statement.{statement}
-use Rattle.listing.proofs.reader.keep.Tie as tie
+use Rattle.listing.proofs.take.keep.Statement.{statement}
+use Rattle.listing.proofs.take.keep.Tie as tie
 
 returns : tie.Need-returns
 unfolding kept

@@ -1,11 +1,11 @@
--- `listing::reader::take_word` meets its contract: each case of the word is that of the definition. Assumes nothing.
+-- `listing::take::take_word` meets its contract: each case of the word is that of the definition. Assumes nothing.
 use mathlib.Core.Path.{sym, ap, _∙_}
 use borrow.Author.Needs.{needs}
 use Rattle.listing.specs.declared.word.Word.{Word}
 use Rattle.listing.specs.declared.reader.Reader.{Reader}
 use Rattle.listing.specs.Reader.{taken}
-use Rattle.listing.proofs.reader.take_word.Statement.{statement}
-use Rattle.listing.proofs.reader.take_word.Tie as tie
+use Rattle.listing.proofs.take.take_word.Statement.{statement}
+use Rattle.listing.proofs.take.take_word.Tie as tie
 
 returns : tie.Need-returns
 unfolding taken

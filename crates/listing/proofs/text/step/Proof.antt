@@ -1,9 +1,9 @@
--- `listing::reader::step` meets its contract. Each way out is what the definition picks where its tests are as the code found them. Assumes nothing.
+-- `listing::text::step` meets its contract. Each way out is what the definition picks where its tests are as the code found them. Assumes nothing.
 use borrow.Author.Tests.{eq-eqb, ne-eqb}
 use borrow.Author.Needs.{needs}
 use Rattle.listing.specs.Reader.{step}
-use Rattle.listing.proofs.reader.step.Statement.{statement}
-use Rattle.listing.proofs.reader.step.Tie as tie
+use Rattle.listing.proofs.text.step.Statement.{statement}
+use Rattle.listing.proofs.text.step.Tie as tie
 
 returns : tie.Need-returns
 unfolding step

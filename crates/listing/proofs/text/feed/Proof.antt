@@ -1,4 +1,4 @@
--- `listing::reader::feed` meets its contract. The invariant: what is left of the chunk leads from here to where the whole chunk leads
+-- `listing::text::feed` meets its contract. The invariant: what is left of the chunk leads from here to where the whole chunk leads
 -- from the start; the measure is what is left of the length. Assumes nothing.
 use mathlib.Core.Path.{_≡_, refl, sym, ap, _∙_}
 use Prim.Native.Nat.{_+_, _-_, _≤_}
@@ -7,8 +7,8 @@ use borrow.Author.Needs.{needs}
 use lib.ListN.{length, drop}
 use Rattle.listing.specs.Reader.{State, fed}
 use Rattle.listing.proofs.Fed.{fed-next, fed-end}
-use Rattle.listing.proofs.reader.feed.Statement.{statement}
-use Rattle.listing.proofs.reader.feed.Tie as tie
+use Rattle.listing.proofs.text.feed.Statement.{statement}
+use Rattle.listing.proofs.text.feed.Tie as tie
 
 abbrev Inv-loop : tie.InvT-loop
 Inv-loop chunk arguments₀ r₀ k₀ k-end arguments r k =

@@ -55,9 +55,9 @@ MidpointOver y r x = num x * (2 * (den y * den r)) * (2 * (den y * den r)) < (nu
 -- a polynomial in w = x y y near 1 / √w
 abbrev pub towardOne : Float → Float
 towardOne w =
-    ofBits binary64 0x4005_de50_112a_652c ⊖ ofBits binary64 0x4012_9390_019c_287b ⊗ w -- 2.733551153284358, 4.6441040278970105
-    ⊕ w ⊗ w ⊗ (ofBits binary64 0x4016_b69a_203c_baa9 ⊖ ofBits binary64 0x4010_85fe_9a69_0e86 ⊗ w -- 5.678322318750966, 4.130854046499399
-    ⊕ w ⊗ w ⊗ (ofBits binary64 0x3ffa_2a9a_cd56_1fa0 ⊖ ofBits binary64 0x3fd1_6da4_022b_5992 ⊗ w)) -- 1.6354015370325001, 0.27231693469857376
+    ofBits binary64 0x4005_de50_112a_652c ⊖ ofBits binary64 0x4012_9390_019c_287b ⊗ w  -- 2.733551153284358, 4.6441040278970105
+    ⊕ w ⊗ w ⊗ (ofBits binary64 0x4016_b69a_203c_baa9 ⊖ ofBits binary64 0x4010_85fe_9a69_0e86 ⊗ w  -- 5.678322318750966, 4.130854046499399
+    ⊕ w ⊗ w ⊗ (ofBits binary64 0x3ffa_2a9a_cd56_1fa0 ⊖ ofBits binary64 0x3fd1_6da4_022b_5992 ⊗ w))  -- 1.6354015370325001, 0.27231693469857376
 
 -- the leading digits of g, by 2 ^ 27 + 1
 abbrev pub leading : Float → Float
@@ -71,5 +71,5 @@ abbrev pub guessed : Float → Float → Float
 guessed x y =
     let p = towardOne (x ⊗ y ⊗ y) in
     let top = leading (x ⊗ y ⊗ p) in
-    let half = ofBits binary64 0x3fe0_0000_0000_0000 ⊗ y ⊗ p in -- 0.5
+    let half = ofBits binary64 0x3fe0_0000_0000_0000 ⊗ y ⊗ p in  -- 0.5
     stepped ((x ⊖ top ⊗ top) ⊗ half) top half

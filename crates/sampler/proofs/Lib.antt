@@ -1,5 +1,9 @@
 -- The laws of the sampler, a file for each subject.
 pub mod AtLaws
+pub mod CubicError
+pub mod CubicExact
+pub mod CubicKernel
+pub mod CubicPieces
 pub mod IndexCode
 pub mod IndexLaws
 pub mod NamedCode
@@ -7,3 +11,5 @@ pub mod NamedExamples
 pub mod NamedLaws
 pub mod PixelCode
 pub mod StoreLaws
+pub mod WeightedFinite
+pub mod WeightedOpaque

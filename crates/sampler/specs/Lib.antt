@@ -1,8 +1,11 @@
 -- The definitions of the sampler, a file for each module of src/.
 pub mod At
 pub mod Colour
+pub mod Cubic
 pub mod Index
+pub mod Mitchell
 pub mod Named
 pub mod Pixel
 pub mod Random
 pub mod Store
+pub mod Weighted

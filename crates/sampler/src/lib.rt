@@ -2,8 +2,10 @@
 // row, and nothing is converted up front.
 pub mod at;
 pub mod colour;
+pub mod cubic;
 pub mod index;
 pub mod named;
 pub mod pixel;
 pub mod random;
 pub mod store;
+pub mod weighted;

@@ -1,5 +1,6 @@
 -- The laws of the sampler, a file for each subject.
 pub mod AtLaws
+pub mod CellLaws
 pub mod CubicError
 pub mod CubicExact
 pub mod CubicKernel

@@ -1,6 +1,6 @@
 -- The first column of the taps is a small number: a coordinate that is reached lies in the floor's domain, and so does the coordinate
 -- plus 0.5, since half an ulp there is tiny; a floor there is at most 2^31 in size, and one is taken from it at most.
--- Provides: `reached-number`, `reached-domain`, `rounded-domain`, `floor-small`, `rounded-small`, `first-small`; `first-plain` (the codes); `moved-small`, `before-small` (an index plus or less a few). Assumes nothing.
+-- Provides: `reached-number`, `reached-domain`, `rounded-domain`, `floor-small`, `rounded-small`, `first-small`; `moved-small`, `before-small` (an index plus or less a few). Assumes nothing.
 use mathlib.Core.Path.{_≡_, refl, sym, ap, _∙_, subst}
 use mathlib.Core.Bool.{Bool, true, false, cond}
 use Prim.Native.Nat.{ℕ, zero, suc, _+_, _-_, _*_, _^_, _≤_, _<_}
@@ -28,7 +28,7 @@ use Rattle.number.specs.Magnitude.{abs, within}
 use Rattle.number.proofs.FloorLaws.{floor-size, floor-integer}
 use Rattle.number.proofs.MagnitudeLaws.{abs-limited}
 use Rattle.sampler.specs.Cell.{reach, Reached, rounded, first}
-use Rattle.sampler.specs.Interpolation.{Interpolation, Integer, Nearest, Average, Average9, Average16, Bilinear, Catrom, Spline, Background, interpolation}
+use Rattle.sampler.specs.Interpolation.{Interpolation, Integer, Nearest, Average, Average9, Average16, Bilinear, Catrom, Spline, Background}
 use Rattle.sampler.proofs.WeightedFinite.{abs-magnitude}
 
 -- ---- what a coordinate that is reached is
@@ -127,18 +127,3 @@ first-small Bilinear x h = more (floor-small x h)
 first-small Catrom x h = before-small (floorI64 x) (floor-small x h)
 first-small Spline x h = before-small (floorI64 x) (floor-small x h)
 first-small Background x h = more (floor-small x h)
-
--- ---- the codes
--- a code that is none of those that round or step back
-pub first-plain : (code : ℕ) (x : Float) → (code ≡ 1 → ⊥) → (code ≡ 3 → ⊥) → (code ≡ 4 → ⊥) → (code ≡ 6 → ⊥) → (code ≡ 7 → ⊥) → first (interpolation code) x ≡ floorI64 x
-unfolding interpolation
-first-plain zero x a b c d e = refl
-first-plain (suc zero) x a b c d e = absurd (a refl)
-first-plain (suc (suc zero)) x a b c d e = refl
-first-plain (suc (suc (suc zero))) x a b c d e = absurd (b refl)
-first-plain (suc (suc (suc (suc zero)))) x a b c d e = absurd (c refl)
-first-plain (suc (suc (suc (suc (suc zero))))) x a b c d e = refl
-first-plain (suc (suc (suc (suc (suc (suc zero)))))) x a b c d e = absurd (d refl)
-first-plain (suc (suc (suc (suc (suc (suc (suc zero))))))) x a b c d e = absurd (e refl)
-first-plain (suc (suc (suc (suc (suc (suc (suc (suc zero)))))))) x a b c d e = refl
-first-plain (suc (suc (suc (suc (suc (suc (suc (suc (suc n))))))))) x a b c d e = refl

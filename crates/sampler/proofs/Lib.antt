@@ -7,10 +7,13 @@ pub mod CubicKernel
 pub mod CubicPieces
 pub mod IndexCode
 pub mod IndexLaws
+pub mod InterpolationCode
 pub mod NamedCode
 pub mod NamedExamples
 pub mod NamedLaws
 pub mod PixelCode
+pub mod SignedCode
 pub mod StoreLaws
+pub mod TapsLaws
 pub mod WeightedFinite
 pub mod WeightedOpaque

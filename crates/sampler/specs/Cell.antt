@@ -8,7 +8,6 @@ use Rattle.number.specs.Floor.{floorI64, floorF64}
 use Rattle.number.specs.Magnitude.{within}
 use Rattle.number.specs.Narrow.{narrow}
 use Rattle.sampler.specs.Interpolation.{Interpolation, Integer, Nearest, Average, Average9, Average16, Bilinear, Catrom, Spline, Background}
-use Rattle.sampler.specs.declared.cell.Cell.{Cell}
 
 -- the coordinates that a usable source point leads to: at most 2^30 + 1 in magnitude
 abbrev pub reach : Float
@@ -36,6 +35,11 @@ first Bilinear x = floorI64 x
 first Catrom x = floorI64 x -ℤ pos 1
 first Spline x = floorI64 x -ℤ pos 1
 first Background x = floorI64 x
+
+-- the pair of whole numbers from which the taps are placed
+pub record Cell : Type 0 where
+  pub column : ℤ
+  pub row : ℤ
 
 abbrev pub cell : Interpolation → Float → Float → Cell
 cell i x y = record { column = first i x; row = first i y }

@@ -4,12 +4,11 @@ use Prim.Native.Nat.{ℕ}
 use mathlib.Core.List.{List}
 use lib.Ieee.{Float}
 use Rattle.sampler.specs.At.{at}
-use Rattle.sampler.specs.Cell.{cell, fraction}
+use Rattle.sampler.specs.Cell.{Cell, cell, fraction}
 use Rattle.sampler.specs.Interpolation.{Interpolation, Integer, Nearest, Average, Average9, Average16, Bilinear, Catrom, Spline, Background, interpolation}
 use Rattle.sampler.specs.Taps.{Plane, side, count, taps}
 use Rattle.sampler.specs.Weighted.{weighted}
 use Rattle.sampler.specs.Weights.{weights}
-use Rattle.sampler.specs.declared.cell.Cell.{Cell}
 use Rattle.sampler.specs.declared.colour.Rgba.{Rgba}
 
 -- the tap at the cell itself

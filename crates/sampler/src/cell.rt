@@ -4,17 +4,11 @@ ghost use mathlib.Core.Path.{_≡_};
 ghost use Prim.Native.Nat.{_≤_};
 ghost use lib.IntN.{pos, _+ℤ_, _-ℤ_};
 ghost use lib.Signed.{mag};
-ghost use Rattle.sampler.specs.Cell.{Reached, fraction, rounded, first, cell};
+ghost use Rattle.sampler.specs.Cell.{Reached, fraction, rounded, first};
 ghost use Rattle.sampler.specs.Interpolation.{interpolation};
 use number::floor::floor;
 use number::floor::floor_i64;
 use number::narrow::narrow;
-
-// The first column and row that taps come from.
-pub struct Cell {
-    pub column: i64,
-    pub row: i64,
-}
 
 // How far the point lies beyond the whole number below it. It can round to 1.
 pub fn fraction(x: f64) -> f32
@@ -36,8 +30,9 @@ fn before(v: i64) -> i64
     v - 1
 }
 
-// The codes count from 0 in the order of the Rust's `PixelInterpolate`.
-fn first(code: u64, x: f64) -> i64
+// The first of the columns, or of the rows, that taps come from: both together are the cell. The codes count from 0 in the order of
+// the Rust's `PixelInterpolate`.
+pub fn first(code: u64, x: f64) -> i64
     requires { ⌜ Reached x ⌝ }
     ensures { λ r. ⌜ r ≡ first (interpolation code) x ⌝ }
 {
@@ -48,15 +43,5 @@ fn first(code: u64, x: f64) -> i64
         6 => before(floor_i64(x)),
         7 => before(floor_i64(x)),
         _ => floor_i64(x),
-    }
-}
-
-pub fn cell_of(code: u64, x: f64, y: f64) -> Cell
-    requires { ⌜ Reached x × Reached y ⌝ }
-    ensures { λ r. ⌜ r ≡ cell (interpolation code) x y ⌝ }
-{
-    Cell {
-        column: first(code, x),
-        row: first(code, y),
     }
 }

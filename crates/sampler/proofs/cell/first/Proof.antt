@@ -1,26 +1,19 @@
 -- `sampler::cell::first` meets its contract: an arm for each code that rounds or steps back, and the floor for the others. Assumes nothing.
-use mathlib.Core.Path.{_≡_, sym, ap, _∙_, subst}
-use Prim.Native.Nat.{ℕ, _^_, _≤_, _<_}
+use mathlib.Core.Path.{_≡_, sym, ap, _∙_}
+use Prim.Native.Nat.{_^_, _<_}
 use lib.IntN.{ℤ, pos, _-ℤ_}
 use lib.Signed.{mag}
 use mir.Syntax.{w64}
 use mir.Val.{ofZ, toZ}
-use mir.Facts.{toZ-ofZ}
 use Rattle.sampler.specs.Interpolation.{interpolation}
-use Rattle.sampler.proofs.CellLaws.{floor-small, rounded-small, first-plain}
+use Rattle.sampler.proofs.CellLaws.{floor-small, rounded-small}
+use Rattle.sampler.proofs.InterpolationCode.{first-plain}
+use Rattle.sampler.proofs.SignedCode.{again, asked}
 use borrow.Author.Needs.{needs}
 use Rattle.sampler.proofs.cell.first.Statement.{statement}
 use Rattle.sampler.proofs.cell.first.Tie as tie
 
--- a call's result, read back from its bits
-again : (z : ℤ) {y : ℤ} → mag z < 2 ^ 63 → z ≡ y → toZ w64 (ofZ w64 z) ≡ y
-again z f e = toZ-ofZ {w = w64} (record { sfits = f }) ∙ e
-
--- as the index that `before` is asked at
-asked : (z : ℤ) {y : ℤ} → mag z < 2 ^ 63 → z ≡ y → mag y ≤ 2147483648 → mag (toZ w64 (ofZ w64 z)) ≤ 2147483648
-asked z f e h = subst (λ (v : ℤ). mag v ≤ 2147483648) (sym (again z f e)) h
-
--- and what comes of it
+-- the index before a call's result
 step : (r z : ℤ) {y : ℤ} → mag r < 2 ^ 63 → mag z < 2 ^ 63 → z ≡ y → r ≡ toZ w64 (ofZ w64 z) -ℤ pos 1 → toZ w64 (ofZ w64 r) ≡ y -ℤ pos 1
 step r z g f e h = again r g (h ∙ ap (λ (v : ℤ). v -ℤ pos 1) (again z f e))
 
@@ -31,25 +24,25 @@ rounded-requires-2 : tie.Need-rounded-requires-2
 rounded-requires-2 c κs = search needs
 
 before-requires : tie.Need-before-requires
-before-requires c κs = asked (c .rounded2 .result) (c .rounded2 .ok) (c .rounded2 .ensures) (rounded-small _ (c .before .before .pre))
+before-requires c κs = asked 2147483648 (c .rounded2 .result) (c .rounded2 .ok) (c .rounded2 .ensures) (rounded-small _ (c .before .before .pre))
 
 floor-i64-requires : tie.Need-floor-i64-requires
 floor-i64-requires c κs = search needs
 
 before-requires-2 : tie.Need-before-requires-2
-before-requires-2 c κs = asked (c .floor-i64 .result) (c .floor-i64 .ok) (c .floor-i64 .ensures) (floor-small _ (c .before .before .pre))
+before-requires-2 c κs = asked 2147483648 (c .floor-i64 .result) (c .floor-i64 .ok) (c .floor-i64 .ensures) (floor-small _ (c .before .before .pre))
 
 floor-i64-requires-2 : tie.Need-floor-i64-requires-2
 floor-i64-requires-2 c κs = search needs
 
 before-requires-3 : tie.Need-before-requires-3
-before-requires-3 c κs = asked (c .floor-i642 .result) (c .floor-i642 .ok) (c .floor-i642 .ensures) (floor-small _ (c .before .before .pre))
+before-requires-3 c κs = asked 2147483648 (c .floor-i642 .result) (c .floor-i642 .ok) (c .floor-i642 .ensures) (floor-small _ (c .before .before .pre))
 
 floor-i64-requires-3 : tie.Need-floor-i64-requires-3
 floor-i64-requires-3 c κs = search needs
 
 before-requires-4 : tie.Need-before-requires-4
-before-requires-4 c κs = asked (c .floor-i643 .result) (c .floor-i643 .ok) (c .floor-i643 .ensures) (floor-small _ (c .before .before .pre))
+before-requires-4 c κs = asked 2147483648 (c .floor-i643 .result) (c .floor-i643 .ok) (c .floor-i643 .ensures) (floor-small _ (c .before .before .pre))
 
 floor-i64-requires-4 : tie.Need-floor-i64-requires-4
 floor-i64-requires-4 c κs = search needs
@@ -75,9 +68,7 @@ unfolding interpolation
 returns-5 c = rw (c .before .before .match .keys5) (step (c .before5 .result) (c .before .floor-i643 .result) (c .before5 .ok) (c .before .floor-i643 .ok) (c .before .floor-i643 .ensures) (c .before5 .ensures))
 
 returns-6 : tie.Need-returns-6
-returns-6 c =
-    let n = c .before .match .rest in
-    again (c .floor-i644 .result) (c .floor-i644 .ok) (c .floor-i644 .ensures ∙ sym (first-plain _ _ (n .0 .0 .0 .0 .1) (n .0 .0 .0 .1) (n .0 .0 .1) (n .0 .1) (n .1)))
+returns-6 c = again (c .floor-i644 .result) (c .floor-i644 .ok) (c .floor-i644 .ensures ∙ sym (first-plain _ _ (c .before .match .rest)))
 
 pub first-spec : {M : Type 1} → statement M
 first-spec =

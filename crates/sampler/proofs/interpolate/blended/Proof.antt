@@ -1,14 +1,12 @@
-use mathlib.Core.Path.{_≡_, refl, sym, ap, _∙_}
-use Prim.Native.Nat.{ℕ, _+_, _-_, _≤_, _<_}
-use native.Mathlib.Omega.{arith}
+-- `sampler::interpolate::blended` meets its contract: a loop over four taps is the sums written out. Assumes nothing.
+use mathlib.Core.Path.{sym, ap, _∙_}
+use mathlib.Core.List.{[], _∷_}
+use Rattle.sampler.specs.Weighted.{mean, weighted}
+use Rattle.sampler.specs.Weights.{corners}
+use Rattle.sampler.proofs.WeightedOpaque.{summed-four}
 use borrow.Author.Needs.{needs}
 use Rattle.sampler.proofs.interpolate.blended.Statement.{statement}
 use Rattle.sampler.proofs.interpolate.blended.Tie as tie
-use Rattle.sampler.proofs.interpolate.blended.Reads as reads
-use Rattle.sampler.proofs.interpolate.blended.Lts as lts
-use Rattle.sampler.proofs.weighted.added.Reads as added-reads
-use Rattle.sampler.proofs.weighted.mean.Reads as mean-reads
-use Rattle.sampler.proofs.weighted.nothing.Reads as nothing-reads
 
 nothing-requires : tie.Need-nothing-requires
 nothing-requires c κs = search needs
@@ -29,7 +27,11 @@ mean-requires : tie.Need-mean-requires
 mean-requires c κs = search needs
 
 returns : tie.Need-returns
-returns c = search needs
+unfolding weighted
+returns c =
+    let a = c .before .before .before .before .before .before .args in
+    rw (c .mean .ensures, c .before .added4 .ensures, c .before .before .added3 .ensures, c .before .before .before .added2 .ensures, c .before .before .before .before .added .ensures, c .before .before .before .before .before .nothing .ensures)
+    (sym (ap mean (summed-four (a .a ∷ a .b ∷ a .c ∷ a .d ∷ []) (corners (a .tx) (a .ty)))))
 
 pub blended-spec : {M : Type 1} → statement M
 blended-spec =

@@ -41,10 +41,8 @@ fn square(
     requires { ⌜ Picture (now picture) width height channels ⌝ }
     requires { ⌜ (mag column ≤ 2147483649) × (mag row ≤ 2147483649) ⌝ }
     requires { ⌜ (0 < n) × (n ≤ 4) ⌝ }
-    ensures {
-        λ r.
-        ⌜ r ≡ weighted (taps (at (now (picture .entry)) width height channels policy background) (record { column = column; row = row }) n) w (n * n) ⌝
-    }
+    ensures { λ r.
+        ⌜ r ≡ weighted (taps (at (now (picture .entry)) width height channels policy background) (record { column = column; row = row }) n) w (n * n) ⌝ }
 {
     let mut s = nothing();
     let count = n * n;
@@ -84,10 +82,8 @@ fn several(
     requires { ⌜ Picture (now picture) width height channels ⌝ }
     requires { ⌜ Reached x × Reached y ⌝ }
     requires { ⌜ 0 < side (interpolation code) ⌝ }
-    ensures {
-        λ r.
-        ⌜ r ≡ Interpolate.several (interpolation code) (at (now (picture .entry)) width height channels policy background) x y ⌝
-    }
+    ensures { λ r.
+        ⌜ r ≡ Interpolate.several (interpolation code) (at (now (picture .entry)) width height channels policy background) x y ⌝ }
 {
     square(
         picture,
@@ -126,10 +122,8 @@ fn inside(
 ) -> Rgba
     requires { ⌜ Picture (now picture) width height channels ⌝ }
     requires { ⌜ (i + 1 < width) × (j + 1 < height) ⌝ }
-    ensures {
-        λ r.
-        ⌜ r ≡ weighted (pixelAt (now (picture .entry)) width channels i j ∷ pixelAt (now (picture .entry)) width channels (i + 1) j ∷ pixelAt (now (picture .entry)) width channels i (j + 1) ∷ pixelAt (now (picture .entry)) width channels (i + 1) (j + 1) ∷ []) (corners tx ty) 4 ⌝
-    }
+    ensures { λ r.
+        ⌜ r ≡ weighted (pixelAt (now (picture .entry)) width channels i j ∷ pixelAt (now (picture .entry)) width channels (i + 1) j ∷ pixelAt (now (picture .entry)) width channels i (j + 1) ∷ pixelAt (now (picture .entry)) width channels (i + 1) (j + 1) ∷ []) (corners tx ty) 4 ⌝ }
 {
     blended(
         pixel(picture, width, channels, i, j),
@@ -156,23 +150,57 @@ fn anywhere(
 ) -> Rgba
     requires { ⌜ Picture (now picture) width height channels ⌝ }
     requires { ⌜ (mag column ≤ 2147483649) × (mag row ≤ 2147483649) ⌝ }
-    ensures {
-        λ r.
-        ⌜ r ≡ weighted (taps (at (now (picture .entry)) width height channels policy background) (record { column = column; row = row }) 2) (weights Bilinear tx ty) 4 ⌝
-    }
+    ensures { λ r.
+        ⌜ r ≡ weighted (taps (at (now (picture .entry)) width height channels policy background) (record { column = column; row = row }) 2) (weights Bilinear tx ty) 4 ⌝ }
 {
     blended(
         tap(
-            picture, width, height, channels, policy, background, column, row, 2, 0,
+            picture,
+            width,
+            height,
+            channels,
+            policy,
+            background,
+            column,
+            row,
+            2,
+            0,
         ),
         tap(
-            picture, width, height, channels, policy, background, column, row, 2, 1,
+            picture,
+            width,
+            height,
+            channels,
+            policy,
+            background,
+            column,
+            row,
+            2,
+            1,
         ),
         tap(
-            picture, width, height, channels, policy, background, column, row, 2, 2,
+            picture,
+            width,
+            height,
+            channels,
+            policy,
+            background,
+            column,
+            row,
+            2,
+            2,
         ),
         tap(
-            picture, width, height, channels, policy, background, column, row, 2, 3,
+            picture,
+            width,
+            height,
+            channels,
+            policy,
+            background,
+            column,
+            row,
+            2,
+            3,
         ),
         tx,
         ty,
@@ -194,10 +222,8 @@ fn around(
 ) -> Rgba
     requires { ⌜ Picture (now picture) width height channels ⌝ }
     requires { ⌜ (mag column ≤ 2147483649) × (mag row ≤ 2147483649) ⌝ }
-    ensures {
-        λ r.
-        ⌜ r ≡ weighted (taps (at (now (picture .entry)) width height channels policy background) (record { column = column; row = row }) 2) (weights Bilinear tx ty) 4 ⌝
-    }
+    ensures { λ r.
+        ⌜ r ≡ weighted (taps (at (now (picture .entry)) width height channels policy background) (record { column = column; row = row }) 2) (weights Bilinear tx ty) 4 ⌝ }
 {
     let i = bits_of_i64(column);
     let j = bits_of_i64(row);
@@ -205,7 +231,16 @@ fn around(
         return inside(picture, width, height, channels, i, j, tx, ty);
     }
     anywhere(
-        picture, width, height, channels, policy, background, column, row, tx, ty,
+        picture,
+        width,
+        height,
+        channels,
+        policy,
+        background,
+        column,
+        row,
+        tx,
+        ty,
     )
 }
 
@@ -221,10 +256,8 @@ fn bilinear(
 ) -> Rgba
     requires { ⌜ Picture (now picture) width height channels ⌝ }
     requires { ⌜ Reached x × Reached y ⌝ }
-    ensures {
-        λ r.
-        ⌜ r ≡ Interpolate.several Bilinear (at (now (picture .entry)) width height channels policy background) x y ⌝
-    }
+    ensures { λ r.
+        ⌜ r ≡ Interpolate.several Bilinear (at (now (picture .entry)) width height channels policy background) x y ⌝ }
 {
     around(
         picture,
@@ -254,10 +287,8 @@ fn single(
 ) -> Rgba
     requires { ⌜ Picture (now picture) width height channels ⌝ }
     requires { ⌜ Reached x × Reached y ⌝ }
-    ensures {
-        λ r.
-        ⌜ r ≡ Interpolate.single (at (now (picture .entry)) width height channels policy background) (cell (interpolation code) x y) ⌝
-    }
+    ensures { λ r.
+        ⌜ r ≡ Interpolate.single (at (now (picture .entry)) width height channels policy background) (cell (interpolation code) x y) ⌝ }
 {
     at(
         picture,
@@ -288,28 +319,82 @@ pub fn interpolate(
 {
     match code {
         0 => single(
-            picture, width, height, channels, policy, code, background, x, y,
+            picture,
+            width,
+            height,
+            channels,
+            policy,
+            code,
+            background,
+            x,
+            y,
         ),
         1 => single(
-            picture, width, height, channels, policy, code, background, x, y,
+            picture,
+            width,
+            height,
+            channels,
+            policy,
+            code,
+            background,
+            x,
+            y,
         ),
         2 => several(
-            picture, width, height, channels, policy, code, background, x, y,
+            picture,
+            width,
+            height,
+            channels,
+            policy,
+            code,
+            background,
+            x,
+            y,
         ),
         3 => several(
-            picture, width, height, channels, policy, code, background, x, y,
+            picture,
+            width,
+            height,
+            channels,
+            policy,
+            code,
+            background,
+            x,
+            y,
         ),
         4 => several(
-            picture, width, height, channels, policy, code, background, x, y,
+            picture,
+            width,
+            height,
+            channels,
+            policy,
+            code,
+            background,
+            x,
+            y,
         ),
-        5 => bilinear(
-            picture, width, height, channels, policy, background, x, y,
-        ),
+        5 => bilinear(picture, width, height, channels, policy, background, x, y),
         6 => several(
-            picture, width, height, channels, policy, code, background, x, y,
+            picture,
+            width,
+            height,
+            channels,
+            policy,
+            code,
+            background,
+            x,
+            y,
         ),
         7 => several(
-            picture, width, height, channels, policy, code, background, x, y,
+            picture,
+            width,
+            height,
+            channels,
+            policy,
+            code,
+            background,
+            x,
+            y,
         ),
         _ => background,
     }

@@ -1,6 +1,7 @@
 -- `sampler::interpolate::several` meets its contract: the cell, the taps and the weights are the definition's, one call after the other. Assumes nothing.
 use mathlib.Core.Path.{_≡_, sym, _∙_, subst}
 use Prim.Native.Nat.{ℕ, _≤_, _<_}
+use Rattle.sampler.specs.Interpolation.{interpolation}
 use Rattle.sampler.proofs.CellLaws.{first-small}
 use Rattle.sampler.proofs.SignedCode.{again, asked}
 use Rattle.sampler.proofs.TapsLaws.{side-small}
@@ -32,10 +33,10 @@ square-requires c κs =
       search needs,
       (
         (
-          asked 2147483649 (c .before .before .before .before .before .first .result) (c .before .before .before .before .before .first .ok) (c .before .before .before .before .before .first .ensures) (first-small _ _ (search needs)),
-          asked 2147483649 (c .before .before .before .before .first2 .result) (c .before .before .before .before .first2 .ok) (c .before .before .before .before .first2 .ensures) (first-small _ _ (search needs)),
+          asked 2147483649 (c .before .before .before .before .before .first .result) (c .before .before .before .before .before .first .ok) (c .before .before .before .before .before .first .ensures) (first-small (interpolation (a .args .code)) (a .args .x) (search needs)),
+          asked 2147483649 (c .before .before .before .before .first2 .result) (c .before .before .before .before .first2 .ok) (c .before .before .before .before .first2 .ensures) (first-small (interpolation (a .args .code)) (a .args .y) (search needs)),
         ),
-        (subst (λ (n : ℕ). 0 < n) (sym (c .before .before .before .side .ensures)) (search needs), subst (λ (n : ℕ). n ≤ 4) (sym (c .before .before .before .side .ensures)) (side-small _)),
+        (subst (λ (n : ℕ). 0 < n) (sym (c .before .before .before .side .ensures)) (search needs), subst (λ (n : ℕ). n ≤ 4) (sym (c .before .before .before .side .ensures)) (side-small (interpolation (a .args .code)))),
       ),
     )
 

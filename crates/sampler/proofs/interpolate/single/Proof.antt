@@ -1,13 +1,9 @@
-use mathlib.Core.Path.{_≡_, refl, sym, ap, _∙_}
-use Prim.Native.Nat.{ℕ, _+_, _-_, _≤_, _<_}
-use native.Mathlib.Omega.{arith}
+-- `sampler::interpolate::single` meets its contract: the tap at the cell itself. Assumes nothing.
+use mathlib.Core.Path.{_∙_}
+use Rattle.sampler.proofs.SignedCode.{again}
 use borrow.Author.Needs.{needs}
 use Rattle.sampler.proofs.interpolate.single.Statement.{statement}
 use Rattle.sampler.proofs.interpolate.single.Tie as tie
-use Rattle.sampler.proofs.interpolate.single.Reads as reads
-use Rattle.sampler.proofs.interpolate.single.Lts as lts
-use Rattle.sampler.proofs.at.at.Reads as at-reads
-use Rattle.sampler.proofs.cell.first.Reads as first-reads
 
 first-requires : tie.Need-first-requires
 first-requires c κs = search needs
@@ -19,7 +15,9 @@ at-requires : tie.Need-at-requires
 at-requires c κs = search needs
 
 returns : tie.Need-returns
-returns c = search needs
+returns c =
+    c .at .ensures
+    ∙ rw (again (c .before .before .first .result) (c .before .before .first .ok) (c .before .before .first .ensures), again (c .before .first2 .result) (c .before .first2 .ok) (c .before .first2 .ensures))
 
 pub single-spec : {M : Type 1} → statement M
 single-spec = tie.close (tie.spec first-requires first-requires-2 at-requires returns)

@@ -29,7 +29,7 @@ use Rattle.number.proofs.FloorLaws.{floor-size, floor-integer}
 use Rattle.number.proofs.MagnitudeLaws.{abs-limited}
 use Rattle.sampler.specs.Cell.{reach, Reached, rounded, first}
 use Rattle.sampler.specs.Interpolation.{Interpolation, Integer, Nearest, Average, Average9, Average16, Bilinear, Catrom, Spline, Background}
-use Rattle.sampler.proofs.WeightedFinite.{abs-magnitude}
+use Rattle.sampler.proofs.Sizes.{abs-magnitude}
 
 -- ---- what a coordinate that is reached is
 reach-number : T (finite reach)

@@ -1,23 +1,22 @@
 -- The cubic weights lie within 1 / 65,536 of the formula: the argument of the kernel is rounded once and stays on its side of 1 and of 2, the exact piece there moves by at most
 -- 144 times the argument's error, and the kernel's own roundings cost 41 parts of 2 ^ -22 (of the 64 that are 1 / 65,536).
--- Provides: `within-abs`, `piece-near`, `piece-far` (how far the pieces move), `argument-near`, `argument-far`, `weights-near` (the law, for both kernels: `catrom-near`,
--- `spline-near`). Assumes nothing.
-use mathlib.Core.Path.{_≡_, refl}
+-- Provides: `argument-near`, `argument-far`; `plus-one`, `less-one`, `less-two`, `one-more`, `one-less`, `two-less` (the arguments, exact and rounded); `weights-near`, the law, and for the two
+-- kernels `catrom-near`, `spline-near`. Assumes nothing.
+use mathlib.Core.Path.{refl}
 use mathlib.Core.List.{[], _∷_}
-use mathlib.Core.Logic.{_⊎_, inl, inr}
-use Prim.Native.Nat.{ℕ, _+_, _*_, _^_, _≤_, _<_}
+use Prim.Native.Nat.{ℕ, _*_, _^_}
 use native.Mathlib.Omega.{arith}
 use lib.Dec.{T, lit≤}
-use lib.Ieee.{Float, binary32, ofBits, fits}
+use lib.Ieee.{Float, binary32, ofBits}
 use lib.Ieee.Scale.{finite}
 use Rattle.exact.specs.Fraction.{Fraction, frac, value, _≤F_, _≈_, negF, _+F_, _-F_, _*F_, absF, Within, Unit01}
 use Rattle.exact.specs.Rounds.{Rounds, Close, power}
 use Rattle.exact.specs.Single.{_⊕_, _⊖_}
 use Rattle.exact.specs.Weighted.{Unit32}
 use Rattle.exact.proofs.Scale.{At, at-le, le-at, at-neg, at-add, at-sub, common}
-use Rattle.exact.proofs.Near.{at-abs, within-at, at-within, le-refl, le-trans, add-same, within-same, within-sym, within-more, within-trans, within-add}
+use Rattle.exact.proofs.Near.{le-refl, le-trans, add-same, within-sym, within-more, within-trans}
 use Rattle.exact.proofs.Products.{eq-refl, back, at-zero, at-one, add-zero, le-same, sub-same}
-use Rattle.exact.proofs.NearProducts.{at-abs-le, abs-open, abs-unit, abs-self, abs-nonneg, abs-near, abs-mul, mul-within, within-like, within-mul, within-scale}
+use Rattle.exact.proofs.NearProducts.{at-abs-le, abs-open, abs-unit, abs-self, abs-nonneg, abs-near, within-like, within-scale}
 use Rattle.exact.proofs.Rounds.{rounds-along}
 use Rattle.exact.proofs.Monotone.{rounds-own}
 use Rattle.exact.proofs.Operations.{add-rounds, sub-rounds}
@@ -26,56 +25,11 @@ use Rattle.exact.proofs.Samples.{one-number, one-value}
 use Rattle.exact.proofs.Ranges.{abs-grow, rounds-least}
 use Rattle.sampler.specs.Colour.{one}
 use Rattle.sampler.specs.Cubic.{two, kernel, cubicWeights, catrom, spline}
-use Rattle.sampler.specs.Mitchell.{withoutLinearF, withLinearF, near3, near2, near0, nearF, far3, far2, far1, far0, farF, mitchell, exactWeights, cubicError, NearTo, NearEach}
+use Rattle.sampler.specs.Mitchell.{near3, near2, near0, nearF, far3, far2, far1, far0, farF, mitchell, exactWeights, cubicError, NearTo, NearEach}
 use Rattle.sampler.proofs.CubicExact.{mitchell-near, mitchell-far}
 use Rattle.sampler.proofs.CubicPieces.{parts}
 use Rattle.sampler.proofs.CubicKernel.{Coefficients, catrom-coefficients, spline-coefficients, kernel-close}
-
--- ---- magnitudes are no further apart
-pub within-abs : (x y e : Fraction) → Within x y e → Within (absF x) (absF y) e
-within-abs x y e h =
-    common (x ∷ y ∷ e ∷ []) (λ D D0 ((_, _, X), ((_, _, Y), ((_, _, E), _))). let w = within-at D D0 X Y E h in go D D0 (w .0) (w .1) E (at-abs x X) (at-abs y Y))
-  where
-    go : (D : ℕ) → 0 < D → {p n q m r s : ℕ} → p + m + s ≤ q + n + r → q + n + s ≤ p + m + r → At D e r s → (At D (absF x) p n × (n ≤ p)) ⊎ (At D (absF x) n p × (p ≤ n))
-        → (At D (absF y) q m × (m ≤ q)) ⊎ (At D (absF y) m q × (q ≤ m)) → Within (absF x) (absF y) e
-    go D D0 h k E (inl a) (inl b) = at-within D D0 (a .0) (b .0) E h k
-    go D D0 h k E (inl a) (inr b) = let u = a .1 in let w = b .1 in at-within D D0 (a .0) (b .0) E (omega arith) (omega arith)
-    go D D0 h k E (inr a) (inl b) = let u = a .1 in let w = b .1 in at-within D D0 (a .0) (b .0) E (omega arith) (omega arith)
-    go D D0 h k E (inr a) (inr b) = at-within D D0 (a .0) (b .0) E (omega arith) (omega arith)
-
--- ---- how far the pieces move: with magnitudes up to m that are e apart, and coefficients of at most p, q and r
-abbrev square-error : Fraction → Fraction → Fraction
-square-error e m = e *F m +F m *F e
-
-abbrev cube-error : Fraction → Fraction → Fraction
-cube-error e m = square-error e m *F m +F m *F m *F e
-
-abbrev near-error : Fraction → Fraction → Fraction → Fraction → Fraction
-near-error e m p q = p *F cube-error e m +F q *F square-error e m
-
-module _ (x y e m : Fraction) (hx : absF x ≤F m) (hy : absF y ≤F m) (w : Within x y e) where
-  square-near : Within (x *F x) (y *F y) (square-error e m)
-  square-near = within-mul x y x y e e m m hy hx w w
-
-  cube-near : Within (x *F x *F x) (y *F y *F y) (cube-error e m)
-  cube-near = within-mul (x *F x) (y *F y) x y (square-error e m) e (m *F m) m (abs-mul y y m m hy hy) hx square-near w
-
-  two-terms : (a b p q : Fraction) → absF a ≤F p → absF b ≤F q → Within (a *F (x *F x *F x) +F b *F (x *F x)) (a *F (y *F y *F y) +F b *F (y *F y)) (near-error e m p q)
-  two-terms a b p q ha hb =
-      within-add (a *F (x *F x *F x)) (a *F (y *F y *F y)) (b *F (x *F x)) (b *F (y *F y)) (p *F cube-error e m) (q *F square-error e m)
-      (mul-within (x *F x *F x) (y *F y *F y) (cube-error e m) a p ha cube-near) (mul-within (x *F x) (y *F y) (square-error e m) b q hb square-near)
-
-  same-term : (d : Fraction) → Within d d (frac 0 1)
-  same-term d = within-same d d (frac 0 1) (eq-refl d) (le-refl (frac 0 1) (frac 0 1))
-
-  pub piece-near : (a b d p q : Fraction) → absF a ≤F p → absF b ≤F q → Within (withoutLinearF a b d x) (withoutLinearF a b d y) (near-error e m p q +F frac 0 1)
-  piece-near a b d p q ha hb =
-      within-add (a *F (x *F x *F x) +F b *F (x *F x)) (a *F (y *F y *F y) +F b *F (y *F y)) d d (near-error e m p q) (frac 0 1) (two-terms a b p q ha hb) (same-term d)
-
-  pub piece-far : (a b c d p q r : Fraction) → absF a ≤F p → absF b ≤F q → absF c ≤F r → Within (withLinearF a b c d x) (withLinearF a b c d y) (near-error e m p q +F r *F e +F frac 0 1)
-  piece-far a b c d p q r ha hb hc =
-      within-add (a *F (x *F x *F x) +F b *F (x *F x) +F c *F x) (a *F (y *F y *F y) +F b *F (y *F y) +F c *F y) d d (near-error e m p q +F r *F e) (frac 0 1)
-      (within-add (a *F (x *F x *F x) +F b *F (x *F x)) (a *F (y *F y *F y) +F b *F (y *F y)) (c *F x) (c *F y) (near-error e m p q) (r *F e) (two-terms a b p q ha hb) (mul-within x y e c r hc w)) (same-term d)
+use Rattle.sampler.proofs.CubicMove.{within-abs, near-error, piece-near, piece-far}
 
 -- half an ulp up to 1 and up to 2, and what it moves the pieces
 abbrev near-gap : Fraction
@@ -142,7 +96,7 @@ module _ {b c : Float} {B C : Fraction} (K : Coefficients b c B C) {r : Float} {
 
 -- ---- the four arguments, at a fraction from 0 to 1
 module _ (t : Fraction) (u : Unit01 t) where
-  plus-one : (frac 1 1 ≤F absF (t +F frac 1 1)) × (absF (t +F frac 1 1) ≤F frac 2 1)
+  pub plus-one : (frac 1 1 ≤F absF (t +F frac 1 1)) × (absF (t +F frac 1 1) ≤F frac 2 1)
   plus-one =
       common (t ∷ [])
       (λ D D0 ((_, _, X), _).
@@ -156,7 +110,7 @@ module _ (t : Fraction) (u : Unit01 t) where
       at-two : (D : ℕ) → At D (frac 2 1) (2 * D) 0
       at-two D = record { at = omega arith }
 
-  less-one : absF (t -F frac 1 1) ≤F frac 1 1
+  pub less-one : absF (t -F frac 1 1) ≤F frac 1 1
   less-one =
       common (t ∷ [])
       (λ D D0 ((_, _, X), _).
@@ -164,7 +118,7 @@ module _ (t : Fraction) (u : Unit01 t) where
       let b = le-at D D0 X (at-one D) (u .1) in
       at-abs-le D D0 (at-sub X (at-one D)) (at-one D) (omega arith) (omega arith))
 
-  less-two : (frac 1 1 ≤F absF (t -F frac 2 1)) × (absF (t -F frac 2 1) ≤F frac 2 1)
+  pub less-two : (frac 1 1 ≤F absF (t -F frac 2 1)) × (absF (t -F frac 2 1) ≤F frac 2 1)
   less-two =
       common (t ∷ [])
       (λ D D0 ((_, _, X), _).

@@ -7,9 +7,9 @@ use Prim.Native.Nat.{ℕ, _+_, _*_}
 use native.Mathlib.Nat.{mul-pos, zero-lt-suc, lt-irrefl}
 use native.Mathlib.Omega.{arith}
 use lib.Dec.{T, ltb→lt, nltb→le, lt→ltb, lit<}
-use Rattle.exact.specs.Fraction.{Fraction, over, frac, _≤F_, _<F_, _≈_, negF, _+F_, _-F_, _*F_, absF}
-use Rattle.exact.proofs.Scale.{At, at-eq, at-ratio, at-more, at-neg, at-add, at-sub, at-mul, common}
-use Rattle.exact.proofs.Near.{le-refl, le-antisym, add-same}
+use Rattle.exact.specs.Fraction.{Fraction, over, frac, _≤F_, _<F_, _≈_, _+F_, _*F_, absF}
+use Rattle.exact.proofs.Scale.{At, at-eq, at-more, at-neg, at-add, at-sub, at-mul, common}
+use Rattle.exact.proofs.Near.{le-antisym, add-same}
 use Rattle.exact.proofs.Products.{eq-refl, _⨟_, back, at-zero, at-one, mul-same, lt-le-trans, le-lt-trans}
 use Rattle.sampler.specs.Mitchell.{lessF, times, withoutLinearF, withLinearF, near3, near2, near0, nearF, far3, far2, far1, far0, farF, mitchell}
 

@@ -1,18 +1,18 @@
 -- The code's kernel at a float x of at most 2 in magnitude: its tests are the exact ones, since the order of floats is that of their values, so both sides take the same piece,
 -- and the pieces' errors are divided by 6.
--- Provides: `Coefficients` (of one kernel: closed numbers), `catrom-coefficients`, `spline-coefficients`; `kernel-near` (within 6 parts below 1), `kernel-close` (within 41 parts up to 2).
+-- Provides: `Coefficients` (of one kernel: closed numbers), `catrom-coefficients`, `spline-coefficients`; `same-less` (the tests), `kernel-close` (within 41 parts up to 2).
 -- Assumes nothing.
 use mathlib.Core.Path.{_≡_, refl, sym, subst}
-use mathlib.Core.Bool.{Bool, true, false, not, cond}
-use Prim.Native.Nat.{ℕ, _^_}
-use lib.Dec.{T, lit≤, lit<}
+use mathlib.Core.Bool.{Bool, true, false, cond}
+use Prim.Native.Nat.{_^_}
+use lib.Dec.{T, lit≤}
 use lib.Ieee.{Float, binary32, neg, add, sub, sum, mul, round, ofBits, lt}
 use lib.Ieee.Scale.{finite}
-use Rattle.exact.specs.Fraction.{Fraction, frac, value, _≤F_, _<F_, _≈_, negF, _+F_, _-F_, _*F_, absF, distance, Within}
+use Rattle.exact.specs.Fraction.{Fraction, frac, value, _≤F_, _<F_, _≈_, negF, _+F_, _-F_, _*F_, absF, distance}
 use Rattle.exact.specs.Rounds.{Close}
 use Rattle.exact.specs.Single.{_⊕_, _⊖_, _⊗_, _⊘_}
-use Rattle.exact.proofs.Near.{le-refl, le-trans, lt-le, eq-le, within-same}
-use Rattle.exact.proofs.Products.{eq-refl, back, mul-same, le-same, lt-le-trans, le-lt-trans}
+use Rattle.exact.proofs.Near.{le-refl, le-trans, lt-le, eq-le}
+use Rattle.exact.proofs.Products.{eq-refl, back, mul-same, lt-le-trans, le-lt-trans}
 use Rattle.exact.proofs.Magnitude.{abs-alike}
 use Rattle.exact.proofs.NearProducts.{abs-self, abs-nonneg}
 use Rattle.exact.proofs.Operands.{same-test}
@@ -23,7 +23,7 @@ use Rattle.number.specs.Magnitude.{abs}
 use Rattle.sampler.specs.Colour.{zero, half, one}
 use Rattle.sampler.specs.Cubic.{two, six, eight, nine, twelve, eighteen, twentyFour, thirty, fortyEight, nearPiece, farPiece, pieces, kernel}
 use Rattle.sampler.specs.Mitchell.{lessF, near3, near2, near0, nearF, far3, far2, far1, far0, farF, mitchell}
-use Rattle.sampler.proofs.WeightedFinite.{abs-magnitude}
+use Rattle.sampler.proofs.Sizes.{abs-magnitude}
 use Rattle.sampler.proofs.CubicExact.{less-true, true-less, alike-near, alike-far}
 use Rattle.sampler.proofs.CubicPieces.{parts, near-close, far-close, sixth-close}
 
@@ -63,7 +63,7 @@ spline-coefficients = record {
 
 -- ---- the tests
 module _ (x : Float) (t : T (finite x)) where
-  same-less : (y : Float) → T (finite y) → (n : Fraction) → value y ≈ n → lt (abs x) y ≡ lessF (absF (value x)) n
+  pub same-less : (y : Float) → T (finite y) → (n : Fraction) → value y ≈ n → lt (abs x) y ≡ lessF (absF (value x)) n
   same-less y u n e =
       let m = abs-magnitude x t in
       same-test (lt (abs x) y) (lessF (absF (value x)) n)

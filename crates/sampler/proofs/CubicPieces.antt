@@ -4,13 +4,13 @@
 use mathlib.Core.Path.{refl}
 use Prim.Native.Nat.{ℕ, _^_}
 use lib.Dec.{T, lit≤, lit<}
-use lib.Ieee.{Float, Format, binary32, ofBits}
+use lib.Ieee.{Float, binary32, ofBits}
 use lib.Ieee.Scale.{finite}
 use Rattle.exact.specs.Fraction.{Fraction, frac, value, _≤F_, _<F_, _≈_, _+F_, _*F_, _/F_, absF}
 use Rattle.exact.specs.Rounds.{Rounds, Close}
 use Rattle.exact.specs.Single.{_⊕_, _⊗_, _⊘_}
 use Rattle.exact.proofs.Near.{le-refl, le-trans, add-same}
-use Rattle.exact.proofs.Products.{eq-refl, _⨟_, back, mul-same, mul-comm, mul-assoc, mul-one, lt-le-trans}
+use Rattle.exact.proofs.Products.{eq-refl, _⨟_, mul-same, mul-comm, mul-assoc, mul-one}
 use Rattle.exact.proofs.NearProducts.{abs-mul, abs-self, within-mul-by, within-scale}
 use Rattle.exact.proofs.Quotients.{div-only}
 use Rattle.exact.proofs.Rounds.{rounds-along}

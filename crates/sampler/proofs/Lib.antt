@@ -1,10 +1,15 @@
 -- The laws of the sampler, a file for each subject.
 pub mod AtLaws
 pub mod CellLaws
+pub mod CubicBounds
 pub mod CubicError
 pub mod CubicExact
+pub mod CubicExamples
 pub mod CubicKernel
+pub mod CubicMove
+pub mod CubicOrder
 pub mod CubicPieces
+pub mod CubicShape
 pub mod IndexCode
 pub mod IndexLaws
 pub mod InterpolationCode
@@ -13,7 +18,9 @@ pub mod NamedExamples
 pub mod NamedLaws
 pub mod PixelCode
 pub mod SignedCode
+pub mod Sizes
 pub mod StoreLaws
 pub mod TapsLaws
 pub mod WeightedFinite
 pub mod WeightedOpaque
+pub mod WeightedWeights

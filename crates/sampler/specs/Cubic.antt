@@ -1,5 +1,4 @@
 -- The cubic kernels: the Rust's `cubic_weights`, rounded once per operation in the order written. Assumes nothing.
-use Prim.Native.Nat.{ℕ}
 use mathlib.Core.Bool.{cond}
 use mathlib.Core.List.{List, [], _∷_}
 use lib.Ieee.{Float, binary32, neg, ofBits, lt}

@@ -1,5 +1,5 @@
--- The kernel of Mitchell and Netravali's paper of 1988 (Reconstruction Filters in Computer Graphics, formula 8), in exact fractions, with their
--- parameters B and C. Assumes nothing.
+-- The kernel of Mitchell and Netravali's paper of 1988, Reconstruction Filters in Computer Graphics, in exact fractions, with their parameters
+-- B and C. Assumes nothing.
 use Prim.Native.Nat.{ℕ, _+_, _*_}
 use mathlib.Core.Bool.{Bool, cond}
 use mathlib.Core.List.{List, [], _∷_}

@@ -11,7 +11,8 @@ use lib.Ieee.{size}
 use lib.Ieee.Digits.{size-lt, size-le}
 use lib.Ieee.Nearest.{closest, closest-mono, div-mono}
 use lib.Ieee.Order.{drop}
-use Rattle.exact.proofs.Ulp.{rounded, closest-exact, drop-digits, grid-under}
+use Rattle.exact.proofs.Closest.{closest-exact, closest-ge}
+use Rattle.exact.proofs.Ulp.{rounded, drop-digits, grid-under}
 
 pub grid-zero : (p c : ℕ) → 0 < c → rounded p 0 c ≡ 0
 grid-zero p c C =
@@ -42,12 +43,8 @@ module _ (p a b c d : ℕ) (P : 0 < p) (B : 0 < b) (D : 0 < d) (h : a * d ≤ c 
   first-above : 0 < drop p c d → 2 ^ (p - 1 + drop p c d) ≤ rounded p c d
   first-above l =
       let k = drop p c d in
-      let u = d * 2 ^ k in
-      let U : 0 < u = mul-pos D (pow-pos k) in
       le-trans (le-of-eq (pow-add 2 (p - 1) k))
-      (mul-le-mul-right (2 ^ k)
-      (le-trans (le-of-eq (sym (closest-exact (2 ^ (p - 1)) u U)))
-      (closest-mono (2 ^ (p - 1) * u) u c u U U (mul-le-mul-right u (le-trans (le-of-eq (swap (2 ^ k) (2 ^ (p - 1)))) (drop-digits p c d P D l))))))
+      (mul-le-mul-right (2 ^ k) (closest-ge c (d * 2 ^ k) (2 ^ (p - 1)) (mul-pos D (pow-pos k)) (le-trans (le-of-eq (swap (2 ^ k) (2 ^ (p - 1)))) (drop-digits p c d P D l))))
     where
       swap : (x y : ℕ) → y * (d * x) ≡ x * y * d
       swap x y = omega arith

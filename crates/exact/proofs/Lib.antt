@@ -6,7 +6,9 @@ pub mod Closest
 pub mod CoordinateExamples
 pub mod Dot
 pub mod Factors
+pub mod FloatPatterns
 pub mod Floor
+pub mod Formats
 pub mod FourSum
 pub mod GridOrder
 pub mod Held
@@ -18,15 +20,16 @@ pub mod Magnitude
 pub mod Midpoint
 pub mod Mix
 pub mod Monotone
+pub mod Nan
+pub mod Naturals
 pub mod Near
 pub mod NearProducts
+pub mod Neighbours
 pub mod Ones
 pub mod Operands
 pub mod Operations
 pub mod Order
 pub mod Overflow
-pub mod OwnValue
-pub mod Pattern
 pub mod PatternDigits
 pub mod PatternOrder
 pub mod Patterns
@@ -38,7 +41,8 @@ pub mod Products
 pub mod Quotients
 pub mod Ranges
 pub mod Relative
-pub mod Rounded
+pub mod RoundedPattern
+pub mod RoundedValue
 pub mod Rounding
 pub mod Rounds
 pub mod Samples
@@ -57,4 +61,3 @@ pub mod Warp
 pub mod WarpExample
 pub mod Weighted
 pub mod Weights
-pub mod Whole

@@ -1,32 +1,14 @@
--- Finite floats that are not negative, compared as fractions and as whole numbers of one small unit 1 / w: their order, and on which side of x the square
--- of r, or of the midpoint of y and r, lies, are those of the numbers of units. All by multiplying out. Assumes nothing.
+-- Finite floats that are not negative, compared as fractions and as whole numbers of one small unit 1 / w: on which side of x the square of r, or of
+-- the midpoint of y and r, lies is told by the numbers of units. All by multiplying out.
+-- Provides: `midpoint-under`, `midpoint-over`; `square-le`, `square-ge` (multiples of r's square and of x). Assumes nothing.
 use mathlib.Core.Path.{_≡_, sym, ap, ap₂, _∙_, subst}
 use Prim.Native.Nat.{ℕ, _+_, _*_, _≤_, _<_}
 use native.Mathlib.Nat.{le-trans, le-of-eq, lt-of-mul-lt-mul-right, le-of-mul-le-mul-right, mul-lt-mul-of-pos-right, mul-le-mul-right, mul-pos, mul-assoc, mul-comm, mul-right-comm, add-mul}
 use native.Mathlib.Omega.{arith}
-use mathlib.Core.Bool.{true, false, true≢false}
-use lib.Dec.{T, ltb→lt}
-use lib.Ieee.{Float, nan, inf, fin, up, down, lt}
+use mathlib.Core.Bool.{false}
+use lib.Ieee.{Float}
 use lib.Ieee.Exact.{HasValue}
 use lib.Ieee.Positive.{num, den, den-pos, value→cross}
-
--- ---- the order
-pub order : (y r : Float) (c d w : ℕ) → 0 < w → HasValue y false c w → HasValue r false d w → T (lt y r) → c < d
-unfolding lt
-order nan r c d w W u v t = absurd u
-order (inf s) r c d w W u v t = absurd u
-order (fin s m e) nan c d w W u v t = absurd v
-order (fin s m e) (inf q) c d w W u v t = absurd v
-order (fin true m e) (fin q n f) c d w W u v t = absurd (true≢false (u .0))
-order (fin false m e) (fin true n f) c d w W u v t = absurd (true≢false (v .0))
-order (fin false m e) (fin false n f) c d w W u v t =
-    lt-of-mul-lt-mul-right (down e * down f)
-    (subst (λ (z : ℕ). z < d * (down e * down f)) (left (m * up e) (down f) w c (down e) (u .1))
-    (subst (λ (z : ℕ). m * up e * down f * w < z) (left (n * up f) (down e) w d (down f) (v .1) ∙ ap (λ (z : ℕ). d * z) (mul-comm (down f) (down e)))
-    (mul-lt-mul-of-pos-right (ltb→lt (m * up e * down f) (n * up f * down e) t) W)))
-  where
-    left : (a f w c e : ℕ) → a * w ≡ c * e → a * f * w ≡ c * (e * f)
-    left a f w c e h = mul-right-comm a f w ∙ ap (λ (z : ℕ). z * f) h ∙ mul-assoc c e f
 
 -- ---- the midpoint's square: a / p and b / q are y and r, g / s is x, and c, d, n count their units 1 / w
 module _ (a p b q g s c d n w : ℕ) (Y : a * w ≡ c * p) (R : b * w ≡ d * q) (X : g * w ≡ n * s) where
@@ -57,13 +39,13 @@ module _ (a p b q g s c d n w : ℕ) (Y : a * w ≡ c * p) (R : b * w ≡ d * q)
   whole : g * (2 * (p * q)) * (2 * (p * q)) * (w * w * w) ≡ 4 * n * w * (p * q * (p * q) * (s * w))
   whole = spread-x g (p * q) w ∙ ap (λ (z : ℕ). z * (4 * (p * q * (p * q)) * (w * w))) X ∙ collect-x n s (p * q) w
 
-  pub under : 0 < p * q * (p * q) * (s * w) → (c + d) * (c + d) < 4 * n * w → (a * q + b * p) * (a * q + b * p) * s < g * (2 * (p * q)) * (2 * (p * q))
+  under : 0 < p * q * (p * q) * (s * w) → (c + d) * (c + d) < 4 * n * w → (a * q + b * p) * (a * q + b * p) * s < g * (2 * (p * q)) * (2 * (p * q))
   under P h =
       lt-of-mul-lt-mul-right (w * w * w)
       (subst (λ (z : ℕ). z < g * (2 * (p * q)) * (2 * (p * q)) * (w * w * w)) (sym square)
       (subst (λ (z : ℕ). (c + d) * (c + d) * (p * q * (p * q) * (s * w)) < z) (sym whole) (mul-lt-mul-of-pos-right h P)))
 
-  pub over : 0 < p * q * (p * q) * (s * w) → 4 * n * w < (c + d) * (c + d) → g * (2 * (p * q)) * (2 * (p * q)) < (a * q + b * p) * (a * q + b * p) * s
+  over : 0 < p * q * (p * q) * (s * w) → 4 * n * w < (c + d) * (c + d) → g * (2 * (p * q)) * (2 * (p * q)) < (a * q + b * p) * (a * q + b * p) * s
   over P h =
       lt-of-mul-lt-mul-right (w * w * w)
       (subst (λ (z : ℕ). z < (a * q + b * p) * (a * q + b * p) * s * (w * w * w)) (sym whole)

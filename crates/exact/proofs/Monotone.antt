@@ -23,7 +23,9 @@ use Rattle.exact.proofs.GridOrder.{grid-mono, grid-zero}
 use Rattle.exact.proofs.Signed.{Lower, Level, eq-signed}
 use Rattle.exact.proofs.Magnitude.{Sized, sized-same, sized-more, size-le, le-size, abs-sized, abs-alike}
 use Rattle.exact.proofs.Held.{round-held}
-use Rattle.exact.proofs.Rounding.{prec-pos, round-under, round-finite, round-sized, round-fixed}
+use Rattle.exact.proofs.Formats.{prec-pos}
+use Rattle.exact.proofs.RoundedValue.{round-under}
+use Rattle.exact.proofs.Rounding.{round-finite, round-sized, round-fixed}
 
 -- ---- in units
 unit-mono : (f : Format) (a c b d : ℕ) → 0 < c → 0 < d → a * d ≤ b * c → grid f a c ≤ grid f b d

@@ -1,6 +1,6 @@
 -- Distances between fractions: |x - y| ≤ e is two linear facts at a common scale, so each law here is one omega.
 -- Provides: `within-at`, `at-within` (the working form, both ways); `within-open`, `within-close` (as two inequalities of fractions);
--- `within-refl`, `within-sym`, `within-trans`, `within-more`, `within-add`, `within-sub`, `within-le`, and the order's own laws. Assumes nothing.
+-- `within-same`, `within-sym`, `within-trans`, `within-more`, `within-add`, `within-sub`, and the order's own laws. Assumes nothing.
 use mathlib.Core.Path.{_≡_, refl, sym, ap, _∙_, subst}
 use mathlib.Core.List.{List, [], _∷_}
 use mathlib.Core.Logic.{_⊎_, inl, inr, ⊎-elim}

@@ -1,5 +1,6 @@
 -- A sum, a difference and a comparison see only the values of their operands: finite floats of the values a / c and b / c may be
--- exchanged for these two fractions. Assumes nothing.
+-- exchanged for these two fractions.
+-- Provides: `add-values`, `sub-values`, `lt-values`; `same-test` (two tests that pass together). Assumes nothing.
 use mathlib.Core.Path.{_≡_, refl, sym, ap, _∙_, subst}
 use Prim.Native.Nat.{ℕ, _+_, _-_, _*_, _<_}
 use native.Mathlib.Nat.{mul-comm, mul-right-comm, mul-assoc, mul-sub, mul-pos, mul-lt-mul-of-pos-right, lt-of-mul-lt-mul-right}

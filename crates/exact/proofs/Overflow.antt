@@ -1,13 +1,16 @@
 -- Where a format ends, by patterns: below the infinity's pattern no value reaches 2 ^ (emax + 1), and from it on every one does. Both
--- are comparisons of exponents. Assumes nothing.
-use mathlib.Core.Path.{_≡_, refl, sym, ap, _∙_}
+-- are comparisons of exponents.
+-- Provides: `lead-finite` (a field below the infinity's), `units-over` (k * hid + q from the infinity's pattern on). Assumes nothing.
+use mathlib.Core.Path.{_≡_, sym, ap, _∙_}
 use mathlib.Core.Logic.{_⊎_, inl, inr}
 use Prim.Native.Nat.{ℕ, zero, suc, _+_, _-_, _*_, _^_, _≤_, _<_}
 use native.Mathlib.Nat.{le-trans, le-of-eq, le-of-suc-le-suc, lt-of-lt-of-le, eq-or-lt-of-le, mul-assoc, mul-comm, mul-le-mul-right, mul-le-mul-left, le-of-mul-le-mul-right, zero-mul, pow-succ', lt-of-mul-lt-mul-right}
 use native.Mathlib.Omega.{arith}
 use lib.Pow.{pow-mono, shl-lt}
-use lib.Ieee.{Format, binary32, binary64, prec, emax, low, hid, ones}
+use lib.Ieee.{Format, prec, emax, hid, ones}
 use lib.Ieee.Fits.{two, reach}
+use lib.Ieee.Scale.{overflow}
+use Rattle.exact.proofs.Formats.{twice-hid}
 use Rattle.exact.proofs.Patterns.{lead}
 
 -- ---- below the infinity's pattern no value overflows, from it on every one does
@@ -17,21 +20,13 @@ room p e x a b = omega arith
 room-low : (p e : ℕ) → 2 ≤ p → p ≤ suc e → p - 1 ≤ e + p - 2 + suc e
 room-low p e a b = omega arith
 
-pub twice-hid : (f : Format) → 2 ^ prec f ≡ 2 * hid f
-twice-hid binary32 = refl
-twice-hid binary64 = refl
-
-pub lead-under : (f : Format) (x t : ℕ) → x < ones f → t < hid f → lead (hid f) x t < 2 ^ (low f + suc (emax f))
-lead-under f zero t X H = lt-of-lt-of-le H (pow-mono (room-low (prec f) (emax f) (two f) (reach f)))
-lead-under f (suc x) t X H =
+pub lead-finite : (f : Format) (x t : ℕ) → x < ones f → t < hid f → lead (hid f) x t < overflow f
+lead-finite f zero t X H = lt-of-lt-of-le H (pow-mono (room-low (prec f) (emax f) (two f) (reach f)))
+lead-finite f (suc x) t X H =
     lt-of-lt-of-le (shl-lt (prec f) x (with-lead (hid f) t (2 ^ prec f) (twice-hid f) H)) (pow-mono (room (prec f) (emax f) x (two f) X))
   where
     with-lead : (h t w : ℕ) → w ≡ 2 * h → t < h → h + t < w
     with-lead h t w e l = omega arith
-
-pub past : (f : Format) → 2 ^ (low f + suc (emax f)) ≡ hid f * 2 ^ (2 * emax f)
-past binary32 = refl
-past binary64 = refl
 
 far : (o k q h : ℕ) → 0 < h → (o + 1) * h ≤ k * h + q → q < 2 * h → o ≤ k
 far o k q h H a b = le-of-suc-le-suc (lt-of-mul-lt-mul-right h (step o k q h a b))
@@ -39,8 +34,8 @@ far o k q h H a b = le-of-suc-le-suc (lt-of-mul-lt-mul-right h (step o k q h a b
     step : (o k q h : ℕ) → (o + 1) * h ≤ k * h + q → q < 2 * h → o * h < suc k * h
     step o k q h a b = omega arith
 
-pub over : (h o q k : ℕ) → 0 < h → q ≤ 2 * h → (k ≡ 0) ⊎ (h ≤ q) → (o + 1) * h ≤ k * h + q → h * 2 ^ o ≤ q * 2 ^ k
-over h o q k H b c g = elim (eq-or-lt-of-le b) [
+pub units-over : (h o q k : ℕ) → 0 < h → q ≤ 2 * h → (k ≡ 0) ⊎ (h ≤ q) → (o + 1) * h ≤ k * h + q → h * 2 ^ o ≤ q * 2 ^ k
+units-over h o q k H b c g = elim (eq-or-lt-of-le b) [
   | inl e ↦ le-trans (mul-le-mul-left h (pow-mono (le-of-mul-le-mul-right (two-more o k q h e g) H))) (le-of-eq (twice e))
   | inr l ↦ le-trans (mul-le-mul-right (2 ^ o) (filled c)) (mul-le-mul-left q (pow-mono (far o k q h H g l)))
 ]

@@ -1,63 +1,77 @@
--- Without signs the order of floats is the order of their patterns, the infinity's included, with a NaN above all:
--- finite values by their sizes, which grow with the patterns, and the infinity and the NaNs by hand. Assumes nothing.
+-- Without signs the order of floats is the order of their patterns, the infinity's included, with a NaN above all: finite values by their sizes,
+-- which grow with the patterns, and the infinity and the NaNs by hand.
+-- Provides: `worth-grows`, `pattern-order`. Assumes nothing.
 use mathlib.Core.Path.{_≡_, refl, sym, ap, _∙_, subst}
 use mathlib.Core.Logic.{_⊎_, inl, inr}
-use mathlib.Core.Bool.{Bool, true, false, not, _&&_, _||_, true≢false, false≢true}
-use Prim.Native.Nat.{ℕ, _-_, _*_, _^_, _≤_, _<_}
-use native.Mathlib.Nat.{le-of-eq, le-of-lt, lt-of-lt-of-le, lt-of-le-of-lt, lt-irrefl, eq-or-lt-of-le, mul-right-comm, lt-of-mul-lt-mul-right, mul-le-mul-right, mul-lt-mul-of-pos-right, mod-eq-of-lt}
-use lib.Dec.{T, leb, ltb, eqb, leb→le, nleb→lt}
-use lib.Pow.{pow-pos}
-use lib.Ieee.{Float, nan, inf, fin, Format, low, up, down, top, ofBits, le, isNan}
+use mathlib.Core.Bool.{true, false, true≢false}
+use Prim.Native.Nat.{ℕ, zero, suc, _+_, _-_, _*_, _/_, _%_, _^_, _≤_, _<_}
+use native.Mathlib.Nat.{le-trans, le-of-eq, le-of-lt, le-of-suc-le-suc, lt-of-lt-of-le, lt-of-le-of-lt, eq-or-lt-of-le, zero-add, mul-one, mul-assoc, mul-le-mul-left, mul-le-mul-right, mul-lt-mul-of-pos-right, mod-eq-of-lt, mod-lt, div-add-mod', pow-succ'}
+use native.Mathlib.Omega.{arith}
+use lib.Dec.{leb}
+use lib.Pow.{pow-pos, pow-mono, shr-mono}
+use lib.Ieee.{Float, nan, inf, fin, Format, prec, low, hid, top, ofBits, le}
 use lib.Ieee.Exact.{HasValue}
-use lib.Ieee.Order.{le-of-values}
-use lib.Ieee.Fits.{down-pos}
-use lib.Ieee.Bits.{is-true, nanBits-is, nanBits-above}
-use borrow.Author.Tests.{lt-ltb, le-ltb, le-leb, lt-leb, ne-eqb}
-use Rattle.exact.proofs.Pattern.{patternSize, infinite, pattern-value, pattern-infinite, pattern-grows}
+use borrow.Author.Tests.{le-leb, lt-leb}
+use Rattle.exact.proofs.Formats.{infinite, hid-pos}
+use Rattle.exact.proofs.Naturals.{lt-or-le}
+use Rattle.exact.proofs.Order.{sizes-order}
+use Rattle.exact.proofs.Patterns.{lead, worth, pattern-value, pattern-infinity, pattern-nan}
 
-le-or-lt : (a b : ℕ) → (a ≤ b) ⊎ (b < a)
-le-or-lt a b = go (leb a b) (leb→le a b) (nleb→lt a b)
+-- ---- the size grows with the pattern: from one field to the next, h being the field's weight, and within a field with the digits
+lead-under : (h x t : ℕ) → t < h → lead h x t < h * 2 ^ x
+lead-under h zero t l = subst (λ (n : ℕ). t < n) (sym (mul-one h)) l
+lead-under h (suc x) t l =
+    lt-of-lt-of-le (mul-lt-mul-of-pos-right (both h t l) (pow-pos x)) (le-of-eq (mul-assoc h 2 (2 ^ x) ∙ ap (λ (n : ℕ). h * n) (sym (pow-succ' 2 x))))
   where
-    go : (t : Bool) → (T t → a ≤ b) → (T (not t) → b < a) → (a ≤ b) ⊎ (b < a)
-    go true h k = inl (h tt)
-    go false h k = inr (k tt)
+    both : (h t : ℕ) → t < h → h + t < h * 2
+    both h t l = omega arith
 
--- ---- finite values of sizes a / c and b / c: their order is that of a and b
-sizes-above : (x y : Float) (a b c : ℕ) → 0 < c → HasValue x false a c → HasValue y false b c → b < a → le x y ≡ false
-unfolding le
-sizes-above nan y a b c C v w h = absurd v
-sizes-above (inf s) y a b c C v w h = absurd v
-sizes-above (fin true m e) y a b c C v w h = absurd (true≢false (v .0))
-sizes-above (fin false m e) nan a b c C v w h = absurd w
-sizes-above (fin false m e) (inf t) a b c C v w h = absurd w
-sizes-above (fin false m e) (fin true n d) a b c C v w h = absurd (true≢false (w .0))
-sizes-above (fin false m e) (fin false n d) a b c C v w h =
-    let A = m * up e * down d in
-    let B = n * up d * down e in
-    let less : B < A = lt-of-mul-lt-mul-right c (cross (m * up e) (n * up d) (down e) (down d) (down-pos e) (down-pos d) (v .1) (w .1)) in
-    ap (λ (t : Bool). t || (eqb A B && true)) (le-ltb A B (le-of-lt less)) ∙ ap (λ (t : Bool). t && true) (ne-eqb A B (λ q. lt-irrefl A (subst (λ (z : ℕ). z < A) (sym q) less)))
+fields-grow : (h x y t u : ℕ) → t < h → x < y → lead h x t < lead h y u
+fields-grow h x zero t u l g = absurd (nothing x g)
   where
-    cross : (p q u v : ℕ) → 0 < u → 0 < v → p * c ≡ a * u → q * c ≡ b * v → q * u * c < p * v * c
-    cross p q u v ru rv g k =
-        lt-of-le-of-lt (le-of-eq (mul-right-comm q u c ∙ ap (λ (z : ℕ). z * u) k ∙ mul-right-comm b v u))
-        (lt-of-lt-of-le (mul-lt-mul-of-pos-right (mul-lt-mul-of-pos-right h ru) rv) (le-of-eq (sym (mul-right-comm p v c ∙ ap (λ (z : ℕ). z * v) g))))
-
-sizes-within : (x y : Float) (a b c : ℕ) → 0 < c → HasValue x false a c → HasValue y false b c → a ≤ b → le x y ≡ true
-sizes-within x y a b c C v w h = is-true (le x y) (le-of-values x y a c b c C C v w (mul-le-mul-right c h))
-
-pub sizes-order : (x y : Float) (a b c : ℕ) → 0 < c → HasValue x false a c → HasValue y false b c → le x y ≡ leb a b
-sizes-order x y a b c C v w = go (le-or-lt a b)
+    nothing : (x : ℕ) → x < 0 → ⊥
+    nothing x l = omega arith
+fields-grow h x (suc y) t u l g =
+    lt-of-lt-of-le (lead-under h x t l) (le-trans (mul-le-mul-left h (pow-mono (le-of-suc-le-suc g))) (mul-le-mul-right (2 ^ y) (more h u)))
   where
-    go : (a ≤ b) ⊎ (b < a) → le x y ≡ leb a b
-    go (inl h) = sizes-within x y a b c C v w h ∙ sym (le-leb a b h)
-    go (inr h) = sizes-above x y a b c C v w h ∙ sym (lt-leb a b h)
+    more : (h t : ℕ) → h ≤ h + t
+    more h t = omega arith
 
-nan-above : (x y : Float) → isNan x ≡ true → le x y ≡ false
-unfolding le isNan
-nan-above nan y h = refl
-nan-above (inf s) y h = absurd (false≢true h)
-nan-above (fin s m e) y h = absurd (false≢true h)
+digits-grow : (h x t u : ℕ) → t < u → lead h x t < lead h x u
+digits-grow h zero t u l = l
+digits-grow h (suc x) t u l = mul-lt-mul-of-pos-right (more h t u l) (pow-pos x)
+  where
+    more : (h t u : ℕ) → t < u → h + t < h + u
+    more h t u l = omega arith
 
+-- the digits, where the fields agree: p is the field's weight times the field, in both
+digits-apart : (a b p r s : ℕ) → p + r ≡ a → p + s ≡ b → a < b → r < s
+digits-apart a b p r s d e l = omega arith
+
+pub worth-grows : (f : Format) (a b : ℕ) → a < b → worth f a < worth f b
+worth-grows f a b l = go (eq-or-lt-of-le (shr-mono (prec f - 1) (le-of-lt l)))
+  where
+    h : ℕ
+    h = hid f
+
+    go : (a / h ≡ b / h) ⊎ (a / h < b / h) → lead h (a / h) (a % h) < lead h (b / h) (b % h)
+    go (inl e) =
+        subst (λ (x : ℕ). lead h (a / h) (a % h) < lead h x (b % h)) e
+        (digits-grow h (a / h) (a % h) (b % h) (digits-apart a b (a / h * h) (a % h) (b % h) (div-add-mod' a h) (ap (λ (x : ℕ). x * h + b % h) e ∙ div-add-mod' b h) l))
+    go (inr g) = fields-grow h (a / h) (b / h) (a % h) (b % h) (mod-lt a (hid-pos f)) g
+
+worth-leb : (f : Format) (a b : ℕ) → leb (worth f a) (worth f b) ≡ leb a b
+worth-leb f a b = go (lt-or-le b a)
+  where
+    grown : (a ≡ b) ⊎ (a < b) → worth f a ≤ worth f b
+    grown (inl e) = le-of-eq (ap (λ (x : ℕ). worth f x) e)
+    grown (inr l) = le-of-lt (worth-grows f a b l)
+
+    go : (b < a) ⊎ (a ≤ b) → leb (worth f a) (worth f b) ≡ leb a b
+    go (inl h) = lt-leb (worth f a) (worth f b) (worth-grows f b a h) ∙ sym (lt-leb a b h)
+    go (inr h) = le-leb (worth f a) (worth f b) (grown (eq-or-lt-of-le h)) ∙ sym (le-leb a b h)
+
+-- ---- the infinity and the NaN
 below-infinity : (x : Float) (a c : ℕ) → HasValue x false a c → (le x (inf false) ≡ true) × (le (inf false) x ≡ false)
 unfolding le
 below-infinity nan a c v = absurd v
@@ -69,39 +83,29 @@ infinity-itself : le (inf false) (inf false) ≡ true
 unfolding le
 infinity-itself = refl
 
--- a pattern above the infinity's is a NaN's
-above-is-nan : (f : Format) (n : ℕ) → n < top f → infinite f < n → isNan (ofBits f n) ≡ true
-above-is-nan f n h g = sym (nanBits-is f n) ∙ nanBits-above f n ∙ ap (λ (m : ℕ). ltb (infinite f) m) (mod-eq-of-lt h) ∙ lt-ltb (infinite f) n g
+nan-never : (y : Float) → le nan y ≡ false
+unfolding le
+nan-never y = refl
 
-sizes-leb : (f : Format) (a b : ℕ) → leb (patternSize f a) (patternSize f b) ≡ leb a b
-sizes-leb f a b = go (le-or-lt a b)
-  where
-    grown : (a ≡ b) ⊎ (a < b) → patternSize f a ≤ patternSize f b
-    grown (inl e) = le-of-eq (ap (patternSize f) e)
-    grown (inr l) = le-of-lt (pattern-grows f a b l)
-
-    go : (a ≤ b) ⊎ (b < a) → leb (patternSize f a) (patternSize f b) ≡ leb a b
-    go (inl h) = le-leb (patternSize f a) (patternSize f b) (grown (eq-or-lt-of-le h)) ∙ sym (le-leb a b h)
-    go (inr h) = lt-leb (patternSize f a) (patternSize f b) (pattern-grows f b a h) ∙ sym (lt-leb a b h)
-
--- patterns with no sign, the second no NaN's: the order of the floats is theirs
+-- ---- the law, of patterns with no sign, the second no NaN's
 pub pattern-order : (f : Format) (a b : ℕ) → a < top f → b ≤ infinite f → le (ofBits f a) (ofBits f b) ≡ leb a b
-pattern-order f a b A B = go (le-or-lt a (infinite f))
+pattern-order f a b A B = go (lt-or-le (infinite f) a)
   where
-    inner : (a ≡ infinite f) ⊎ (a < infinite f) → (b ≡ infinite f) ⊎ (b < infinite f) → le (ofBits f a) (ofBits f b) ≡ leb a b
-    inner (inl d) (inl e) =
-        (λ i. le ((ap (ofBits f) d ∙ pattern-infinite f) i) ((ap (ofBits f) e ∙ pattern-infinite f) i)) ∙ infinity-itself ∙ sym (le-leb a b (le-of-eq (d ∙ sym e)))
-    inner (inl d) (inr l) =
-        ap (λ (x : Float). le x (ofBits f b)) (ap (ofBits f) d ∙ pattern-infinite f)
-        ∙ below-infinity (ofBits f b) (patternSize f b) (2 ^ low f) (pattern-value f b l) .1
-        ∙ sym (lt-leb a b (subst (λ (n : ℕ). b < n) (sym d) l))
-    inner (inr k) (inl e) =
-        ap (λ (x : Float). le (ofBits f a) x) (ap (ofBits f) e ∙ pattern-infinite f)
-        ∙ below-infinity (ofBits f a) (patternSize f a) (2 ^ low f) (pattern-value f a k) .0
-        ∙ sym (le-leb a b (le-of-lt (subst (λ (n : ℕ). a < n) (sym e) k)))
-    inner (inr k) (inr l) =
-        sizes-order (ofBits f a) (ofBits f b) (patternSize f a) (patternSize f b) (2 ^ low f) (pow-pos (low f)) (pattern-value f a k) (pattern-value f b l) ∙ sizes-leb f a b
+    value : (p : ℕ) → p < infinite f → HasValue (ofBits f p) false (worth f p) (2 ^ low f)
+    value p h = subst (λ (n : ℕ). HasValue (ofBits f n) false (worth f p) (2 ^ low f)) (zero-add p) (pattern-value f false p h)
 
-    go : (a ≤ infinite f) ⊎ (infinite f < a) → le (ofBits f a) (ofBits f b) ≡ leb a b
-    go (inl h) = inner (eq-or-lt-of-le h) (eq-or-lt-of-le B)
-    go (inr h) = nan-above (ofBits f a) (ofBits f b) (above-is-nan f a A h) ∙ sym (lt-leb a b (lt-of-le-of-lt B h))
+    infinity : (p : ℕ) → p ≡ infinite f → ofBits f p ≡ inf false
+    infinity p e = ap (ofBits f) (e ∙ sym (zero-add (infinite f))) ∙ pattern-infinity f false
+
+    inner : (a ≡ infinite f) ⊎ (a < infinite f) → (b ≡ infinite f) ⊎ (b < infinite f) → le (ofBits f a) (ofBits f b) ≡ leb a b
+    inner (inl d) (inl e) = (λ i. le (infinity a d i) (infinity b e i)) ∙ infinity-itself ∙ sym (le-leb a b (le-of-eq (d ∙ sym e)))
+    inner (inl d) (inr l) =
+        ap (λ (x : Float). le x (ofBits f b)) (infinity a d) ∙ below-infinity (ofBits f b) (worth f b) (2 ^ low f) (value b l) .1 ∙ sym (lt-leb a b (subst (λ (n : ℕ). b < n) (sym d) l))
+    inner (inr k) (inl e) =
+        ap (λ (x : Float). le (ofBits f a) x) (infinity b e) ∙ below-infinity (ofBits f a) (worth f a) (2 ^ low f) (value a k) .0 ∙ sym (le-leb a b (le-of-lt (subst (λ (n : ℕ). a < n) (sym e) k)))
+    inner (inr k) (inr l) = sizes-order (ofBits f a) (ofBits f b) (worth f a) (worth f b) (2 ^ low f) (pow-pos (low f)) (value a k) (value b l) ∙ worth-leb f a b
+
+    go : (infinite f < a) ⊎ (a ≤ infinite f) → le (ofBits f a) (ofBits f b) ≡ leb a b
+    go (inl h) =
+        ap (λ (x : Float). le x (ofBits f b)) (pattern-nan f a (subst (λ (n : ℕ). infinite f < n) (sym (mod-eq-of-lt A)) h)) ∙ nan-never (ofBits f b) ∙ sym (lt-leb a b (lt-of-le-of-lt B h))
+    go (inr h) = inner (eq-or-lt-of-le h) (eq-or-lt-of-le B)

@@ -18,7 +18,8 @@ use Rattle.exact.proofs.Scale.{At, at-ratio, at-add, at-mul, at-more}
 use Rattle.exact.proofs.Near.{eq-trans}
 use Rattle.exact.proofs.Ulp.{grid-under, grid-sharp, grid-relative, grid-normal}
 use Rattle.exact.proofs.Magnitude.{Sized, sized-same, sized-more, size-le, le-size, abs-sized, near-sized}
-use Rattle.exact.proofs.Rounding.{prec-pos, round-finite, round-sized}
+use Rattle.exact.proofs.Formats.{prec-pos}
+use Rattle.exact.proofs.Rounding.{round-finite, round-sized}
 
 pub rounds-self : (f : Format) (s : Bool) (a c : ℕ) → 0 < c → Rounds f (round f s a c) (signed s a c)
 rounds-self f s a c C = record { sign = s; num = a; den = c; den-pos = C; is = refl; exact = record { eq = refl } }

@@ -1,57 +1,20 @@
 -- Half an ulp, in whole numbers. `round` takes n / c to the nearest multiple of 2 ^ drop, and the nearest whole number is at most a half
 -- away; drop is 0, or else n / c has p + drop digits, which bounds the half by the size of n / c.
--- With g = kept * 2 ^ drop, the rounded number. Provides: `closest-half`, `closest-exact`; `drop-below`, `drop-digits`; `grid-half`
+-- With g = kept * 2 ^ drop, the rounded number. Provides: `drop-below`, `drop-digits`, `drop-is` (how many digits are dropped); `grid-half`
 -- (|g - n / c| is half of 2 ^ drop at most), `grid-under` (powers of two bound g as they bound n / c), `grid-sharp` (half an ulp below a
 -- power of two), `grid-relative`, `grid-normal` (2 ^ -p of n / c, and half a unit more below the normal range). Assumes nothing.
 use mathlib.Core.Path.{_≡_, sym, ap, _∙_}
 use mathlib.Core.Logic.{inl, inr}
-use mathlib.Core.Bool.{not}
-use Prim.Native.Nat.{ℕ, zero, suc, _+_, _-_, _*_, _/_, _%_, _^_, _≤_, _<_, compare, Ordering, Ordering·lt, Ordering·eq, Ordering·gt}
-use native.Mathlib.Nat.{le-refl, le-trans, le-of-eq, le-antisymm, le-of-suc-le-suc, lt-of-le-of-lt, eq-or-lt-of-le, mul-le-mul-right, mul-lt-mul-of-pos-right, lt-of-mul-lt-mul-right, mul-pos, zero-lt-suc, mod-lt, div-add-mod', div-lt-iff-lt-mul, le-div-iff-mul-le}
+use Prim.Native.Nat.{ℕ, zero, suc, _+_, _-_, _*_, _/_, _^_, _≤_, _<_}
+use native.Mathlib.Nat.{le-refl, le-trans, le-of-eq, lt-of-le-of-lt, eq-or-lt-of-le, mul-le-mul-right, mul-lt-mul-of-pos-right, mul-pos, zero-lt-suc, div-lt-iff-lt-mul, le-div-iff-mul-le}
 use native.Mathlib.Omega.{arith}
-use lib.Dec.{T, isLe, isEq, leb→le, nleb→lt, eqb→eq}
 use lib.Pow.{pow-add, pow-pos, pow-mono, pow-lt}
-use lib.Ieee.{size, nearest}
+use lib.Ieee.{size}
 use lib.Ieee.Digits.{size-le, size-reaches}
-use lib.Ieee.Nearest.{closest, closest-mono}
+use lib.Ieee.Nearest.{closest}
 use lib.Ieee.Order.{drop, kept}
-
--- ---- |q - n / u| ≤ 1 / 2
-abbrev pub Half : ℕ → ℕ → ℕ → Type 0
-Half u n q = (q * u * 2 ≤ n * 2 + u) × (n * 2 ≤ q * u * 2 + u)
-
-tie : (q b r u n : ℕ) → q * u + r ≡ n → b ≤ 1 → r * 2 ≡ u → Half u n (q + b)
-tie q b r u n e B h = let k : b * u ≤ 1 * u = mul-le-mul-right u B in (omega arith, omega arith)
-
-step : (q r u n : ℕ) → q * u + r ≡ n → r < u → u < r * 2 → Half u n (suc q)
-step q r u n e l h = (omega arith, omega arith)
-
-stay : (q r u n : ℕ) → q * u + r ≡ n → r * 2 ≤ u → Half u n q
-stay q r u n e h = (omega arith, omega arith)
-
-rest-le : (q : ℕ) → q % 2 ≤ 1
-rest-le q = omega arith
-
-pub closest-half : (n u : ℕ) → 0 < u → Half u n (closest n u)
-closest-half n u U =
-    go (compare (n % u * 2) u) (leb→le (n % u * 2) u) (nleb→lt (n % u * 2) u) (eqb→eq (n % u * 2) u)
-  where
-    go : (o : Ordering) → (T (isLe o) → n % u * 2 ≤ u) → (T (not (isLe o)) → u < n % u * 2) → (T (isEq o) → n % u * 2 ≡ u) → Half u n (nearest (n / u) o)
-    go Ordering·lt a b e = stay (n / u) (n % u) u n (div-add-mod' n u) (a tt)
-    go Ordering·eq a b e = tie (n / u) (n / u % 2) (n % u) u n (div-add-mod' n u) (rest-le (n / u)) (e tt)
-    go Ordering·gt a b e = step (n / u) (n % u) u n (div-add-mod' n u) (mod-lt n U) (b tt)
-
--- a whole number is its own nearest
-pub closest-exact : (m u : ℕ) → 0 < u → closest (m * u) u ≡ m
-closest-exact m u U =
-    let h = closest-half (m * u) u U in
-    le-antisymm (le-of-suc-le-suc (lt-of-mul-lt-mul-right u (near (closest (m * u) u) m u U (h .0)))) (le-of-suc-le-suc (lt-of-mul-lt-mul-right u (far (closest (m * u) u) m u U (h .1))))
-  where
-    near : (q m u : ℕ) → 0 < u → q * u * 2 ≤ m * u * 2 + u → q * u < suc m * u
-    near q m u U h = omega arith
-
-    far : (q m u : ℕ) → 0 < u → m * u * 2 ≤ q * u * 2 + u → m * u < suc q * u
-    far q m u U h = omega arith
+use Rattle.exact.proofs.Closest.{Half, closest-half, closest-exact, closest-le}
+use Rattle.exact.proofs.Naturals.{size-gt}
 
 -- ---- the rounded number, in units
 abbrev pub rounded : ℕ → ℕ → ℕ → ℕ
@@ -79,6 +42,13 @@ module _ (p n c : ℕ) (P : 0 < p) (C : 0 < c) where
     where
       go : (z : ℕ) → 0 < z - p → z - p + (p - 1) < z
       go z h = omega arith
+
+  -- n / c has p + j digits
+  pub drop-is : (j : ℕ) → 2 ^ (p - 1 + j) * c ≤ n → n < 2 ^ (p + j) * c → drop p n c ≡ j
+  drop-is j lo hi = go (size (n / c)) (size-le (n / c) (p + j) (div-lt-iff-lt-mul C .1 hi)) (size-gt (n / c) (p - 1 + j) (le-div-iff-mul-le C .1 lo))
+    where
+      go : (z : ℕ) → z ≤ p + j → p - 1 + j < z → z - p ≡ j
+      go z a b = omega arith
 
   -- ---- g = kept * 2 ^ drop against n / c
   -- |g c - n| is half of c e at most
@@ -111,10 +81,7 @@ module _ (p n c : ℕ) (P : 0 < p) (C : 0 < c) where
     pub grid-under : rounded p n c ≤ 2 ^ K
     grid-under =
         let k = drop p n c in
-        let u = c * 2 ^ k in
-        let q : closest n u ≤ 2 ^ (K - k) =
-        le-trans (closest-mono n u (2 ^ (K - k) * u) u ulp-pos ulp-pos (mul-le-mul-right u (le-trans h (le-of-eq as-ulps)))) (le-of-eq (closest-exact (2 ^ (K - k)) u ulp-pos)) in
-        le-trans (mul-le-mul-right (2 ^ k) q) (le-of-eq same-power)
+        le-trans (mul-le-mul-right (2 ^ k) (closest-le n (c * 2 ^ k) (2 ^ (K - k)) ulp-pos (le-trans h (le-of-eq as-ulps)))) (le-of-eq same-power)
 
     grid-power : n ≡ 2 ^ K * c → rounded p n c ≡ 2 ^ K
     grid-power e =

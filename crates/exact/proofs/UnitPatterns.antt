@@ -1,33 +1,31 @@
 -- k * hid + q is the pattern of q * 2 ^ k units, whatever q and k are, as long as q has all its digits or k is 0. A q that was
 -- carried to one digit more moves into the next exponent's field by itself, and the pattern after the last finite one is
--- the infinity's. Assumes nothing.
+-- the infinity's.
+-- Provides, of such q and k: `units-value` (what the pattern stands for), `units-pattern` (the units as a float have that pattern), `units-infinity`
+-- (from the infinity's pattern on). Assumes nothing.
 use mathlib.Core.Path.{_≡_, sym, ap, _∙_, subst}
 use mathlib.Core.Logic.{_⊎_, inl, inr}
 use Prim.Native.Nat.{ℕ, suc, _+_, _-_, _*_, _/_, _%_, _^_, _≤_, _<_}
 use native.Mathlib.Nat.{le-refl, le-trans, le-of-eq, lt-of-le-of-lt, eq-or-lt-of-le, add-sub-of-le, mul-one, mul-assoc, mod-lt, div-lt-iff-lt-mul, pow-succ'}
 use native.Mathlib.Omega.{arith}
-use mathlib.Core.Bool.{Bool, true, false, not, cond}
-use lib.Dec.{T, ltb, ltb→lt, nltb→le}
+use mathlib.Core.Bool.{Bool, cond}
+use lib.Dec.{T, ltb}
 use lib.Arith.{digits-div, digits-mod, le→nltb}
 use lib.Pow.{pow-pos, pow-lt}
-use lib.Ieee.{inf, Format, prec, emax, low, odd, units, hid, ones, top, fits, ofBits}
-use lib.Ieee.Fits.{two, odd-fits, cond-fits, inf-fits}
+use lib.Ieee.{inf, Format, prec, emax, low, odd, units, hid, top, fits, ofBits}
+use lib.Ieee.Fits.{odd-fits, cond-fits, inf-fits}
 use lib.Ieee.Bits.{cond-no, ofBits-fits}
 use lib.Ieee.Exact.{HasValue, units-val}
+use lib.Ieee.Scale.{overflow}
+use Rattle.exact.proofs.Formats.{infinite, hid-pos, twice-hid, overflow-is}
+use Rattle.exact.proofs.Naturals.{lt-or-le}
+use Rattle.exact.proofs.Overflow.{lead-finite, units-over}
+use Rattle.exact.proofs.Patterns.{lead, worth, pattern-value, pattern-infinity}
 use Rattle.exact.proofs.Value.{unique}
-use Rattle.exact.proofs.Overflow.{twice-hid, lead-under, past, over}
-use Rattle.exact.proofs.Patterns.{hid-pos, lead, worth, pattern-value, pattern-infinity}
 
 -- ---- k * hid + q is q * 2 ^ k units
 lead-at : (h x t : ℕ) → t < h → lead h ((x * h + t) / h) ((x * h + t) % h) ≡ lead h x t
 lead-at h x t l = ap (λ (y : ℕ). lead h y ((x * h + t) % h)) (digits-div x l) ∙ ap (λ (y : ℕ). lead h x y) (digits-mod x l)
-
-pub lt-or-le : (a b : ℕ) → (a < b) ⊎ (b ≤ a)
-lt-or-le a b = go (ltb a b) (ltb→lt a b) (nltb→le a b)
-  where
-    go : (t : Bool) → (T t → a < b) → (T (not t) → b ≤ a) → (a < b) ⊎ (b ≤ a)
-    go true h k = inl (h tt)
-    go false h k = inr (k tt)
 
 module _ (h : ℕ) (H : 0 < h) (q k : ℕ) where
   -- fewer digits than the format keeps: no field
@@ -62,33 +60,40 @@ module _ (h : ℕ) (H : 0 < h) (q k : ℕ) where
   lead-units b (inr g) = full g b
 
 -- ---- the laws
-units-in : (f : Format) (s : Bool) (q k : ℕ) → q ≤ 2 ^ prec f → q * 2 ^ k < 2 ^ (low f + suc (emax f)) → T (fits f (units f s q k))
+units-in : (f : Format) (s : Bool) (q k : ℕ) → q ≤ 2 ^ prec f → q * 2 ^ k < overflow f → T (fits f (units f s q k))
 unfolding units
 units-in f s q k a b =
-    cond-fits f (ltb (q * 2 ^ k) (2 ^ (low f + suc (emax f)))) (odd (suc (prec f)) s q k (low f)) (inf s)
+    cond-fits f (ltb (q * 2 ^ k) (overflow f)) (odd (suc (prec f)) s q k (low f)) (inf s)
     (odd-fits f (suc (prec f)) s q k (lt-of-le-of-lt a (pow-lt (le-refl (suc (prec f))))) a b) (inf-fits f s)
 
-units-past : (f : Format) (s : Bool) (q k : ℕ) → 2 ^ (low f + suc (emax f)) ≤ q * 2 ^ k → units f s q k ≡ inf s
+units-past : (f : Format) (s : Bool) (q k : ℕ) → overflow f ≤ q * 2 ^ k → units f s q k ≡ inf s
 unfolding units
-units-past f s q k h = cond-no (ltb (q * 2 ^ k) (2 ^ (low f + suc (emax f)))) (odd (suc (prec f)) s q k (low f)) (inf s) (le→nltb (q * 2 ^ k) (2 ^ (low f + suc (emax f))) h)
+units-past f s q k h = cond-no (ltb (q * 2 ^ k) (overflow f)) (odd (suc (prec f)) s q k (low f)) (inf s) (le→nltb (q * 2 ^ k) (overflow f) h)
 
 module _ (f : Format) (s : Bool) (q k : ℕ) (b : q ≤ 2 ^ prec f) (c : (k ≡ 0) ⊎ (hid f ≤ q)) where
   digits : q ≤ 2 * hid f
   digits = le-trans b (le-of-eq (twice-hid f))
 
-  pub units-infinity : ones f * hid f ≤ k * hid f + q → units f s q k ≡ inf s
-  units-infinity h = units-past f s q k (le-trans (le-of-eq (past f)) (over (hid f) (2 * emax f) q k (hid-pos f) digits c h))
+  worth-units : worth f (k * hid f + q) ≡ q * 2 ^ k
+  worth-units = lead-units (hid f) (hid-pos f) q k digits c
 
-  units-below : k * hid f + q < ones f * hid f → units f s q k ≡ ofBits f (cond s (top f) 0 + (k * hid f + q))
+  pub units-value : k * hid f + q < infinite f → HasValue (ofBits f (cond s (top f) 0 + (k * hid f + q))) s (q * 2 ^ k) (2 ^ low f)
+  units-value h =
+      let p = k * hid f + q in
+      subst (λ (x : ℕ). HasValue (ofBits f (cond s (top f) 0 + p)) s x (2 ^ low f)) worth-units (pattern-value f s p h)
+
+  pub units-infinity : infinite f ≤ k * hid f + q → units f s q k ≡ inf s
+  units-infinity h = units-past f s q k (le-trans (le-of-eq (overflow-is f)) (units-over (hid f) (2 * emax f) q k (hid-pos f) digits c h))
+
+  units-below : k * hid f + q < infinite f → units f s q k ≡ ofBits f (cond s (top f) 0 + (k * hid f + q))
   units-below h =
       let p = k * hid f + q in
-      let w : worth f p ≡ q * 2 ^ k = lead-units (hid f) (hid-pos f) q k digits c in
-      let u : q * 2 ^ k < 2 ^ (low f + suc (emax f)) =
-      subst (λ (x : ℕ). x < 2 ^ (low f + suc (emax f))) w (lead-under f (p / hid f) (p % hid f) (div-lt-iff-lt-mul (hid-pos f) .1 h) (mod-lt p (hid-pos f))) in
+      let u : q * 2 ^ k < overflow f =
+      subst (λ (x : ℕ). x < overflow f) worth-units (lead-finite f (p / hid f) (p % hid f) (div-lt-iff-lt-mul (hid-pos f) .1 h) (mod-lt p (hid-pos f))) in
       unique f f (units f s q k) (ofBits f (cond s (top f) 0 + p)) s (q * 2 ^ k) (2 ^ low f) (pow-pos (low f)) (units-in f s q k b u) (ofBits-fits f (cond s (top f) 0 + p))
-      (units-val f s q k u) (subst (λ (x : ℕ). HasValue (ofBits f (cond s (top f) 0 + p)) s x (2 ^ low f)) w (pattern-value f s p h))
+      (units-val f s q k u) (units-value h)
 
-  pub units-pattern : k * hid f + q ≤ ones f * hid f → units f s q k ≡ ofBits f (cond s (top f) 0 + (k * hid f + q))
+  pub units-pattern : k * hid f + q ≤ infinite f → units f s q k ≡ ofBits f (cond s (top f) 0 + (k * hid f + q))
   units-pattern h = elim (eq-or-lt-of-le h) [
     | inl e ↦ units-infinity (le-of-eq (sym e)) ∙ sym (ap (λ (p : ℕ). ofBits f (cond s (top f) 0 + p)) e ∙ pattern-infinity f s)
     | inr l ↦ units-below l

@@ -1,5 +1,14 @@
 -- The laws of the fit's definitions, each file under its subject.
+pub mod LoopLaws
 pub mod EliminateLaws
+pub mod SolveLaws
 pub mod NormalLaws
 pub mod ShapeLaws
-pub mod SolveLaws
+pub mod InvertLaws
+pub mod PaddedLaws
+pub mod MonomialsLaws
+pub mod TermsLaws
+pub mod MappingLaws
+pub mod FitLaws
+pub mod BuildLaws
+pub mod CountLaws

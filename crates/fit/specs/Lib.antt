@@ -1,5 +1,19 @@
 -- The definitions of the fit.
-pub mod Eliminate
 pub mod Matrix
-pub mod Normal
+pub mod Eliminate
 pub mod Solve
+pub mod Normal
+pub mod Invert
+pub mod Orient
+pub mod Padded
+pub mod Monomials
+pub mod Pairs
+pub mod Rows
+pub mod Mapping
+pub mod Fit
+pub mod Affine
+pub mod Perspective
+pub mod Polynomial
+pub mod Barrel
+pub mod Shepards
+pub mod Build

@@ -1,4 +1,17 @@
 // The fit: from pairs to the coefficients of a mapping.
+pub mod affine;
+pub mod barrel;
+pub mod build;
 pub mod eliminate;
+pub mod invert;
+pub mod lstsq;
+pub mod mapping;
+pub mod monomials;
 pub mod normal;
+pub mod orient;
+pub mod pairs;
+pub mod perspective;
+pub mod polynomial;
+pub mod rows;
+pub mod shepards;
 pub mod solve;

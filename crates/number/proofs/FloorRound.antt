@@ -15,9 +15,9 @@ use lib.Ieee.Exact.{HasValue}
 use lib.Ieee.Nearest.{closest, nearest-ge}
 use lib.Ieee.Back.{whole-unique}
 use Rattle.exact.specs.Double.{_⊕_, _⊖_}
-use Rattle.exact.proofs.Value.{rescale}
 use Rattle.exact.proofs.Operands.{same-test, add-values, lt-values}
-use Rattle.exact.proofs.Whole.{round-to-whole}
+use Rattle.exact.proofs.RoundedValue.{round-to-whole}
+use Rattle.exact.proofs.Value.{rescale}
 use Rattle.exact.proofs.Integer.{negative, counted, ofInt-value, ofInt-sub}
 use Rattle.number.proofs.FloorNear.{shift, floorOf, floor-shift, sub-split, below-shift}
 

@@ -9,7 +9,6 @@ mod RootSettle
 mod RootValue
 pub mod BytesLaws
 pub mod BytesParts
-pub mod FloatBits
 pub mod FloatBytes
 pub mod FloorCode
 pub mod FloorLaws

@@ -1,27 +1,25 @@
--- What the code's tests say: up to zero the magnitude of x is 0 - x, which is exact, and above zero it is x; and x
--- differs from itself where it is a NaN and nowhere else. Assumes nothing.
+-- What the code's tests say: up to zero the magnitude of x is 0 - x, which is exact, and above zero it is x; and the test of a magnitude against a
+-- limit is one comparison of patterns. Assumes nothing.
 use mathlib.Core.Path.{_≡_, refl, sym, ap, _∙_, subst}
 use mathlib.Core.Bool.{Bool, true, false, _&&_, _||_, false≢true, true≢false}
-use Prim.Native.Nat.{ℕ, zero, suc, _+_, _-_, _*_, _<_}
-use native.Mathlib.Nat.{mul-pos, zero-lt-suc, zero-mul}
+use Prim.Native.Nat.{ℕ, zero, suc, _+_, _*_, _%_, _≤_, _<_}
+use native.Mathlib.Nat.{mul-pos, zero-lt-suc, zero-mul, mod-lt}
 use native.Mathlib.Omega.{arith}
 use lib.IntN.{ℤ, pos}
-use lib.Dec.{T, ltb, eqb}
-use lib.Ieee.{Float, nan, inf, fin, Format, binary32, binary64, up, down, round, sub, le, ne, fits, isNan, ofBits}
-use lib.Ieee.Compare.{differs-from-itself, nan-differs}
-use lib.Ieee.Fits.{up-pos}
+use lib.Dec.{T, leb, ltb, eqb}
+use lib.Ieee.{Float, nan, inf, fin, Format, top, up, down, round, sub, le, fits, ofBits}
+use lib.Ieee.Fits.{up-pos, down-pos}
 use borrow.Author.Tests.{lt-ltb, le-ltb, ne-eqb}
-use Rattle.exact.proofs.OwnValue.{round-held, round-zero, zero-exp}
-use Rattle.number.specs.Magnitude.{abs}
-use Rattle.number.proofs.MagnitudeLaws.{abs-fits}
+use Rattle.exact.proofs.Formats.{infinite, top-pos}
+use Rattle.exact.proofs.Held.{round-held, round-zero}
+use Rattle.exact.proofs.Nan.{zero-bits}
+use Rattle.exact.proofs.PatternOrder.{pattern-order}
+use Rattle.exact.proofs.Value.{zero-exp}
+use Rattle.number.specs.Magnitude.{abs, within}
+use Rattle.number.proofs.MagnitudeLaws.{abs-fits, abs-bits}
 
 abbrev +0 : Float
 +0 = fin false 0 (pos 0)
-
-pub zero-bits : (f : Format) → ofBits f 0 ≡ +0
-unfolding ofBits
-zero-bits binary32 = refl
-zero-bits binary64 = refl
 
 -- ---- the test x ≤ 0, of a magnitude a beside b, which is 0
 
@@ -61,7 +59,7 @@ abs-up-to-zero f (inf false) t h = absurd (false≢true h)
 abs-up-to-zero f (fin true m e) t h =
     ap (λ (n : ℕ). round f false n (1 * down e)) (tidy (down e) (m * up e))
     ∙ ap (λ (d : ℕ). round f false (m * up e) d) (once (down e))
-    ∙ round-held f false m e (unsigned f m e t)
+    ∙ round-held f (fin false m e) false (m * up e) (down e) (down-pos e) (unsigned f m e t) (refl, refl)
 abs-up-to-zero f (fin false zero e) t h =
     subst (λ (z : ℤ). sub f +0 (fin false 0 z) ≡ fin false 0 z) (sym (zero-exp f false e t)) (round-zero f false 1 (zero-lt-suc 0))
 abs-up-to-zero f (fin false (suc m) e) t h =
@@ -83,22 +81,8 @@ abs-of-difference f x t h =
 pub abs-otherwise : (f : Format) (x : Float) → le x (ofBits f 0) ≡ false → x ≡ abs x
 abs-otherwise f x h = abs-above-zero x (ap (λ (z : Float). le x z) (sym (zero-bits f)) ∙ h)
 
--- ---- what a program asks
-
-nan-is-nan : true ≡ isNan nan
-unfolding isNan
-nan-is-nan = refl
-
--- a value that is no NaN does not differ from itself
-number : (x : Float) → isNan x ≡ false → ne x x ≡ false
-number x h = go (ne x x) (differs-from-itself x)
-  where
-    go : (b : Bool) → (T b → x ≡ nan) → b ≡ false
-    go true f = absurd (true≢false (nan-is-nan ∙ sym (ap isNan (f tt)) ∙ h))
-    go false f = refl
-
-pub nan-test : (x : Float) → ne x x ≡ isNan x
-unfolding isNan
-nan-test nan = nan-differs
-nan-test (inf s) = number (inf s) refl
-nan-test (fin s m e) = number (fin s m e) refl
+-- ---- the limit, by patterns
+pub within-bits : (f : Format) (n limit : ℕ) → limit ≤ infinite f → leb (n % top f) limit ≡ within (ofBits f limit) (ofBits f n)
+unfolding within
+within-bits f n limit h =
+    sym (ap (λ (x : Float). le x (ofBits f limit)) (abs-bits f n) ∙ pattern-order f (n % top f) limit (mod-lt n (top-pos f)) h)

@@ -2,17 +2,20 @@
 -- patterns. Assumes nothing.
 use mathlib.Core.Path.{_≡_, sym, ap, _∙_, subst}
 use mathlib.Core.Logic.{inl, inr}
-use Prim.Native.Nat.{ℕ, _+_, _-_, _*_, _/_, _%_, _^_, _≤_, _<_, compare}
+use Prim.Native.Nat.{ℕ, _+_, _-_, _*_, _/_, _%_, _^_, _≤_, _<_}
 use native.Mathlib.Nat.{le-trans, le-of-eq, eq-or-lt-of-le}
 use native.Mathlib.Omega.{arith}
 use mathlib.Core.Bool.{Bool, true, false, not, cond}
-use lib.Dec.{T, nltb→le}
+use lib.Dec.{T}
 use lib.Ieee.{Float, binary32, binary64, top, fits, isNan, nanBits, ofBits, toBits}
-use lib.Ieee.Bits.{ofBits-toBits, toBits-lt, nanBits-is, nanBits-above}
-use lib.Ieee.Nearest.{closest, nearest-ge}
-use Rattle.exact.proofs.UnitPatterns.{lt-or-le}
-use Rattle.exact.proofs.Patterns.{worth, pattern-infinity, pattern-number}
-use Rattle.exact.proofs.Rounded.{round-bits-le, round-sign}
+use lib.Ieee.Bits.{ofBits-toBits, toBits-lt}
+use lib.Ieee.Nearest.{closest}
+use Rattle.exact.proofs.Closest.{closest-ge}
+use Rattle.exact.proofs.FloatPatterns.{number-bits}
+use Rattle.exact.proofs.Formats.{below-top}
+use Rattle.exact.proofs.Naturals.{lt-or-le}
+use Rattle.exact.proofs.Patterns.{worth, pattern-infinity, pattern-rest, pattern-number}
+use Rattle.exact.proofs.RoundedPattern.{round-bits-le, round-sign}
 use Rattle.number.specs.Narrow.{narrow}
 use Rattle.number.proofs.NarrowLaws.{narrow-infinity}
 use Rattle.number.proofs.NarrowNormal.{short, significand, narrow-pattern, short-round, short-infinity, normal-short, past-short}
@@ -26,7 +29,7 @@ pub ordinary-bits : (m : ℕ) → 0x3810000000000000 ≤ m → m < 0x47f00000000
 ordinary-bits m a b = normal-short m (m / 0x10000000000000 - 897) (field-of m a) b
 
 pub ordinary-least : (m : ℕ) → 0x3810000000000000 ≤ m → 0x1c0000000 ≤ closest m 0x20000000
-ordinary-least m a = le-trans (omega arith) (nearest-ge (m / 0x20000000) (compare (m % 0x20000000 * 2) 0x20000000))
+ordinary-least m a = closest-ge m 0x20000000 0x1c0000000 (omega arith) (omega arith)
 
 pub over-bits : (m : ℕ) → 0x47f0000000000000 ≤ m → m ≤ 0x7ff0000000000000 → short m ≡ 0x7f800000
 over-bits m a b = elim (eq-or-lt-of-le b) [
@@ -68,17 +71,15 @@ module _ (x : Float) (number : T (not (isNan x))) (held : T (fits binary64 x)) w
   bits-split : (s : Bool) × (toBits binary64 x ≡ cond s 0x8000000000000000 0 + toBits binary64 x % 0x8000000000000000) × (toBits binary64 x / 0x8000000000000000 * 0x80000000 ≡ cond s 0x80000000 0)
   bits-split = split (toBits binary64 x) (toBits-lt binary64 x held)
 
-  pub number-bits : toBits binary64 x % 0x8000000000000000 ≤ 0x7ff0000000000000
-  number-bits =
-      nltb→le 0x7ff0000000000000 (toBits binary64 x % 0x8000000000000000)
-      (subst (λ (b : Bool). T (not b)) (ap isNan (sym (ofBits-toBits binary64 x held)) ∙ sym (nanBits-is binary64 (toBits binary64 x)) ∙ nanBits-above binary64 (toBits binary64 x)) number)
+  pub bits-number : toBits binary64 x % 0x8000000000000000 ≤ 0x7ff0000000000000
+  bits-number = number-bits binary64 x held number
 
   pub narrow-bits : ofBits binary32 (toBits binary64 x / 0x8000000000000000 * 0x80000000 + short (toBits binary64 x % 0x8000000000000000)) ≡ narrow x
   narrow-bits =
       let b = toBits binary64 x in
       let z = bits-split in
       ap (λ (y : ℕ). ofBits binary32 (y + short (b % 0x8000000000000000))) (z .2)
-      ∙ sym (signed-bits (z .0) (b % 0x8000000000000000) number-bits)
+      ∙ sym (signed-bits (z .0) (b % 0x8000000000000000) bits-number)
       ∙ ap (λ (y : ℕ). narrow (ofBits binary64 y)) (sym (z .1))
       ∙ ap narrow (ofBits-toBits binary64 x held)
 
@@ -87,4 +88,7 @@ module _ (x : Float) (number : T (not (isNan x))) (held : T (fits binary64 x)) w
       let b = toBits binary64 x in
       let z = bits-split in
       subst (λ (y : ℕ). T (not (nanBits binary32 (y + short (b % 0x8000000000000000))))) (sym (z .2))
-      (pattern-number binary32 (z .0) (short (b % 0x8000000000000000)) (bits-le (b % 0x8000000000000000) number-bits))
+      (short-number (z .0) (short (b % 0x8000000000000000)) (bits-le (b % 0x8000000000000000) bits-number))
+    where
+      short-number : (s : Bool) (p : ℕ) → p ≤ 0x7f800000 → T (not (nanBits binary32 (cond s 0x80000000 0 + p)))
+      short-number s p h = pattern-number binary32 (cond s 0x80000000 0 + p) (le-trans (le-of-eq (pattern-rest binary32 s p (below-top binary32 p h))) h)

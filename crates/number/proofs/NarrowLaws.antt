@@ -10,7 +10,8 @@ use lib.Ieee.Fits.{down-pos, round-fits, nan-fits, inf-fits}
 use lib.Ieee.Exact.{HasValue}
 use lib.Ieee.Order.{round-mono}
 use lib.Ieee.Scale.{round-same}
-use Rattle.exact.proofs.Held.{round-held, round-le-pow}
+use Rattle.exact.proofs.Held.{round-held}
+use Rattle.exact.proofs.RoundedValue.{round-le-pow}
 use Rattle.number.specs.Narrow.{narrow}
 
 -- a value is narrowed by rounding it, however it is written as a fraction
@@ -53,4 +54,4 @@ narrow-mono x y a c b d C D v w h =
 pub narrow-unit : (x : Float) (a c : ℕ) → 0 < c → a ≤ c → HasValue x false a c → (g : ℕ) × HasValue (narrow x) false g (2 ^ 149) × (g ≤ 2 ^ 149)
 narrow-unit x a c C h v =
     subst (λ (z : Float). (g : ℕ) × HasValue z false g (2 ^ 149) × (g ≤ 2 ^ 149)) (sym (narrow-value x false a c C v))
-    (round-le-pow binary32 a c 149 C (le-trans (mul-le-mul-right (2 ^ 149) h) (le-of-eq (mul-comm c (2 ^ 149)))) (lit< tt))
+    (round-le-pow binary32 false a c 149 C (le-trans (mul-le-mul-right (2 ^ 149) h) (le-of-eq (mul-comm c (2 ^ 149)))) (lit< tt))

@@ -1,17 +1,16 @@
 -- Narrowing below 2 ^ -126: in units of 2 ^ -149 the value is the significand over a power of two, of which no digit is dropped, and
 -- below 2 ^ -150 it is less than half a unit. Assumes nothing.
 use mathlib.Core.Path.{_≡_, sym, ap, _∙_}
-use Prim.Native.Nat.{ℕ, zero, suc, _+_, _*_, _/_, _%_, _^_, _≤_, _<_, compare}
-use native.Mathlib.Nat.{le-trans, le-of-eq, lt-of-lt-of-le, mul-assoc, mul-lt-mul-of-pos-right, div-lt-iff-lt-mul}
+use Prim.Native.Nat.{ℕ, zero, suc, _+_, _*_, _/_, _%_, _^_, _≤_, _<_}
+use native.Mathlib.Nat.{le-trans, le-of-eq, le-of-lt, lt-of-lt-of-le, mul-assoc, mul-lt-mul-of-pos-right}
 use native.Mathlib.Omega.{arith}
 use lib.Dec.{lit≤}
 use lib.Pow.{pow-add, pow-pos, pow-mono, shl-lt}
 use lib.Ieee.{binary32, binary64}
-use lib.Ieee.Fits.{nearest-le}
 use lib.Ieee.Nearest.{closest}
-use Rattle.exact.proofs.Closest.{closest-none}
+use Rattle.exact.proofs.Closest.{closest-le, closest-none}
 use Rattle.exact.proofs.Patterns.{lead, worth}
-use Rattle.exact.proofs.Rounded.{rank, rank-same, rank-small, round-bits}
+use Rattle.exact.proofs.RoundedPattern.{rank, rank-same, rank-small, round-bits}
 use Rattle.number.proofs.NarrowNormal.{short, short-round, significand, lead-field}
 
 -- below 2 ^ -126: q / 2 ^ i units, of which no digit is dropped
@@ -43,7 +42,7 @@ module _ (m x i : ℕ) (field : m / 0x10000000000000 ≡ suc x) (shift : x + i �
       let q = significand m in
       short-round m h
       ∙ round-bits binary32 (worth binary64 m) (2 ^ 1074)
-      (le-trans (le-of-eq low-rank) (le-trans (nearest-le (q / 2 ^ i) (compare (q % 2 ^ i * 2) (2 ^ i))) (le-trans (div-lt-iff-lt-mul (pow-pos i) .1 low-under) (lit≤ tt))))
+      (le-trans (le-of-eq low-rank) (le-trans (closest-le q (2 ^ i) (2 ^ 24) (pow-pos i) (le-of-lt low-under)) (lit≤ tt)))
       ∙ low-rank
 
 -- below 2 ^ -150: less than half a unit

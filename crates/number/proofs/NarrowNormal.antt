@@ -2,17 +2,17 @@
 -- is that fraction rounded, and the pattern of a rounded fraction is known (`rank`): by the significand and how many of
 -- its digits are dropped. Here from 2 ^ -126 on, where 24 digits are kept. Assumes nothing.
 use mathlib.Core.Path.{_≡_, refl, sym, ap, _∙_}
-use Prim.Native.Nat.{ℕ, suc, _+_, _-_, _*_, _/_, _%_, _^_, _≤_, _<_, compare}
+use Prim.Native.Nat.{ℕ, suc, _+_, _-_, _*_, _/_, _%_, _^_, _≤_, _<_}
 use native.Mathlib.Nat.{le-trans, le-of-eq, zero-add, mul-assoc, mul-comm, mul-right-comm}
 use native.Mathlib.Omega.{arith}
 use mathlib.Core.Bool.{Bool, false, cond}
 use lib.Pow.{pow-add, pow-pos}
 use lib.Ieee.{Float, binary32, binary64, round, top, ofBits, toBits}
-use lib.Ieee.Fits.{nearest-le}
-use lib.Ieee.Nearest.{closest, nearest-ge}
-use Rattle.exact.proofs.Closest.{closest-shift}
+use lib.Ieee.Nearest.{closest}
+use Rattle.exact.proofs.Closest.{closest-le, closest-ge, closest-shift}
+use Rattle.exact.proofs.FloatPatterns.{infinity-bits}
 use Rattle.exact.proofs.Patterns.{lead, worth, pattern-value, pattern-infinity}
-use Rattle.exact.proofs.Rounded.{rank, rank-same, rank-normal, round-bits, round-infinity, infinity-bits}
+use Rattle.exact.proofs.RoundedPattern.{rank, rank-same, rank-normal, round-bits, round-infinity}
 use Rattle.number.specs.Narrow.{narrow}
 use Rattle.number.proofs.NarrowLaws.{narrow-value, narrow-infinity}
 
@@ -27,7 +27,7 @@ pub short-round : (m : ℕ) → m < 0x7ff0000000000000 → short m ≡ toBits bi
 short-round m h = ap (λ (p : ℕ). toBits binary32 (narrow (ofBits binary64 p))) (sym (zero-add m)) ∙ ap (toBits binary32) (narrow-pattern false m h)
 
 pub short-infinity : short 0x7ff0000000000000 ≡ 0x7f800000
-short-infinity = ap (λ (v : Float). toBits binary32 (narrow v)) (pattern-infinity binary64 false) ∙ ap (toBits binary32) (narrow-infinity false) ∙ infinity-bits binary32
+short-infinity = ap (λ (v : Float). toBits binary32 (narrow v)) (pattern-infinity binary64 false) ∙ ap (toBits binary32) (narrow-infinity false) ∙ infinity-bits binary32 false
 
 -- ---- with the significand q the value is q * 2 ^ x for the field x + 1
 abbrev pub significand : ℕ → ℕ
@@ -54,14 +54,10 @@ module _ (m j : ℕ) (field : m / 0x10000000000000 ≡ 897 + j) where
 
   -- what is kept has 24 digits, or is 2 ^ 24
   kept-least : 0x800000 ≤ closest (significand m) 0x20000000
-  kept-least =
-      let q = significand m in
-      le-trans (omega arith) (nearest-ge (q / 0x20000000) (compare (q % 0x20000000 * 2) 0x20000000))
+  kept-least = closest-ge (significand m) 0x20000000 0x800000 (omega arith) (omega arith)
 
   kept-most : closest (significand m) 0x20000000 ≤ 0x1000000
-  kept-most =
-      let q = significand m in
-      le-trans (nearest-le (q / 0x20000000) (compare (q % 0x20000000 * 2) 0x20000000)) (omega arith)
+  kept-most = closest-le (significand m) 0x20000000 0x1000000 (omega arith) (omega arith)
 
   -- 29 digits off the whole pattern are 29 digits off the significand
   whole-closest : closest m 0x20000000 ≡ (896 + j) * 0x800000 + closest (significand m) 0x20000000
@@ -89,7 +85,7 @@ module _ (m j : ℕ) (field : m / 0x10000000000000 ≡ 897 + j) where
       let c = closest (significand m) 0x20000000 in
       short-round m k
       ∙ ap (toBits binary32) (round-infinity binary32 false (worth binary64 m) (2 ^ 1074) (le-trans (too-far j c (omega arith) kept-least) (le-of-eq (sym normal-rank))))
-      ∙ infinity-bits binary32
+      ∙ infinity-bits binary32 false
     where
       too-far : (j c : ℕ) → 254 ≤ j → 0x800000 ≤ c → 0x7f800000 ≤ j * 0x800000 + c
       too-far j c h k = omega arith

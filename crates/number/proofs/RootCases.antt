@@ -10,13 +10,9 @@ use lib.Ieee.{Float, nan, inf, fin, binary64, up, down, fits, isNan, toBits, ofB
 use lib.Ieee.Bits.{is-true}
 use lib.Ieee.Fits.{up-pos, and-l}
 use lib.Ieee.Positive.{positive, first-pos}
-use Rattle.exact.proofs.PatternDigits.{finite-bits}
+use Rattle.exact.proofs.FloatPatterns.{finite-bits}
+use Rattle.exact.proofs.Nan.{zero-bits, zero-by-zero}
 use Rattle.number.specs.Root.{root}
-
--- the code's 0.0
-zero-is : ofBits binary64 0 ≡ fin false 0 (pos 0)
-unfolding ofBits
-zero-is = refl
 
 as-test : (b : Bool) → b ≡ true → T b
 as-test b e = subst T (sym e) tt
@@ -27,7 +23,7 @@ above m e t = first-pos m (up e) (first-pos (m * up e) 1 (lt-of-le-of-lt zero-le
 
 module _ (x : Float) (h : lt (ofBits binary64 0) x ≡ true) where
   test : T (lt (fin false 0 (pos 0)) x)
-  test = as-test (lt (fin false 0 (pos 0)) x) (ap (λ (z : Float). lt z x) (sym zero-is) ∙ h)
+  test = as-test (lt (fin false 0 (pos 0)) x) (ap (λ (z : Float). lt z x) (sym (zero-bits binary64)) ∙ h)
 
 no-nan-above : (x : Float) → T (lt (fin false 0 (pos 0)) x) → T (not (isNan x))
 unfolding lt isNan
@@ -49,7 +45,7 @@ infinity-above nan f t l = absurd t
 infinity-above (inf true) f t l = absurd t
 infinity-above (inf false) f t l = refl
 infinity-above (fin true m e) f t l = absurd t
-infinity-above (fin false m e) f t l = absurd (not-le-of-lt (finite-bits m e f) l)
+infinity-above (fin false m e) f t l = absurd (not-le-of-lt (finite-bits binary64 false m e f) l)
 
 pub above-no-nan : (x : Float) → lt (ofBits binary64 0) x ≡ true → T (not (isNan x))
 above-no-nan x h = no-nan-above x (test x h)
@@ -74,13 +70,9 @@ itself (fin s zero e) t = refl
 itself (fin s (suc m) e) t = absurd (no-digits m s e t)
 
 pub zero-root : (x : Float) → eq x (ofBits binary64 0) ≡ true → x ≡ root x
-zero-root x h = itself x (as-test (eq x (fin false 0 (pos 0))) (ap (eq x) (sym zero-is) ∙ h))
+zero-root x h = itself x (as-test (eq x (fin false 0 (pos 0))) (ap (eq x) (sym (zero-bits binary64)) ∙ h))
 
 -- ---- neither: negative, or a NaN
-nan-is : div binary64 (ofBits binary64 0) (ofBits binary64 0) ≡ nan
-unfolding ofBits div
-nan-is = refl
-
 level-zero : (s : Bool) (a b : ℕ) → a ≡ 0 → b ≡ 0 → (eqb a b && (Bool·beq s false || eqb a 0)) ≡ true
 level-zero true a b p q = ap (λ (z : ℕ). eqb z b && (false || eqb z 0)) p ∙ ap (λ (z : ℕ). eqb 0 z && (false || eqb 0 0)) q
 level-zero false a b p q = ap (λ (z : ℕ). eqb z b && (true || eqb z 0)) p ∙ ap (λ (z : ℕ). eqb 0 z && (true || eqb 0 0)) q
@@ -100,4 +92,4 @@ none (fin true (suc m) e) h k = refl
 none (fin false (suc m) e) h k = absurd (true≢false (sym (zero-below m e) ∙ h))
 
 pub no-root : (x : Float) → lt (ofBits binary64 0) x ≡ false → eq x (ofBits binary64 0) ≡ false → div binary64 (ofBits binary64 0) (ofBits binary64 0) ≡ root x
-no-root x h k = nan-is ∙ none x (ap (λ (z : Float). lt z x) (sym zero-is) ∙ h) (ap (eq x) (sym zero-is) ∙ k)
+no-root x h k = zero-by-zero binary64 ∙ none x (ap (λ (z : Float). lt z x) (sym (zero-bits binary64)) ∙ h) (ap (eq x) (sym (zero-bits binary64)) ∙ k)

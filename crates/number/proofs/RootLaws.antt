@@ -7,16 +7,18 @@ use mathlib.Core.Bool.{true, false}
 use Prim.Native.Nat.{ℕ, zero, suc, _+_, _-_, _*_, _/_, _^_, _≤_, _<_}
 use native.Mathlib.Nat.{le-trans, le-of-eq, lt-of-lt-of-le, eq-or-lt-of-le, mul-assoc, mul-pos, mul-le-mul-right, zero-lt-suc}
 use native.Mathlib.Omega.{arith}
-use lib.Dec.{T, lt→ltb}
+use lib.Dec.{T, ltb→lt, lt→ltb}
 use lib.Pow.{pow-pos}
 use lib.Ieee.{Float, nan, inf, fin, binary64, up, down, fits, lt, size}
 use lib.Ieee.Fits.{round-fits, nan-fits, inf-fits}
 use lib.Ieee.Positive.{num, den, positive, positive-of-value}
-use Rattle.exact.proofs.Midpoint.{order, midpoint-under, midpoint-over, square-le, square-ge}
+use Rattle.exact.proofs.Midpoint.{midpoint-under, midpoint-over, square-le, square-ge}
+use Rattle.exact.proofs.Neighbours.{next-below, next-above}
+use Rattle.exact.proofs.Operands.{lt-values}
 use Rattle.exact.proofs.Units.{Units, units}
 use Rattle.number.specs.Root.{nearestRoot, rootOf, root, unsigned, MidpointUnder, MidpointOver}
 use Rattle.number.proofs.RootNumbers.{Rooted, rooted}
-use Rattle.number.proofs.RootNear.{next-below, next-above, under-next, under-least, over-next}
+use Rattle.number.proofs.RootNear.{under-next, under-least, over-next}
 
 -- ---- the result is an f64
 rootOf-fits : (n : ℕ) → T (fits binary64 (rootOf n))
@@ -52,7 +54,7 @@ root-unsigned (fin false (suc m) e) f u = of-positive (root (fin false (suc m) e
     of-positive (fin false m e) p = tt
 
 -- ---- no f64 is as near
-below-root : (x y : Float) (m k : ℕ) (r : Rooted x) → Units y false m k → m * 2 ^ k < r .q * 2 ^ (r .g) → MidpointUnder y (root x) x
+below-root : (x y : Float) (m k : ℕ) (r : Rooted x) → Units binary64 y false m k → m * 2 ^ k < r .q * 2 ^ (r .g) → MidpointUnder y (root x) x
 below-root x y m k r u l =
     let c = m * 2 ^ k in
     let d = r .q * 2 ^ (r .g) in
@@ -64,14 +66,14 @@ below-root x y m k r u l =
 
     go : (2 ^ 52 ≡ r .q) ⊎ (2 ^ 52 < r .q) → (m * 2 ^ k + r .q * 2 ^ (r .g)) * (m * 2 ^ k + r .q * 2 ^ (r .g)) < 4 * r .a * (2 ^ (r .g) * 2 ^ (r .g))
     go (inl e) = under-least (r .a) (r .q) (m * 2 ^ k) (2 ^ (r .g)) (r .near) (pow-pos (r .g)) (square (r .a) (r .q) e (r .large)) l
-    go (inr b) = under-next (r .a) (r .q) (m * 2 ^ k) (2 ^ (r .g)) (r .near) (pow-pos (r .g)) (lt-of-lt-of-le (pow-pos 52) (r .least)) (next-below m k (r .g) (r .q) (u .short) b l)
+    go (inr b) = under-next (r .a) (r .q) (m * 2 ^ k) (2 ^ (r .g)) (r .near) (pow-pos (r .g)) (lt-of-lt-of-le (pow-pos 52) (r .least)) (next-below 53 m k (r .g) (r .q) (u .short) b l)
 
-above-root : (x y : Float) (m k : ℕ) (r : Rooted x) → Units y false m k → r .q * 2 ^ (r .g) < m * 2 ^ k → MidpointOver y (root x) x
+above-root : (x y : Float) (m k : ℕ) (r : Rooted x) → Units binary64 y false m k → r .q * 2 ^ (r .g) < m * 2 ^ k → MidpointOver y (root x) x
 above-root x y m k r u l =
     let c = m * 2 ^ k in
     let d = r .q * 2 ^ (r .g) in
     midpoint-over y (root x) x c d (r .n) (2 ^ 1074) (pow-pos 1074) (u .value) (r .root-is) (r .value)
-    (subst (λ (z : ℕ). z < (c + d) * (c + d)) (sym (r .scale)) (over-next (r .a) (r .q) c (2 ^ (r .g)) (r .near) (pow-pos (r .g)) (next-above m k (r .g) (r .q) (u .short) (r .least) l)))
+    (subst (λ (z : ℕ). z < (c + d) * (c + d)) (sym (r .scale)) (over-next (r .a) (r .q) c (2 ^ (r .g)) (r .near) (pow-pos (r .g)) (next-above 53 m k (r .g) (r .q) (u .short) (r .least) l)))
 
 -- a y below the root: the root of x is above the midpoint of the two
 pub nearer-than-below : (x y : Float) → T (fits binary64 x) → T (positive x) → T (fits binary64 y) → T (unsigned y) → T (lt y (root x)) → MidpointUnder y (root x) x
@@ -80,8 +82,8 @@ nearer-than-below x (inf t) f p h s l = absurd s
 nearer-than-below x (fin true m e) f p h s l = absurd s
 nearer-than-below x (fin false m e) f p h s l =
     let r = rooted x f p in
-    let u = units false m e h in
-    below-root x (fin false m e) m (u .0) r (u .1) (order (fin false m e) (root x) (m * 2 ^ (u .0)) (r .q * 2 ^ (r .g)) (2 ^ 1074) (pow-pos 1074) (u .1 .value) (r .root-is) l)
+    let u = units binary64 false m e h in
+    below-root x (fin false m e) m (u .0) r (u .1) (ltb→lt (m * 2 ^ (u .0)) (r .q * 2 ^ (r .g)) (subst T (lt-values (fin false m e) (root x) false false (m * 2 ^ (u .0)) (r .q * 2 ^ (r .g)) (2 ^ 1074) (pow-pos 1074) (u .1 .value) (r .root-is)) l))
 
 -- a y above it: the root of x is below the midpoint
 pub nearer-than-above : (x y : Float) → T (fits binary64 x) → T (positive x) → T (fits binary64 y) → T (unsigned y) → T (lt (root x) y) → MidpointOver y (root x) x
@@ -90,8 +92,8 @@ nearer-than-above x (inf t) f p h s l = absurd s
 nearer-than-above x (fin true m e) f p h s l = absurd s
 nearer-than-above x (fin false m e) f p h s l =
     let r = rooted x f p in
-    let u = units false m e h in
-    above-root x (fin false m e) m (u .0) r (u .1) (order (root x) (fin false m e) (r .q * 2 ^ (r .g)) (m * 2 ^ (u .0)) (2 ^ 1074) (pow-pos 1074) (r .root-is) (u .1 .value) l)
+    let u = units binary64 false m e h in
+    above-root x (fin false m e) m (u .0) r (u .1) (ltb→lt (r .q * 2 ^ (r .g)) (m * 2 ^ (u .0)) (subst T (lt-values (root x) (fin false m e) false false (r .q * 2 ^ (r .g)) (m * 2 ^ (u .0)) (2 ^ 1074) (pow-pos 1074) (r .root-is) (u .1 .value)) l))
 
 -- ---- the square of the root is within one part in 2 ^ 52 of x
 pub square-near : (x : Float) → T (fits binary64 x) → T (positive x)

@@ -2,7 +2,7 @@
 -- value of the result. Assumes nothing.
 use mathlib.Core.Path.{_≡_, sym, ap, _∙_, subst}
 use mathlib.Core.Bool.{true, false}
-use Prim.Native.Nat.{ℕ, _+_, _-_, _*_, _^_, _≤_}
+use Prim.Native.Nat.{ℕ, _+_, _*_, _^_, _≤_}
 use native.Mathlib.Nat.{lt-of-lt-of-le, mul-assoc}
 use native.Mathlib.Omega.{arith}
 use lib.Count.{leading-top}
@@ -11,10 +11,11 @@ use lib.Pow.{pow-add, pow-pos}
 use lib.Ieee.{Float, nan, inf, fin, binary64, fits}
 use lib.Ieee.Exact.{HasValue}
 use lib.Ieee.Positive.{positive, first-pos, value-pos}
+use Rattle.exact.proofs.Naturals.{four-pow}
 use Rattle.exact.proofs.Units.{Units, units}
 use Rattle.number.specs.Root.{root}
 use Rattle.number.proofs.RootWhole.{Nearest}
-use Rattle.number.proofs.RootScale.{four-pow, moved, scaled, moved-sized, root-near}
+use Rattle.number.proofs.RootScale.{moved, scaled, moved-sized, raised-ge, root-near}
 use Rattle.number.proofs.RootValue.{half, digits, digits-ge, root-value}
 use Rattle.number.proofs.RootPositive.{root-of}
 
@@ -45,10 +46,7 @@ scale-is n a h e =
     twice : (h : ℕ) → h + h + 970 ≡ h + 485 + (h + 485)
     twice h = omega arith
 
-big : (n : ℕ) → 2 ^ 52 ≤ n → 2 ^ 104 ≤ n * 2 ^ 52
-big n h = omega arith
-
-of-units : (x : Float) (m k : ℕ) → T (positive x) → Units x false m k → Rooted x
+of-units : (x : Float) (m k : ℕ) → T (positive x) → Units binary64 x false m k → Rooted x
 of-units x m k p u =
     let top = leading-top 64 m (first-pos m (2 ^ k) (value-pos x (m * 2 ^ k) (2 ^ 1074) p (pow-pos 1074) (u .value))) (lt-of-lt-of-le (u .short) (lit≤ tt)) in
     let j = top .0 in
@@ -67,11 +65,11 @@ of-units x m k p u =
       scale = scale-is (m * 2 ^ k) (t * 2 ^ 52) (half m k j lo hi s (u .under)) (scaled m k j lo hi s);
       near = root-near t (z .0) (z .1);
       least = digits-ge m k j lo hi s (u .under);
-      large = big t (z .0);
+      large = raised-ge t (z .0);
     }
 
 pub rooted : (x : Float) → T (fits binary64 x) → T (positive x) → Rooted x
 rooted nan f p = absurd p
 rooted (inf s) f p = absurd p
 rooted (fin true m e) f p = absurd p
-rooted (fin false m e) f p = let u = units false m e f in of-units (fin false m e) m (u .0) p (u .1)
+rooted (fin false m e) f p = let u = units binary64 false m e f in of-units (fin false m e) m (u .0) p (u .1)

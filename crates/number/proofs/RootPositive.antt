@@ -3,7 +3,7 @@
 use mathlib.Core.Path.{_≡_, sym, ap, _∙_, subst}
 use mathlib.Core.Bool.{true, false}
 use Prim.Native.Nat.{ℕ, zero, suc, _+_, _-_, _*_, _/_, _%_, _^_, _≤_, _<_}
-use native.Mathlib.Nat.{lt-irrefl, lt-of-lt-of-le, mod-eq-of-lt}
+use native.Mathlib.Nat.{lt-irrefl, lt-of-lt-of-le, zero-add, mod-eq-of-lt}
 use native.Mathlib.Omega.{arith}
 use lib.Count.{leadingZeros, leading-top}
 use lib.Dec.{T, lit≤, ltb→lt}
@@ -25,7 +25,7 @@ root-of nan n p v = absurd p
 root-of (inf s) n p v = absurd p
 root-of (fin true m e) n p v = absurd p
 root-of (fin false zero e) n p v = absurd (lt-irrefl 0 (ltb→lt 0 0 p))
-root-of (fin false (suc m) e) n p v = ap rootOf (count false false (suc m) e n v)
+root-of (fin false (suc m) e) n p v = ap rootOf (count false false (suc m) e n (2 ^ 1074) v)
 
 -- ---- the code's numbers: m and k are the significand and its place
 -- the place of the leading digit, and m moved up, by the leading zeros
@@ -58,7 +58,7 @@ above-lead z j h = omega arith
 fits-word : (n : ℕ) → n + 2 ≤ 2 ^ 54 → (n < 2 ^ 64) × (n < 2 ^ 54)
 fits-word n h = omega arith
 
-module _ (x : Float) (m k j : ℕ) (p : T (positive x)) (u : Units x false m k) (z : leadingZeros 64 m + suc j ≡ 64) (lo : 2 ^ j ≤ m) (hi : m < 2 ^ suc j) where
+module _ (x : Float) (m k j : ℕ) (p : T (positive x)) (u : Units binary64 x false m k) (z : leadingZeros 64 m + suc j ≡ 64) (lo : 2 ^ j ≤ m) (hi : m < 2 ^ suc j) where
   leads-is : leads m k ≡ k + j
   leads-is = below-lead k (leadingZeros 64 m) j z
 
@@ -85,11 +85,11 @@ module _ (x : Float) (m k j : ℕ) (p : T (positive x)) (u : Units x false m k) 
   }
 
 -- of x's own pattern b
-pub from-bits : (x : Float) (b m k : ℕ) → T (positive x) → T (fits binary64 x) → b ≡ toBits binary64 x → b < 9218868437227405312 → m ≡ digitsOf b → k ≡ placeOf b → Steps x m k
+pub from-bits : (x : Float) (b m k : ℕ) → T (positive x) → T (fits binary64 x) → b ≡ toBits binary64 x → b < 9218868437227405312 → m ≡ digitsOf binary64 b → k ≡ placeOf binary64 b → Steps x m k
 from-bits x b m k p f e l M K =
-    let u : Units x false m k =
-    subst (λ (y : Float). Units y false m k) (ap (λ (n : ℕ). ofBits binary64 n) e ∙ ofBits-toBits binary64 x f)
-    (subst (λ (n : ℕ). Units (ofBits binary64 b) false n k) (sym M)
-    (subst (λ (n : ℕ). Units (ofBits binary64 b) false (digitsOf b) n) (sym K) (pattern-units b l))) in
+    let u : Units binary64 x false m k =
+    subst (λ (y : Float). Units binary64 y false m k) (ap (λ (n : ℕ). ofBits binary64 n) e ∙ ofBits-toBits binary64 x f)
+    (subst (λ (n : ℕ). Units binary64 (ofBits binary64 b) false n k) (sym M)
+    (subst (λ (n : ℕ). Units binary64 (ofBits binary64 b) false (digitsOf binary64 b) n) (sym K) (subst (λ (n : ℕ). Units binary64 (ofBits binary64 n) false (digitsOf binary64 b) (placeOf binary64 b)) (zero-add b) (pattern-units binary64 false b l)))) in
     let top = leading-top 64 m (first-pos m (2 ^ k) (value-pos x (m * 2 ^ k) (2 ^ 1074) p (pow-pos 1074) (u .value))) (lt-of-lt-of-le (u .short) (lit≤ tt)) in
     steps x m k (top .0) p u (top .1) (top .2) (top .3)

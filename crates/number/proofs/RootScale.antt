@@ -1,32 +1,14 @@
 -- A number m * 2 ^ k of units, m of at most 53 digits, scaled to 105 or 106 digits: by the place of m's leading digit its root's exponent is known,
 -- and what is left is a whole number whose nearest root has 53 digits. All by adding exponents. Assumes nothing.
-use mathlib.Core.Path.{_≡_, refl, sym, ap, _∙_, subst}
+use mathlib.Core.Path.{_≡_, sym, ap, _∙_, subst}
 use Prim.Native.Nat.{ℕ, zero, suc, _+_, _-_, _*_, _/_, _%_, _^_, _≤_, _<_}
-use native.Mathlib.Nat.{le-trans, le-of-eq, le-antisymm, le-of-suc-le-suc, lt-of-not-le, lt-of-lt-of-le, lt-of-le-of-lt, lt-irrefl, mul-assoc, mul-comm, mul-div-cancel, mul-le-mul-right, mul-le-mul-left, pow-succ'}
+use native.Mathlib.Nat.{le-trans, le-of-eq, le-of-suc-le-suc, lt-of-not-le, lt-of-le-of-lt, mul-assoc, mul-comm, mul-div-cancel, mul-le-mul-right, mul-le-mul-left}
 use native.Mathlib.Omega.{arith}
-use lib.Pow.{pow-add, pow-pos, pow-mono, shl-lt}
+use lib.Pow.{pow-add, pow-pos, shl-lt}
 use lib.Ieee.{size}
-use lib.Ieee.Digits.{size-lt, size-le}
+use Rattle.exact.proofs.Naturals.{pow-lt-back, size-is, four-pow}
 use Rattle.number.specs.Root.{nearestRoot}
 use Rattle.number.proofs.RootWhole.{Nearest, nearest-is}
-
--- ---- powers
-pub four-pow : (h : ℕ) → 4 ^ h ≡ 2 ^ (h + h)
-four-pow zero = refl
-four-pow (suc h) = pow-succ' 4 h ∙ ap (λ (z : ℕ). 4 * z) (four-pow h) ∙ twice (2 ^ (h + h)) ∙ ap (λ (z : ℕ). 2 * z) (sym (pow-succ' 2 (h + h))) ∙ sym (pow-succ' 2 (suc (h + h))) ∙ ap (λ (z : ℕ). 2 ^ z) (more h)
-  where
-    twice : (p : ℕ) → 4 * p ≡ 2 * (2 * p)
-    twice p = omega arith
-
-    more : (h : ℕ) → suc (suc (h + h)) ≡ suc h + suc h
-    more h = omega arith
-
-pow-lt-back : (i p : ℕ) → 2 ^ i < 2 ^ p → i < p
-pow-lt-back i p h = lt-of-not-le (λ (g : p ≤ i). lt-irrefl (2 ^ i) (lt-of-lt-of-le h (pow-mono g)))
-
--- a number between two powers has so many digits
-size-is : (n a : ℕ) → 2 ^ a ≤ n → n < 2 ^ suc a → size n ≡ suc a
-size-is n a lo hi = le-antisymm (size-le n (suc a) hi) (pow-lt-back a (size n) (lt-of-le-of-lt lo (size-lt n)))
 
 -- ---- exponents
 exponents : (j k : ℕ) → j ≤ 52 → 52 - j + (k + j) % 2 + 52 + ((k + j) / 2 + (k + j) / 2) ≡ k + 104
@@ -94,6 +76,16 @@ module _ (m k j : ℕ) (lo : 2 ^ j ≤ m) (hi : m < 2 ^ suc j) (short : m < 2 ^ 
       (le-trans (le-of-eq (ap (λ (z : ℕ). 2 ^ z) (sym (join j place-le)) ∙ pow-add 2 j (52 - j))) (mul-le-mul-right (2 ^ (52 - j)) lo))
       (subst (λ (z : ℕ). m * 2 ^ (52 - j) < 2 ^ z) (join-suc j place-le) (shl-lt (suc j) (52 - j) hi)))
 
+-- ---- a number of 53 or 54 digits, 52 places up
+pub raised-pos : (n : ℕ) → 2 ^ 52 ≤ n → 0 < n * 2 ^ 52
+raised-pos n h = omega arith
+
+pub raised-ge : (n : ℕ) → 2 ^ 52 ≤ n → 2 ^ 104 ≤ n * 2 ^ 52
+raised-ge n h = omega arith
+
+pub raised-lt : (n : ℕ) → n < 2 ^ 54 → n * 2 ^ 52 < 2 ^ 106
+raised-lt n h = omega arith
+
 -- ---- the nearest root of such a number has 53 digits
 root-lt : (a q : ℕ) → a + 2 ^ 53 ≤ 2 ^ 106 → Nearest a q → q < 2 ^ 53
 root-lt a q h w = lt-of-not-le (λ (g : 2 ^ 53 ≤ q). clash a q (q * q) g (mul-le-mul-right q g) h (w .0))
@@ -109,13 +101,7 @@ root-ge a q h w = le-of-suc-le-suc (lt-of-not-le (λ (g : suc q ≤ 2 ^ 52). cla
 
 module _ (n : ℕ) (lo : 2 ^ 52 ≤ n) (hi : n + 2 ≤ 2 ^ 54) where
   pub root-near : Nearest (n * 2 ^ 52) (nearestRoot (n * 2 ^ 52))
-  root-near = nearest-is (n * 2 ^ 52) (some n lo) (room n hi)
-    where
-      some : (n : ℕ) → 2 ^ 52 ≤ n → 0 < n * 2 ^ 52
-      some n h = omega arith
-
-      room : (n : ℕ) → n + 2 ≤ 2 ^ 54 → n * 2 ^ 52 < 2 ^ 106
-      room n h = omega arith
+  root-near = nearest-is (n * 2 ^ 52) (raised-pos n lo) (raised-lt n (omega arith))
 
   pub root-under : nearestRoot (n * 2 ^ 52) < 2 ^ 53
   root-under = root-lt (n * 2 ^ 52) (nearestRoot (n * 2 ^ 52)) (room n hi) root-near
@@ -124,7 +110,4 @@ module _ (n : ℕ) (lo : 2 ^ 52 ≤ n) (hi : n + 2 ≤ 2 ^ 54) where
       room n h = omega arith
 
   pub root-over : 2 ^ 52 ≤ nearestRoot (n * 2 ^ 52)
-  root-over = root-ge (n * 2 ^ 52) (nearestRoot (n * 2 ^ 52)) (big n lo) root-near
-    where
-      big : (n : ℕ) → 2 ^ 52 ≤ n → 2 ^ 104 ≤ n * 2 ^ 52
-      big n h = omega arith
+  root-over = root-ge (n * 2 ^ 52) (nearestRoot (n * 2 ^ 52)) (raised-ge n lo) root-near

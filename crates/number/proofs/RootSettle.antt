@@ -4,6 +4,8 @@ use mathlib.Core.Path.{_≡_, sym, ap, _∙_, subst}
 use Prim.Native.Nat.{ℕ, _+_, _-_, _*_, _/_, _%_, _^_, _≤_, _<_}
 use native.Mathlib.Nat.{mul-le-mul}
 use native.Mathlib.Omega.{arith}
+use lib.Ieee.Digits.{back}
+use Rattle.number.proofs.RootScale.{raised-pos, raised-lt}
 use Rattle.number.proofs.RootWhole.{Nearest, nearest-by}
 use Rattle.number.specs.Root.{nearestRoot}
 
@@ -24,9 +26,6 @@ steps n h l d f t a b c x y z = omega arith
 
 square : (h l : ℕ) → (h * 134217728 + l) * (h * 134217728 + l) ≡ 18014398509481984 * (h * h) + 268435456 * (h * l) + l * l
 square h l = omega arith
-
-back : (a b : ℕ) → b ≤ a → a - b + b ≡ a
-back a b h = omega arith
 
 four : (h : ℕ) → 4 * h * h ≡ 4 * (h * h)
 four h = omega arith
@@ -54,12 +53,6 @@ product-le a b x y h k = mul-le-mul h k
 near : (q a t : ℕ) → t + q * q ≡ a + q → 0 < t → t ≤ 2 * q → Nearest a q
 near q a t e x y = omega arith
 
-some : (n : ℕ) → 2 ^ 52 ≤ n → 0 < n * 2 ^ 52
-some n h = omega arith
-
-room : (n : ℕ) → n < 2 ^ 54 → n * 2 ^ 52 < 2 ^ 106
-room n h = omega arith
-
 above : (a b : ℕ) → a < b → (a ≤ b) × (0 < b - a)
 above a b h = omega arith
 
@@ -74,5 +67,5 @@ settled n q lo hi x y z w =
     let h = q / 134217728 in
     let l = q % 134217728 in
     let p = above (l * l) (second n h l * 134217728 + l) z in
-    nearest-by (n * 2 ^ 52) q (some n lo) (room n hi)
+    nearest-by (n * 2 ^ 52) q (raised-pos n lo) (raised-lt n hi)
     (near q (n * 2 ^ 52) (third n h l) (subst (λ (r : ℕ). third n h l + r * r ≡ n * 2 ^ 52 + r) (halves q) (in-halves n h l x y (p .0))) (p .1) w)

@@ -2,8 +2,9 @@
 -- the float of the pattern that is put together of h and q. Assumes nothing.
 use mathlib.Core.Path.{_≡_, sym, ap, _∙_, subst}
 use mathlib.Core.Bool.{false}
+use mathlib.Core.Logic.{inr}
 use Prim.Native.Nat.{ℕ, suc, _+_, _-_, _*_, _/_, _^_, _≤_, _<_}
-use native.Mathlib.Nat.{lt-of-lt-of-le, mul-assoc}
+use native.Mathlib.Nat.{le-of-lt, lt-of-lt-of-le, zero-add, mul-assoc}
 use native.Mathlib.Omega.{arith}
 use lib.Pow.{pow-add, pow-pos, pow-mono, shl-lt}
 use lib.Dec.{T}
@@ -11,7 +12,7 @@ use lib.Ieee.{Float, binary64, fits, round, ofBits}
 use lib.Ieee.Bits.{ofBits-fits}
 use lib.Ieee.Exact.{HasValue, round-exact}
 use lib.Ieee.Fits.{round-fits}
-use Rattle.exact.proofs.PatternDigits.{normal-value}
+use Rattle.exact.proofs.UnitPatterns.{units-value}
 use Rattle.exact.proofs.Value.{unique, rescale}
 use Rattle.number.specs.Root.{nearestRoot, rootOf}
 use Rattle.number.proofs.RootScale.{lead, lead-lt, moved, scaled-is, moved-sized, root-under, root-over}
@@ -71,8 +72,9 @@ module _ (m k j : ℕ) (lo : 2 ^ j ≤ m) (hi : m < 2 ^ suc j) (short : m < 2 ^ 
       unique binary64 binary64 (ofBits binary64 ((half + 485) * 4503599627370496 + digits)) (rootOf (m * 2 ^ k)) false (digits * 2 ^ (half + 485)) (2 ^ 1074) (pow-pos 1074)
       (ofBits-fits binary64 ((half + 485) * 4503599627370496 + digits))
       (subst (λ (x : Float). T (fits binary64 x)) (sym rootOf-is) (round-fits binary64 false (digits * 2 ^ half) (2 ^ 589)))
-      (normal-value digits (half + 485) digits-ge digits-lt (in-range half half-le))
+      (subst (λ (p : ℕ). HasValue (ofBits binary64 p) false (digits * 2 ^ (half + 485)) (2 ^ 1074)) (zero-add ((half + 485) * 4503599627370496 + digits))
+      (units-value binary64 false digits (half + 485) (le-of-lt digits-lt) (inr digits-ge) (in-range half digits half-le digits-lt)))
       root-value
     where
-      in-range : (h : ℕ) → h ≤ 1048 → h + 485 < 2046
-      in-range h l = omega arith
+      in-range : (h q : ℕ) → h ≤ 1048 → q < 2 ^ 53 → (h + 485) * 4503599627370496 + q < 9218868437227405312
+      in-range h q l k = omega arith

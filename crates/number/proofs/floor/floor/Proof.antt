@@ -7,12 +7,13 @@ use mathlib.Core.Bool.{Bool, true, false, not, true≢false}
 use borrow.Author.Needs.{needs}
 use lib.IntN.{ℤ, pos, natAbs}
 use lib.Dec.{T, eqb→eq, lit≤}
-use lib.Ieee.{Float, nan, inf, fin, binary64, up, down, below, lt, fits, div, ofBits, ofInt, inFloat}
+use lib.Ieee.{Float, nan, inf, fin, binary64, up, down, below, lt, fits, ofInt, inFloat}
 use lib.Ieee.Fits.{up-pos, down-pos, ofInt-fits}
 use Rattle.exact.proofs.Value.{rescale}
 use Rattle.exact.proofs.Operands.{lt-values}
 use Rattle.exact.proofs.Order.{not-apart}
 use Rattle.exact.proofs.Integer.{negative, ofInt-value}
+use Rattle.exact.proofs.Nan.{zero-by-zero}
 use Rattle.number.specs.Floor.{inDomain, isZero, floorℤ, floorF64}
 use Rattle.number.proofs.FloorRound.{counts}
 use Rattle.number.proofs.FloorCode.{rounded, inside, outside}
@@ -28,10 +29,6 @@ at x y d z n = go (isZero x) z n (floor-zero x d) (floor-float x d)
     go : (u : Bool) → (T u → y ≡ x) → (T (not u) → y ≡ ofInt binary64 (floorℤ x)) → (T u → floorF64 x ≡ x) → (T (not u) → floorF64 x ≡ ofInt binary64 (floorℤ x)) → y ≡ floorF64 x
     go true z n f g = z tt ∙ sym (f tt)
     go false z n f g = n tt ∙ sym (g tt)
-
-quiet : div binary64 (ofBits binary64 0) (ofBits binary64 0) ≡ nan
-unfolding div ofBits
-quiet = refl
 
 -- ---- a zero's floor is 0, which is not below it
 level : (s : Bool) (m : ℕ) (e : ℤ) → m ≡ 0 → lt (ofInt binary64 (pos 0)) (fin s m e) ≡ false
@@ -73,7 +70,7 @@ in-domain-requires : tie.Need-in-domain-requires
 in-domain-requires c κs = search needs
 
 returns : tie.Need-returns
-returns c = quiet ∙ sym (floor-float-out (c .before .before .args .x) (outside (c .before .before .args .x) (c .before .in-domain .result) (c .before .in-domain .ensures) (c .if1 .taken)))
+returns c = zero-by-zero binary64 ∙ sym (floor-float-out (c .before .before .args .x) (outside (c .before .before .args .x) (c .before .in-domain .result) (c .before .in-domain .ensures) (c .if1 .taken)))
 
 whole-below-requires : tie.Need-whole-below-requires
 whole-below-requires c κs = inside (c .before .before .args .x) (c .before .in-domain .result) (c .before .in-domain .ensures) (c .if1 .left)

@@ -1,14 +1,13 @@
 -- `number::floor::in_domain` meets its contract: by the kind of float, and of a finite one by its sign. One of the two comparisons
 -- always passes, and the other is one of naturals. Assumes nothing.
-use mathlib.Core.Path.{_≡_, refl, _∙_}
+use mathlib.Core.Path.{_≡_, refl, ap, _∙_}
 use Prim.Native.Nat.{ℕ, _*_}
-use native.Mathlib.Omega.{arith}
+use native.Mathlib.Nat.{mul-one}
 use mathlib.Core.Bool.{Bool, true, false, not, _&&_}
 use lib.IntN.{pos}
-use lib.Dec.{ltb, leb, ltb→lt, leb→le, le→leb, nltb→le, not-T}
+use lib.Dec.{ltb, leb}
 use lib.Ieee.{Float, nan, inf, fin, binary64, up, down, le, neg, ofBits}
-use Rattle.exact.proofs.Operands.{same-test}
-use Rattle.exact.proofs.Order.{le-flip}
+use Rattle.exact.proofs.Order.{le-flip, not-above}
 use Rattle.number.specs.Floor.{inDomain}
 use Rattle.number.proofs.floor.in_domain.Statement.{statement}
 use Rattle.number.proofs.floor.in_domain.Tie as tie
@@ -17,7 +16,7 @@ abbrev edge : Float
 edge = ofBits binary64 0x41e0_0000_0000_0000
 
 turned : (a b : ℕ) → not (ltb b (a * 1)) ≡ leb a b
-turned a b = same-test (not (ltb b (a * 1))) (leb a b) (λ t. let h = nltb→le b (a * 1) t in le→leb a b (omega arith)) (λ t. let h = leb→le a b t in not-T (ltb b (a * 1)) (λ u. let g = ltb→lt b (a * 1) u in omega arith))
+turned a b = ap (λ (n : ℕ). not (ltb b n)) (mul-one a) ∙ not-above a b
 
 and-true : (b : Bool) → (b && true) ≡ b
 and-true true = refl

@@ -1,7 +1,7 @@
 -- `number::magnitude::min` meets its contract. `x != x` is the test for a NaN, and each way out is what the
 -- definition picks where its tests are as the code found them. Assumes nothing.
 use Rattle.number.specs.Magnitude.{fmin}
-use Rattle.number.proofs.MagnitudeTests.{nan-test}
+use Rattle.exact.proofs.Nan.{nan-test}
 use Rattle.number.proofs.magnitude.min.Statement.{statement}
 use Rattle.number.proofs.magnitude.min.Tie as tie
 

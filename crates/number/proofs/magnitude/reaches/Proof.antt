@@ -2,7 +2,7 @@
 -- Assumes nothing.
 use borrow.Author.Needs.{needs}
 use Rattle.number.specs.Magnitude.{reaching}
-use Rattle.number.proofs.MagnitudeTests.{nan-test}
+use Rattle.exact.proofs.Nan.{nan-test}
 use Rattle.number.proofs.magnitude.reaches.Statement.{statement}
 use Rattle.number.proofs.magnitude.reaches.Tie as tie
 

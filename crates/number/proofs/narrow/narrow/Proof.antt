@@ -1,50 +1,41 @@
 -- The bits of a number are its sign's bit and a pattern, and narrowing goes from pattern to pattern under the same sign
 -- (`narrow-bits`). What differs from itself is a NaN, and so is 0 / 0. Assumes nothing.
-use mathlib.Core.Path.{_≡_, refl, sym, ap, _∙_, subst}
+use mathlib.Core.Path.{sym, ap, _∙_, subst}
 use Prim.Native.Nat.{_+_, _*_, _/_, _%_, _<_}
 use native.Mathlib.Omega.{arith}
-use mathlib.Core.Bool.{false, not, true≢false}
+use mathlib.Core.Bool.{not}
 use lib.Dec.{T}
-use lib.Ieee.{Float, nan, inf, fin, binary32, binary64, div, ne, odd, ofFields, ofBits, toBits, isNan, fits}
+use lib.Ieee.{binary32, binary64, toBits, isNan, fits}
 use lib.Ieee.Bits.{toBits-lt}
-use lib.Ieee.Compare.{differs-from-itself, nan-differs}
+use lib.Ieee.Compare.{differs-from-itself}
+use Rattle.exact.proofs.Nan.{number-test, zero-by-zero}
 use Rattle.number.specs.Narrow.{narrow}
-use Rattle.number.proofs.NarrowBits.{bits-le, number-bits, narrow-bits, narrow-no-nan}
+use Rattle.number.proofs.NarrowBits.{bits-le, bits-number, narrow-bits, narrow-no-nan}
 use Rattle.number.proofs.NarrowLaws.{narrow-nan}
 use Rattle.number.proofs.narrow.narrow.Statement.{statement}
 use Rattle.number.proofs.narrow.narrow.Tie as tie
 
-no-nan : (x : Float) → ne x x ≡ false → T (not (isNan x))
-unfolding isNan
-no-nan nan h = absurd (true≢false (sym nan-differs ∙ h))
-no-nan (inf s) h = tt
-no-nan (fin s m e) h = tt
-
-zero-over-zero : div binary32 (ofBits binary32 0) (ofBits binary32 0) ≡ nan
-unfolding div odd ofFields ofBits
-zero-over-zero = refl
-
 returns : tie.Need-returns
-returns c = zero-over-zero ∙ sym (ap narrow (differs-from-itself (c .before .args .x) (subst T (sym (c .if1 .taken)) tt)) ∙ narrow-nan)
+returns c = zero-by-zero binary32 ∙ sym (ap narrow (differs-from-itself (c .before .args .x) (subst T (sym (c .if1 .taken)) tt)) ∙ narrow-nan)
 
 float-to-bits-bits : tie.Need-float-to-bits-bits
-float-to-bits-bits c = no-nan (c .before .args .x) (c .if1 .left)
+float-to-bits-bits c = number-test (c .before .args .x) (c .if1 .left)
 
 -- what is known of x once it is no NaN
 number : (c : tie.Else1) → T (not (isNan (c .before .args .x)))
-number c = no-nan (c .before .args .x) (c .if1 .left)
+number c = number-test (c .before .args .x) (c .if1 .left)
 
 held : (c : tie.Else1) → T (fits binary64 (c .before .args .x))
 held c = subst T (sym (c .before .good .0 .1)) tt
 
 pattern-requires : tie.Need-pattern-requires
-pattern-requires c κs = number-bits (c .before .args .x) (number c) (held c)
+pattern-requires c κs = bits-number (c .before .args .x) (number c) (held c)
 
 -- the sum has 32 bits
 small : (c : tie.After-pattern) → toBits binary64 (c .before .before .args .x) / 0x8000000000000000 * 0x80000000 + c .pattern .result < 0x100000000
 small c =
     let x = c .before .before .args .x in
-    omega (arith, c .pattern .ensures, toBits-lt binary64 x (held (c .before)), bits-le (toBits binary64 x % 0x8000000000000000) (number-bits x (number (c .before)) (held (c .before))))
+    omega (arith, c .pattern .ensures, toBits-lt binary64 x (held (c .before)), bits-le (toBits binary64 x % 0x8000000000000000) (bits-number x (number (c .before)) (held (c .before))))
 
 mul-result : tie.Need-mul-result
 mul-result c = omega (arith, small c)

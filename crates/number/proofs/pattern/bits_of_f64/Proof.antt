@@ -2,7 +2,8 @@
 -- literal; any other float has a pattern of its own. Assumes nothing.
 use mathlib.Core.Path.{sym}
 use lib.Ieee.{binary64}
-use Rattle.number.proofs.FloatBits.{nan-bits, number-bits}
+use Rattle.exact.proofs.FloatPatterns.{nan-bits}
+use Rattle.exact.proofs.Nan.{number-test}
 use Rattle.number.proofs.pattern.bits_of_f64.Statement.{statement}
 use Rattle.number.proofs.pattern.bits_of_f64.Tie as tie
 use borrow.Author.Needs.{needs}
@@ -11,7 +12,7 @@ returns : tie.Need-returns
 returns c = sym (nan-bits binary64 (c .before .args .x) (c .if1 .taken))
 
 float-to-bits-result : tie.Need-float-to-bits-result
-float-to-bits-result c = number-bits (c .before .args .x) (c .if1 .left)
+float-to-bits-result c = number-test (c .before .args .x) (c .if1 .left)
 
 returns-2 : tie.Need-returns-2
 returns-2 c = search needs

@@ -2,16 +2,17 @@
 -- 0 / 0; any other may be made a float. Assumes nothing.
 use mathlib.Core.Path.{sym, _∙_}
 use lib.Ieee.{binary32}
-use Rattle.number.proofs.FloatBits.{zero-by-zero, nan-above, number-below}
+use Rattle.exact.proofs.Nan.{zero-by-zero}
+use Rattle.exact.proofs.Patterns.{pattern-nan, pattern-number}
 use Rattle.number.proofs.pattern.f32_of_bits.Statement.{statement}
 use Rattle.number.proofs.pattern.f32_of_bits.Tie as tie
 use borrow.Author.Needs.{needs}
 
 returns : tie.Need-returns
-returns c = zero-by-zero binary32 ∙ sym (nan-above binary32 (c .before .args .bits) (c .if1 .taken))
+returns c = zero-by-zero binary32 ∙ sym (pattern-nan binary32 (c .before .args .bits) (c .if1 .taken))
 
 float-from-bits-result : tie.Need-float-from-bits-result
-float-from-bits-result c = number-below binary32 (c .before .args .bits) (c .if1 .left)
+float-from-bits-result c = pattern-number binary32 (c .before .args .bits) (c .if1 .left)
 
 returns-2 : tie.Need-returns-2
 returns-2 c = search needs

@@ -1,7 +1,7 @@
 -- `number::pattern::f64_bits_within` meets its contract. Without signs the order of floats is the order of their
 -- patterns. Assumes nothing.
 use lib.Ieee.{binary64}
-use Rattle.number.proofs.FloatBits.{within-bits}
+use Rattle.number.proofs.MagnitudeTests.{within-bits}
 use Rattle.number.proofs.pattern.f64_bits_within.Statement.{statement}
 use Rattle.number.proofs.pattern.f64_bits_within.Tie as tie
 

@@ -1,14 +1,15 @@
 -- `number::root::by_digits` meets its contract. The invariant is the classic one: the number is the square of the root so far, the remainder
 -- and the digits to come (`RootDigits.antt`). After the last turn root and remainder are those of the whole number. Assumes nothing.
 use mathlib.Core.Path.{_≡_, sym, _∙_, subst}
-use mathlib.Core.Logic.{_⊎_, ⊎-elim}
+use mathlib.Core.Logic.{⊎-elim}
 use mathlib.Core.Bool.{cond}
-use Prim.Native.Nat.{ℕ, _+_, _-_, _*_, _^_, _<_}
+use Prim.Native.Nat.{ℕ, _+_, _*_, _^_, _<_}
 use native.Mathlib.Omega.{arith}
 use lib.Dec.{ltb}
 use borrow.Author.Needs.{needs}
 use borrow.Author.Tests.{lt-ltb, le-ltb}
 use Rattle.number.specs.Root.{nearestRoot}
+use Rattle.number.proofs.RootScale.{raised-lt}
 use Rattle.number.proofs.RootWhole.{nearest-from}
 use Rattle.number.proofs.RootDigits.{Digits, start, turn-one, turn-zero, root-lt, done}
 use Rattle.number.proofs.root.by_digits.Statement.{statement}
@@ -80,14 +81,11 @@ loop-again c =
     (c .if1 .came)
 
 -- the answer, by the last comparison
-scaled : (n : ℕ) → n < 2 ^ 54 → n * 2 ^ 52 < 2 ^ 106
-scaled n h = omega arith
-
 is : (c : tie.After-loop Inv-loop μ-loop) → nearestRoot (c .before .before .args .n * 2 ^ 52) ≡ cond (ltb (c .before .loop .s) (c .before .loop .r)) (c .before .loop .s + 1) (c .before .loop .s)
 is c =
     let l = c .before .loop in
     let n = c .before .before .args .n in
-    nearest-from (n * 2 ^ 52) (l .s) (l .r) (scaled n (c .before .before .pre)) (done (n * 2 ^ 52) (l .s) (l .r) (l .rest) (l .left) (l .inv) (c .loop-test .left)) (l .inv .remainder)
+    nearest-from (n * 2 ^ 52) (l .s) (l .r) (raised-lt n (c .before .before .pre)) (done (n * 2 ^ 52) (l .s) (l .r) (l .rest) (l .left) (l .inv) (c .loop-test .left)) (l .inv .remainder)
 
 add-result : tie.Need-add-result Inv-loop μ-loop
 add-result c =

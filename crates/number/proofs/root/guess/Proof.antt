@@ -2,8 +2,9 @@
 -- is said of the result, and nothing rests on it. Assumes nothing.
 use Prim.Native.Nat.{_-_, _/_}
 use native.Mathlib.Omega.{arith}
+use lib.Ieee.{binary64}
 use borrow.Author.Needs.{needs}
-use Rattle.exact.proofs.PatternDigits.{no-nan}
+use Rattle.exact.proofs.Patterns.{pattern-number}
 use Rattle.number.proofs.root.guess.Statement.{statement}
 use Rattle.number.proofs.root.guess.Tie as tie
 
@@ -11,7 +12,7 @@ sub-y : tie.Need-sub-y
 sub-y c = search needs
 
 float-from-bits-y : tie.Need-float-from-bits-y
-float-from-bits-y c = no-nan (6910404192293093376 - c .args .bits / 2) (omega arith)
+float-from-bits-y c = pattern-number binary64 (6910404192293093376 - c .args .bits / 2) (omega arith)
 
 returns : tie.Need-returns
 returns c = search needs

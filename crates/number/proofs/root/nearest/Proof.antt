@@ -1,19 +1,9 @@
 -- `number::root::nearest` meets its contract: what the exact test passes is the nearest root, and where it passes none of three neighbours the root is
 -- worked out by its digits. Assumes nothing.
-use mathlib.Core.Path.{_≡_, sym, subst}
-use mathlib.Core.Bool.{Bool, false, not}
-use lib.Dec.{T}
-use lib.Ieee.{Float, nan, inf, fin, isNan, ne}
 use borrow.Author.Needs.{needs}
+use Rattle.exact.proofs.Nan.{number-test}
 use Rattle.number.proofs.root.nearest.Statement.{statement}
 use Rattle.number.proofs.root.nearest.Tie as tie
-
--- what equals itself is no NaN
-equal-no-nan : (x : Float) → ne x x ≡ false → T (not (isNan x))
-unfolding ne isNan
-equal-no-nan nan e = subst (λ (b : Bool). T (not b)) (sym e) tt
-equal-no-nan (inf s) e = tt
-equal-no-nan (fin s m e) h = tt
 
 by-digits-requires : tie.Need-by-digits-requires
 by-digits-requires c κs = search needs
@@ -22,7 +12,7 @@ returns : tie.Need-returns
 returns c = search needs
 
 float-to-bits-q : tie.Need-float-to-bits-q
-float-to-bits-q c = equal-no-nan (c .before .args .g) (c .if1 .left)
+float-to-bits-q c = number-test (c .before .args .g) (c .if1 .left)
 
 add-q : tie.Need-add-q
 add-q c = search needs

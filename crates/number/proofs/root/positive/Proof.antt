@@ -1,13 +1,13 @@
 -- `number::root::positive` meets its contract: the pattern's significand and place are the number's units, and the steps on them are those of the
 -- definition (`RootPositive.antt`). Assumes nothing.
 use mathlib.Core.Path.{sym, ap, _∙_, subst}
-use Prim.Native.Nat.{ℕ, _+_, _-_, _*_, _/_, _^_, _<_}
+use Prim.Native.Nat.{ℕ, _+_, _-_, _*_, _/_, _%_, _^_, _≤_, _<_}
 use native.Mathlib.Omega.{arith}
 use lib.Dec.{T}
 use lib.Count.{leadingZeros, leading-le}
 use lib.Ieee.{binary64, fits, ofBits}
 use borrow.Author.Needs.{needs}
-use Rattle.exact.proofs.PatternDigits.{no-nan}
+use Rattle.exact.proofs.Patterns.{pattern-number}
 use Rattle.number.proofs.RootPositive.{Steps, from-bits}
 use Rattle.number.proofs.root.positive.Statement.{statement}
 use Rattle.number.proofs.root.positive.Tie as tie
@@ -63,14 +63,14 @@ digits-lt c = subst (λ (q : ℕ). q < 2 ^ 53) (sym (c .nearest .ensures)) (know
 add-result-2 : tie.Need-add-result-2
 add-result-2 c = omega (arith, known (c .before .before) .leads-lt, digits-lt c)
 
-below-infinity : (l q : ℕ) → l < 2098 → q < 2 ^ 53 → (l / 2 + 485) * 4503599627370496 + q < 9218868437227405312
+below-infinity : (l q : ℕ) → l < 2098 → q < 2 ^ 53 → ((l / 2 + 485) * 4503599627370496 + q) % 9223372036854775808 ≤ 9218868437227405312
 below-infinity l q h k = omega arith
 
 float-from-bits-result : tie.Need-float-from-bits-result
 float-from-bits-result c =
     let d = c .before .before in
     let l = d .exponent .result + (63 - leadingZeros 64 (d .before .significand .result)) in
-    no-nan ((l / 2 + 485) * 4503599627370496 + c .nearest .result) (below-infinity l (c .nearest .result) (known d .leads-lt) (digits-lt c))
+    pattern-number binary64 ((l / 2 + 485) * 4503599627370496 + c .nearest .result) (below-infinity l (c .nearest .result) (known d .leads-lt) (digits-lt c))
 
 returns : tie.Need-returns
 returns c =

@@ -1,7 +1,7 @@
 -- `number::root::settles` meets its contract: each difference is taken where it does not go below 0, and where all tests pass the last one says that
 -- q is the nearest root (`RootSettle.antt`). Assumes nothing.
 use mathlib.Core.Bool.{false≢true}
-use Prim.Native.Nat.{ℕ, _-_, _*_, _/_, _%_, _^_, _≤_, _<_}
+use Prim.Native.Nat.{ℕ, _*_, _/_, _%_, _^_, _≤_, _<_}
 use native.Mathlib.Omega.{arith}
 use borrow.Author.Needs.{needs}
 use borrow.Author.Tests.{leb-true}

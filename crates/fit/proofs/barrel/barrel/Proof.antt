@@ -1,0 +1,28 @@
+-- `fit::barrel::barrel` meets its contract: by what the calls ensure. Assumes nothing.
+use Rattle.fit.specs.Barrel.{barrel}
+use Rattle.fit.specs.Mapping.{fitted}
+use mathlib.Core.Path.{ap, _∙_}
+use Prim.Native.Nat.{_-_}
+use borrow.Author.Needs.{needs}
+use Rattle.fit.proofs.barrel.barrel.Statement.{statement}
+use Rattle.fit.proofs.barrel.barrel.Tie as tie
+
+returns : tie.Need-returns
+unfolding barrel
+returns c = c .accepted .ensures ∙ ap fitted (c .before .mapping-of .ensures) ∙ rw (c .before .before .before .before .before .before .given-or .ensures, c .before .before .before .before .before .given-or2 .ensures, c .before .before .before .before .given-or3 .ensures, c .before .before .before .min .ensures)
+
+pub barrel-spec : {M : Type 1} → statement M
+barrel-spec =
+    tie.close
+    (tie.spec
+    (λ c. search needs)
+    (λ c. search needs)
+    (λ c. search needs)
+    (λ c κs. search needs)
+    (λ c κs. search needs)
+    (λ c κs. search needs)
+    (λ c κs. search needs)
+    (λ c. search needs)
+    (λ c κs. search needs)
+    (λ c κs. search needs)
+    returns)

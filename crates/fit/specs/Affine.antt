@@ -1,0 +1,55 @@
+-- What the two affine methods are fitted to: u = m0 x + m1 y + m2, v = m3 x + m4 y + m5. Assumes nothing.
+use Prim.Native.Nat.{ℕ}
+use mathlib.Core.Bool.{cond}
+use mathlib.Core.List.{[], _∷_}
+use lib.Dec.{eqb}
+use lib.Ieee.{neg}
+use Rattle.exact.specs.Double.{_⊖_}
+use Rattle.number.specs.Power.{one}
+use Rattle.arguments.specs.Method.{affineTerms}
+use Rattle.fit.specs.declared.invert.AffineInverse.{AffineInverse}
+use Rattle.fit.specs.declared.mapping.Fitted.{Fitted}
+use Rattle.fit.specs.declared.pairs.Pair.{Pair}
+use Rattle.fit.specs.declared.rows.Side.the-variants.{OfU, OfV}
+use Rattle.fit.specs.declared.rows.Terms.the-variants.{Affine}
+use Rattle.fit.specs.declared.rows.Twin.the-variants.{Similarity}
+use Rattle.fit.specs.declared.solve.Solution.{Solution}
+use Rattle.fit.specs.Fit.{fitTwin, fitBoth}
+use Rattle.fit.specs.Invert.{invertAffine}
+use Rattle.fit.specs.Mapping.{affineKind, mapping, fitted, solvedOr8}
+use Rattle.fit.specs.Matrix.{Vector, at, nought}
+use Rattle.fit.specs.Pairs.{pairAt}
+
+-- ---- the arguments are a forward map, column by column
+
+abbrev pub affineForward : Vector → Vector
+affineForward args = at args 0 ∷ at args 2 ∷ at args 4 ∷ at args 1 ∷ at args 3 ∷ at args 5 ∷ []
+
+abbrev pub affineInverse : AffineInverse → Fitted
+affineInverse inverse = solvedOr8 (inverse .found) (mapping affineKind 0 (inverse .m))
+
+unfoldable pub affineProjection : Vector → Fitted
+affineProjection args = affineInverse (invertAffine (affineForward args))
+
+-- ---- pairs: one is a shift, two are a similarity, u = a x - b y + c and v = b x + a y + d
+
+abbrev pub shifted : Pair → Vector
+shifted p = one ∷ nought ∷ (p .u ⊖ p .x) ∷ nought ∷ one ∷ (p .v ⊖ p .y) ∷ []
+
+unfoldable pub shift : Vector → Fitted
+shift args = fitted (mapping affineKind 0 (shifted (pairAt args 0 0)))
+
+abbrev pub similar : Vector → Vector
+similar s = at s 0 ∷ neg (at s 1) ∷ at s 2 ∷ at s 1 ∷ at s 0 ∷ at s 3 ∷ []
+
+abbrev pub similarSolution : Solution → Fitted
+similarSolution s = solvedOr8 (s .found) (mapping affineKind 0 (similar (s .x)))
+
+unfoldable pub similarity : Vector → Fitted
+similarity args = similarSolution (fitTwin args 2 Similarity (affineTerms 2))
+
+unfoldable pub affine : Vector → ℕ → Fitted
+affine args pairs =
+    cond (eqb pairs 1) (shift args)
+    (cond (eqb pairs 2) (similarity args)
+    (fitBoth args 0 pairs Affine OfU OfV (affineTerms pairs) affineKind 0))

@@ -1,0 +1,31 @@
+-- What the two barrel methods are fitted to: A, B, C, D, the centre and the norm. Assumes nothing.
+use Prim.Native.Nat.{ℕ}
+use mathlib.Core.Bool.{cond}
+use mathlib.Core.List.{[], _∷_}
+use lib.Dec.{ltb}
+use lib.Ieee.{Float}
+use Rattle.exact.specs.Double.{_⊕_, _⊖_, _⊘_}
+use Rattle.number.specs.Magnitude.{fmin}
+use Rattle.number.specs.Power.{one}
+use Rattle.fit.specs.declared.mapping.Fitted.{Fitted}
+use Rattle.fit.specs.Mapping.{mapping, fitted}
+use Rattle.fit.specs.Matrix.{Vector, at}
+use Rattle.fit.specs.Perspective.{two}
+
+-- args.get(k).copied().unwrap_or(other)
+unfoldable pub givenOr : Vector → ℕ → ℕ → Float → Float
+givenOr args count k other = cond (ltb k count) (at args k) other
+
+abbrev pub distorted : Vector → ℕ → Float → Float → Vector
+distorted args count w h =
+    at args 0
+    ∷ at args 1
+    ∷ at args 2
+    ∷ givenOr args count 3 (one ⊖ (at args 0 ⊕ at args 1 ⊕ at args 2))
+    ∷ givenOr args count 4 (w ⊘ two)
+    ∷ givenOr args count 5 (h ⊘ two)
+    ∷ (fmin w h ⊘ two)
+    ∷ []
+
+unfoldable pub barrel : Vector → ℕ → Float → Float → ℕ → Fitted
+barrel args count w h kind = fitted (mapping kind 0 (distorted args count w h))

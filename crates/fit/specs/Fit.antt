@@ -1,0 +1,53 @@
+-- `lstsq` over the pairs of the store: one row a pair, two rows a pair, and the same terms fitted to two sides. Assumes nothing.
+use Prim.Native.Nat.{ℕ, _*_}
+use mathlib.Core.Bool.{_&&_}
+use mathlib.Core.List.{_++_}
+use lib.ListN.{take}
+use lib.Ieee.{Float}
+use Rattle.fit.specs.declared.mapping.Fitted.{Fitted}
+use Rattle.fit.specs.declared.rows.Side.{Side}
+use Rattle.fit.specs.declared.rows.Terms.{Terms}
+use Rattle.fit.specs.declared.rows.Twin.{Twin}
+use Rattle.fit.specs.declared.solve.Solution.{Solution}
+use Rattle.fit.specs.Mapping.{mapping, solvedOr8}
+use Rattle.fit.specs.Matrix.{Vector}
+use Rattle.fit.specs.Normal.{lstsq, inTurn}
+use Rattle.fit.specs.Pairs.{pairAt}
+use Rattle.fit.specs.Rows.{rowOf, sideOf, firstRow, secondRow}
+
+-- ---- one row a pair
+
+abbrev pub rowsOf : Vector → ℕ → Terms → ℕ → Vector
+rowsOf values skip terms j = rowOf terms (pairAt values skip j)
+
+abbrev pub sidesOf : Vector → ℕ → Side → ℕ → Float
+sidesOf values skip side j = sideOf side (pairAt values skip j)
+
+abbrev pub fitOne : Vector → ℕ → ℕ → Terms → Side → ℕ → Solution
+fitOne values skip pairs terms side n = lstsq (rowsOf values skip terms) (sidesOf values skip side) n pairs
+
+-- ---- two rows a pair: first, second, first, second, .. with the right-hand sides u, v, u, v, ..
+
+abbrev pub firstRows : Vector → Twin → ℕ → Vector
+firstRows values twin j = firstRow twin (pairAt values 0 j)
+
+abbrev pub secondRows : Vector → Twin → ℕ → Vector
+secondRows values twin j = secondRow twin (pairAt values 0 j)
+
+abbrev pub allU : Vector → ℕ → Float
+allU values j = pairAt values 0 j .u
+
+abbrev pub allV : Vector → ℕ → Float
+allV values j = pairAt values 0 j .v
+
+abbrev pub fitTwin : Vector → ℕ → Twin → ℕ → Solution
+fitTwin values pairs twin n = lstsq (inTurn (firstRows values twin) (secondRows values twin)) (inTurn (allU values) (allV values)) n (2 * pairs)
+
+-- ---- the same terms fitted to two sides: n coefficients of the one and then n of the other
+
+unfoldable pub both : Solution → Solution → ℕ → ℕ → ℕ → Fitted
+both s t n kind order = solvedOr8 (s .found && t .found) (mapping kind order (take n (s .x) ++ take n (t .x)))
+
+abbrev pub fitBoth : Vector → ℕ → ℕ → Terms → Side → Side → ℕ → ℕ → ℕ → Fitted
+fitBoth values skip pairs terms first second n kind order =
+    both (fitOne values skip pairs terms first n) (fitOne values skip pairs terms second n) n kind order

@@ -1,0 +1,77 @@
+// The makers of the methods whose terms are monomials. Assumes that the pairs are in the store.
+ghost use mathlib.Core.Path.{_≡_};
+ghost use Prim.Native.Nat.{_+_, _*_, _≤_};
+ghost use Rattle.fit.specs.Polynomial.{orderNumber, bilinearReverse, bilinearForward};
+ghost use Rattle.fit.specs.Polynomial as Maker;
+use crate::lstsq::fit_both;
+use crate::mapping;
+use crate::mapping::Fitted;
+use crate::rows::Side;
+use crate::rows::Terms;
+use arguments::method::BilinearForward;
+use arguments::method::BilinearReverse;
+use arguments::method::Polynomial;
+
+// The order as a number: 0 for the terms 1, x, y, xy and else the degree.
+fn order_number(order: f64) -> u64
+    ensures { λ r. ⌜ r ≡ orderNumber order ⌝ }
+{
+    if Polynomial::bilinear(order) {
+        0
+    } else {
+        Polynomial::degree(order)
+    }
+}
+
+// The pairs come after the order.
+pub fn polynomial(values: &[f64; 257], pairs: usize, order: f64) -> Fitted
+    requires { ⌜ 1 + 4 * pairs ≤ 257 ⌝ }
+    ensures { λ r. ⌜ r ≡ Maker.polynomial (now (values .entry)) pairs order ⌝ }
+{
+    let number = order_number(order);
+    fit_both(
+        values,
+        Polynomial::SKIP as usize,
+        pairs,
+        Terms::Polynomial(number),
+        Side::OfU,
+        Side::OfV,
+        Polynomial::terms(order) as usize,
+        mapping::POLY,
+        number,
+    )
+}
+
+pub fn bilinear_reverse(values: &[f64; 257], pairs: usize) -> Fitted
+    requires { ⌜ 4 * pairs ≤ 257 ⌝ }
+    ensures { λ r. ⌜ r ≡ bilinearReverse (now (values .entry)) pairs ⌝ }
+{
+    fit_both(
+        values,
+        0,
+        pairs,
+        Terms::Polynomial(0),
+        Side::OfU,
+        Side::OfV,
+        BilinearReverse::TERMS as usize,
+        mapping::POLY,
+        0,
+    )
+}
+
+pub fn bilinear_forward(values: &[f64; 257], pairs: usize) -> Fitted
+    requires { ⌜ 4 * pairs ≤ 257 ⌝ }
+    ensures { λ r. ⌜ r ≡ bilinearForward (now (values .entry)) pairs ⌝ }
+{
+    fit_both(
+        values,
+        0,
+        pairs,
+        Terms::Forward,
+        Side::OfX,
+        Side::OfY,
+        BilinearForward::TERMS as usize,
+        mapping::BILINEAR_FORWARD,
+        0,
+    )
+}

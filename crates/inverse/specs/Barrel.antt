@@ -1,0 +1,38 @@
+-- Barrel and BarrelInverse: the offset from the centre times a factor that depends on the radius. The coefficients are the factor's four,
+-- the centre's two and the radius that counts as 1. Assumes nothing.
+use mathlib.Core.Bool.{cond}
+use lib.Ieee.{Float, binary64, ofBits, lt}
+use Rattle.exact.specs.Double.{_⊕_, _⊖_, _⊗_, _⊘_}
+use Rattle.number.specs.Magnitude.{abs}
+use Rattle.number.specs.Power.{one}
+use Rattle.number.specs.Root.{root}
+use Rattle.fit.specs.Matrix.{Vector, at}
+use Rattle.inverse.specs.declared.point.Point.{Point}
+use Rattle.inverse.specs.Point.{point, none}
+
+-- dx = (x - cx) / norm, dy = (y - cy) / norm
+abbrev pub across : Vector → Float → Float
+across c x = (x ⊖ at c 4) ⊘ at c 6
+
+abbrev pub down : Vector → Float → Float
+down c y = (y ⊖ at c 5) ⊘ at c 6
+
+abbrev pub cubic : Vector → Float → Float
+cubic c r = at c 0 ⊗ r ⊗ r ⊗ r ⊕ at c 1 ⊗ r ⊗ r ⊕ at c 2 ⊗ r ⊕ at c 3
+
+abbrev pub factor : Vector → Float → Float → Float
+factor c dx dy = cubic c (root (dx ⊗ dx ⊕ dy ⊗ dy))
+
+-- the offset times s, from the centre
+abbrev pub scaled : Vector → Float → Float → Float → Point
+scaled c dx dy s = point (at c 4 ⊕ dx ⊗ s ⊗ at c 6) (at c 5 ⊕ dy ⊗ s ⊗ at c 6)
+
+abbrev pub barrel : Vector → Float → Float → Point
+barrel c x y = scaled c (across c x) (down c y) (factor c (across c x) (down c y))
+
+-- no point where the factor is too small
+unfoldable pub barrelInverse : Vector → Float → Float → Point
+barrelInverse c x y =
+    cond (lt (abs (factor c (across c x) (down c y))) (ofBits binary64 0x3d71_9799_812d_ea11))  -- 1e-12
+    none
+    (scaled c (across c x) (down c y) (one ⊘ factor c (across c x) (down c y)))

@@ -1,0 +1,12 @@
+// The source point of each output pixel, by the fitted mapping. Every function equals its definition in specs/ for every input
+// of its types, NaN and infinities included.
+pub mod affine;
+pub mod barrel;
+pub mod forward;
+pub mod perspective;
+pub mod pixel;
+pub mod point;
+pub mod polynomial;
+pub mod shepards;
+pub mod source;
+pub mod usable;

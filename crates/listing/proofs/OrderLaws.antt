@@ -1,0 +1,181 @@
+-- The names line is read as the order that it says. That the four names find their columns free, and that each column then gives its
+-- name back, is a test over the 256 fours of numbers below 4, which is computed. Assumes nothing.
+use mathlib.Core.Path.{_≡_, refl, sym, ap, subst, _∙_}
+use mathlib.Core.Logic.{inl, inr}
+use mathlib.Core.Bool.{Bool, true, false, not, _&&_, _||_}
+use mathlib.Core.List.{List, [], _∷_}
+use Prim.Native.Nat.{ℕ, zero, suc, _+_, _≤_, _<_}
+use native.Mathlib.Nat.{eq-or-lt-of-le}
+use native.Mathlib.Omega.{arith}
+use borrow.Author.Tests.{eq-eqb, lt-ltb}
+use lib.Dec.{T, eqb, ltb, eqb→eq, ltb→lt, lit<}
+use lib.Ieee.Fits.{eq→eqb}
+use Rattle.listing.specs.declared.word.Word.the-variants.{Name}
+use Rattle.listing.specs.declared.names.Names.{Names}
+use Rattle.listing.specs.Word.{nameOf, first, next}
+use Rattle.listing.specs.Names.{none, columnOf, placed, slotOf}
+use Rattle.listing.specs.Reader.{State, withWord, takeName, taken, nextColumn, counted, nextLine, step, fed}
+use Rattle.listing.specs.Text.{Order, allNames, allUnlike, isOrder, letter, orderText}
+use Rattle.listing.proofs.PairLaws.{between}
+
+-- ---- one name
+
+letter-read : (names : Names) (column k : ℕ) (bytes : List ℕ) → k < 4 → step (between names column 0 false, bytes) (letter k) ≡ (withWord (between names column 0 false) (Name k), bytes)
+unfolding step next first nameOf letter
+letter-read names column zero bytes h = refl
+letter-read names column (suc zero) bytes h = refl
+letter-read names column (suc (suc zero)) bytes h = refl
+letter-read names column (suc (suc (suc zero))) bytes h = refl
+letter-read names column (suc (suc (suc (suc k)))) bytes h = absurd (omega (arith, h))
+
+-- a name and the space after it, where its column is free
+name-cell : (names : Names) (column k : ℕ) (bytes rest : List ℕ) → k < 4 → column < 3 → columnOf names k ≡ 4 → fed (between names column 0 false, bytes) (letter k ∷ (32 ∷ rest)) ≡ fed (between (placed names k column) (column + 1) 0 false, bytes) rest
+unfolding fed step taken takeName nextColumn
+name-cell names column k bytes rest h g free =
+    ap (λ (s : State). fed (step s 32) rest) (letter-read names column k bytes h) ∙ rw (eq-eqb (columnOf names k) 4 free, lt-ltb column 3 g)
+
+last-name : (names : Names) (k : ℕ) (bytes : List ℕ) → k < 4 → columnOf names k ≡ 4 → fed (between names 3 0 false, bytes) (letter k ∷ (10 ∷ [])) ≡ (between (placed names k 3) 0 1 false, bytes)
+unfolding fed step taken takeName nextLine counted
+last-name names k bytes h free = ap (λ (s : State). step s 10) (letter-read names 3 k bytes h) ∙ rw (eq-eqb (columnOf names k) 4 free)
+
+-- ---- the four names
+
+module _ (o : Order) where
+  abbrev names1 : Names
+  names1 = placed none (o .col0) 0
+
+  abbrev names2 : Names
+  names2 = placed names1 (o .col1) 1
+
+  abbrev names3 : Names
+  names3 = placed names2 (o .col2) 2
+
+  abbrev pub namesOf : Names
+  namesOf = placed names3 (o .col3) 3
+
+  -- each name's column is free before it is placed, and gives the name back after all are
+  pub record Fine : Type 0 where
+    pub free0 : columnOf none (o .col0) ≡ 4
+    pub free1 : columnOf names1 (o .col1) ≡ 4
+    pub free2 : columnOf names2 (o .col2) ≡ 4
+    pub free3 : columnOf names3 (o .col3) ≡ 4
+    pub slot0 : slotOf namesOf 0 ≡ o .col0
+    pub slot1 : slotOf namesOf 1 ≡ o .col1
+    pub slot2 : slotOf namesOf 2 ≡ o .col2
+    pub slot3 : slotOf namesOf 3 ≡ o .col3
+    pub low0 : o .col0 < 4
+    pub low1 : o .col1 < 4
+    pub low2 : o .col2 < 4
+    pub low3 : o .col3 < 4
+
+  abbrev pub isFree : Bool
+  isFree = eqb (columnOf none (o .col0)) 4 && (eqb (columnOf names1 (o .col1)) 4 && (eqb (columnOf names2 (o .col2)) 4 && eqb (columnOf names3 (o .col3)) 4))
+
+  abbrev isBack : Bool
+  isBack = eqb (slotOf namesOf 0) (o .col0) && (eqb (slotOf namesOf 1) (o .col1) && (eqb (slotOf namesOf 2) (o .col2) && eqb (slotOf namesOf 3) (o .col3)))
+
+  pub order-read : (bytes : List ℕ) → Fine → fed (between none 0 0 false, bytes) (orderText o) ≡ (between namesOf 0 1 false, bytes)
+  unfolding orderText
+  order-read bytes f =
+      name-cell none 0 (o .col0) bytes _ (f .low0) (lit< tt) (f .free0)
+      ∙ name-cell names1 1 (o .col1) bytes _ (f .low1) (lit< tt) (f .free1)
+      ∙ name-cell names2 2 (o .col2) bytes _ (f .low2) (lit< tt) (f .free2)
+      ∙ last-name names3 (o .col3) bytes (f .low3) (f .free3)
+
+-- ---- the test
+
+-- f of each number below n
+below : ℕ → (ℕ → Bool) → Bool
+below zero f = true
+below (suc n) f = f n && below n f
+
+both : (a b : Bool) → T (a && b) → T a × T b
+both true b h = (tt, h)
+
+implied : (a b : Bool) → T (not a || b) → T a → T b
+implied true b h k = h
+
+at-most : (k n : ℕ) → k < suc n → k ≤ n
+at-most k n l = omega (arith, l)
+
+at-below : (n : ℕ) (f : ℕ → Bool) → T (below n f) → (k : ℕ) → k < n → T (f k)
+unfolding below
+at-below (suc n) f h k l = elim (eq-or-lt-of-le (at-most k n l)) [
+  | inl e ↦ subst (λ (j : ℕ). T (f j)) (sym e) (both (f n) (below n f) h .0)
+  | inr g ↦ at-below n f (both (f n) (below n f) h .1) k g
+]
+
+abbrev four : ℕ → ℕ → ℕ → ℕ → Order
+four a b c d = record { col0 = a; col1 = b; col2 = c; col3 = d }
+
+test : ℕ → ℕ → ℕ → ℕ → Bool
+unfolding isOrder
+test a b c d = not (isOrder (four a b c d)) || (isFree (four a b c d) && isBack (four a b c d))
+
+tested : T (below 4 (λ (a : ℕ). below 4 (λ (b : ℕ). below 4 (λ (c : ℕ). below 4 (λ (d : ℕ). test a b c d)))))
+unfolding below test isOrder columnOf placed slotOf
+tested = tt
+
+parts : (a b c d : Bool) → T (a && (b && (c && d))) → T a × (T b × (T c × T d))
+parts true b c d t =
+    let q = both b (c && d) t in
+    (tt, (q .0, both c d (q .1)))
+
+pub fine : (o : Order) → T (isOrder o) → Fine o
+unfolding test isOrder
+fine o h =
+    let l = parts (ltb (o .col0) 4) (ltb (o .col1) 4) (ltb (o .col2) 4) (ltb (o .col3) 4) (both (allNames o) (allUnlike o) h .0) in
+    let l0 = ltb→lt (o .col0) 4 (l .0) in
+    let l1 = ltb→lt (o .col1) 4 (l .1 .0) in
+    let l2 = ltb→lt (o .col2) 4 (l .1 .1 .0) in
+    let l3 = ltb→lt (o .col3) 4 (l .1 .1 .1) in
+    let t = at-below 4 _ (at-below 4 _ (at-below 4 _ (at-below 4 _ tested (o .col0) l0) (o .col1) l1) (o .col2) l2) (o .col3) l3 in
+    let b = both (isFree o) (isBack o) (implied (isOrder o) (isFree o && isBack o) t h) in
+    let f =
+    parts (eqb (columnOf none (o .col0)) 4) (eqb (columnOf (names1 o) (o .col1)) 4) (eqb (columnOf (names2 o) (o .col2)) 4)
+    (eqb (columnOf (names3 o) (o .col3)) 4)
+    (b .0)
+    in
+    let s =
+    parts (eqb (slotOf (namesOf o) 0) (o .col0)) (eqb (slotOf (namesOf o) 1) (o .col1)) (eqb (slotOf (namesOf o) 2) (o .col2))
+    (eqb (slotOf (namesOf o) 3) (o .col3))
+    (b .1)
+    in
+    record {
+      free0 = eqb→eq _ 4 (f .0);
+      free1 = eqb→eq _ 4 (f .1 .0);
+      free2 = eqb→eq _ 4 (f .1 .1 .0);
+      free3 = eqb→eq _ 4 (f .1 .1 .1);
+      slot0 = eqb→eq _ _ (s .0);
+      slot1 = eqb→eq _ _ (s .1 .0);
+      slot2 = eqb→eq _ _ (s .1 .1 .0);
+      slot3 = eqb→eq _ _ (s .1 .1 .1);
+      low0 = l0;
+      low1 = l1;
+      low2 = l2;
+      low3 = l3;
+    }
+
+-- the other way: names that find their columns free, one after another, are an order
+test-free : ℕ → ℕ → ℕ → ℕ → Bool
+unfolding isOrder
+test-free a b c d = not (isFree (four a b c d)) || isOrder (four a b c d)
+
+tested-free : T (below 4 (λ (a : ℕ). below 4 (λ (b : ℕ). below 4 (λ (c : ℕ). below 4 (λ (d : ℕ). test-free a b c d)))))
+unfolding below test-free isOrder columnOf placed
+tested-free = tt
+
+joined : (a b c d : Bool) → T a → T b → T c → T d → T (a && (b && (c && d)))
+joined true true true d p q r s = s
+
+pub free-order : (o : Order) → o .col0 < 4 → o .col1 < 4 → o .col2 < 4 → o .col3 < 4 → columnOf none (o .col0) ≡ 4 → columnOf (names1 o) (o .col1) ≡ 4 → columnOf (names2 o) (o .col2) ≡ 4 → columnOf (names3 o) (o .col3) ≡ 4 → T (isOrder o)
+unfolding test-free
+free-order o l0 l1 l2 l3 e0 e1 e2 e3 =
+    let t = at-below 4 _ (at-below 4 _ (at-below 4 _ (at-below 4 _ tested-free (o .col0) l0) (o .col1) l1) (o .col2) l2) (o .col3) l3 in
+    implied (isFree o) (isOrder o) t
+    (joined (eqb (columnOf none (o .col0)) 4) (eqb (columnOf (names1 o) (o .col1)) 4) (eqb (columnOf (names2 o) (o .col2)) 4)
+    (eqb (columnOf (names3 o) (o .col3)) 4)
+    (eq→eqb e0)
+    (eq→eqb e1)
+    (eq→eqb e2)
+    (eq→eqb e3))

@@ -1,0 +1,2 @@
+-- What the probes answer, where it is more than a leaf's own definition.
+pub mod Fitted

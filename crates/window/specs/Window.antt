@@ -1,0 +1,66 @@
+-- The window of the output. A given viewport wins; bestfit is tried where it is asked for; else, or where it finds none, the window is
+-- the picture's own at 0, 0. Whichever it is, it is refused where a side is 0 or above 4,096, an offset beyond 1,048,576 either
+-- way, or an edge of bestfit's box no number. Assumes nothing.
+use Prim.Native.Nat.{ℕ}
+use mathlib.Core.Bool.{Bool, cond}
+use lib.IntN.{ℤ, pos}
+use lib.Ieee.{binary64, ofInt}
+use Rattle.fit.specs.Matrix.{Vector}
+use Rattle.window.specs.declared.bestfit.Found.{Found}
+use Rattle.window.specs.declared.bestfit.Found.the-variants.{Box, Nothing}
+use Rattle.window.specs.declared.edges.Edges.{Edges}
+use Rattle.window.specs.declared.span.Span.{Span}
+use Rattle.window.specs.declared.span.Span.the-variants.{Of, Out}
+use Rattle.window.specs.declared.window.Placed.{Placed}
+use Rattle.window.specs.declared.window.Placed.the-variants.{Window, Refused}
+use Rattle.window.specs.Bestfit.{bestfit}
+use Rattle.window.specs.Span.{held, fitted}
+
+-- ---- the number and the values of each answer; 0 is no refusal
+
+abbrev pub refusalOf : Placed → ℕ
+refusalOf (Window width height x y) = 0
+refusalOf Refused = 9
+
+abbrev pub widthOf : Placed → ℕ
+widthOf (Window width height x y) = width
+widthOf Refused = 0
+
+abbrev pub heightOf : Placed → ℕ
+heightOf (Window width height x y) = height
+heightOf Refused = 0
+
+abbrev pub xOf : Placed → ℤ
+xOf (Window width height x y) = x
+xOf Refused = pos 0
+
+abbrev pub yOf : Placed → ℤ
+yOf (Window width height x y) = y
+yOf Refused = pos 0
+
+-- ---- the answer
+
+unfoldable pub joined : Span → Span → Placed
+joined (Of x width) (Of y height) = Window width height x y
+joined (Of x width) Out = Refused
+joined Out down = Refused
+
+abbrev pub given : ℕ → ℕ → ℤ → ℤ → Placed
+given width height x y = joined (held x width) (held y height)
+
+abbrev pub around : Edges → Placed
+around e = joined (fitted (e .x0) (e .x1)) (fitted (e .y0) (e .y1))
+
+unfoldable pub judged : Found → ℕ → ℕ → Placed
+judged (Box e) width height = around e
+judged Nothing width height = given width height (pos 0) (pos 0)
+
+abbrev pub best : ℕ → Vector → ℕ → ℕ → Placed
+best kind coef width height = judged (bestfit kind coef (ofInt binary64 (pos width)) (ofInt binary64 (pos height))) width height
+
+-- the arguments of the code's `window`
+unfoldable pub window : ℕ → Vector → ℕ → ℕ → Bool → Bool → ℕ → ℕ → ℤ → ℤ → Placed
+window kind coef width height bestfit viewport view-width view-height view-x view-y =
+    cond viewport (given view-width view-height view-x view-y)
+    (cond bestfit (best kind coef width height)
+    (given width height (pos 0) (pos 0)))

@@ -1,2 +1,3 @@
 -- What the probes answer, where it is more than a leaf's own definition.
 pub mod Fitted
+pub mod Sampled

@@ -1,6 +1,6 @@
 -- The 64 bits of an index: those below 2^63 are the index, the others are counted back from -1; and the test for what is
 -- inside on the bits alone. By one comparison with 2^63, and then by arithmetic. Assumes nothing.
-use mathlib.Core.Path.{_≡_, refl, ap, _∙_}
+use mathlib.Core.Path.{_≡_, refl, sym, ap, _∙_}
 use mathlib.Core.Bool.{Bool, true, false, cond}
 use Prim.Native.Nat.{ℕ, suc, _-_, _^_, _≤_, _<_}
 use native.Mathlib.Omega.{arith}
@@ -67,3 +67,7 @@ within-no b n h = go (ltb b (2 ^ 63))
     go : (t : Bool) → within (cond t (pos b) (negsuc (2 ^ 64 - 1 - b))) n ≡ false
     go true = le-ltb b n h
     go false = refl
+
+-- bits below a size less one are an index whose next is inside too
+pub bits-before : {v : ℤ} {b n : ℕ} → signed b ≡ v → b < n - 1 → n ≤ 4096 → v ≡ pos b
+bits-before {v} {b} {n} e h g = sym e ∙ signed-from b (omega arith)

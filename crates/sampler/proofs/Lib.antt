@@ -1,5 +1,6 @@
 -- The laws of the sampler, a file for each subject.
 pub mod AtLaws
+pub mod CellLaws
 pub mod CubicBounds
 pub mod CubicError
 pub mod CubicExact
@@ -11,12 +12,15 @@ pub mod CubicPieces
 pub mod CubicShape
 pub mod IndexCode
 pub mod IndexLaws
+pub mod InterpolationCode
 pub mod NamedCode
 pub mod NamedExamples
 pub mod NamedLaws
 pub mod PixelCode
+pub mod SignedCode
 pub mod Sizes
 pub mod StoreLaws
+pub mod TapsLaws
 pub mod WeightedFinite
 pub mod WeightedOpaque
 pub mod WeightedWeights

@@ -1,0 +1,95 @@
+-- Where no test of the domain applies, the bytes are a picture's and the coordinates are reached; and a picture has few samples. Assumes nothing.
+use mathlib.Core.Path.{_≡_, refl, sym}
+use mathlib.Core.Bool.{Bool, true, false, not, _||_, true≢false}
+use mathlib.Core.List.{List}
+use Prim.Native.Nat.{ℕ, suc, _+_, _*_, _≤_, _<_}
+use native.Mathlib.Nat.{mul-le-mul}
+use native.Mathlib.Omega.{arith}
+use lib.Dec.{T, eqb, ltb, lit≤}
+use lib.ListN.{length}
+use lib.Ieee.{binary64, ofBits}
+use borrow.Author.Tests.{eqb-true, eqb-false, ltb-false, not-false}
+use Rattle.probes.specs.Fitted.{wrongSize}
+use Rattle.probes.specs.Sampled.{wrongChannels, wrongPicture, wrongCodes, large, beyond, outside}
+use Rattle.sampler.specs.Cell.{reach, Reached}
+use Rattle.sampler.specs.Pixel.{Picture, Inside}
+use Rattle.number.specs.Magnitude.{within}
+
+or-false : (a b : Bool) → (a || b) ≡ false → (a ≡ false) × (b ≡ false)
+or-false true b h = absurd (true≢false h)
+or-false false b h = (refl, h)
+
+or-true : (a b : Bool) → (a || b) ≡ true → (P : Type 0) → (a ≡ true → P) → (b ≡ true → P) → P
+or-true true b h P f g = f refl
+or-true false b h P f g = g h
+
+pub size-fit : (n : ℕ) → wrongSize n ≡ false → (0 < n) × (n ≤ 4096)
+unfolding wrongSize
+size-fit n h = let t = or-false (eqb n 0) (ltb 4096 n) h in (above n (eqb-false n 0 (t .0)), ltb-false 4096 n (t .1))
+  where
+    above : (n : ℕ) → (n ≡ 0 → ⊥) → 0 < n
+    above n k = omega arith
+
+pub channels-fit : (n : ℕ) → wrongChannels n ≡ false → (0 < n) × (n ≤ 4)
+unfolding wrongChannels
+channels-fit n h =
+    or-true (eqb n 1) (eqb n 3 || eqb n 4) (not-false (eqb n 1 || (eqb n 3 || eqb n 4)) h) ((0 < n) × (n ≤ 4)) (λ e. is n 1 (eqb-true n 1 e) (omega arith) (omega arith))
+    (λ t. or-true (eqb n 3) (eqb n 4) t ((0 < n) × (n ≤ 4)) (λ e. is n 3 (eqb-true n 3 e) (omega arith) (omega arith)) (λ e. is n 4 (eqb-true n 4 e) (omega arith) (omega arith)))
+  where
+    is : (n k : ℕ) → n ≡ k → 0 < k → k ≤ 4 → (0 < n) × (n ≤ 4)
+    is n k e p q = (omega arith, omega arith)
+
+pub area-small : (w h : ℕ) → w ≤ 4096 → h ≤ 4096 → w * h ≤ 16777216
+area-small w h a b = mul-le-mul a b
+
+pub samples-small : (w h c : ℕ) → w ≤ 4096 → h ≤ 4096 → c ≤ 4 → w * h * c ≤ 67108864
+samples-small w h c a b d = mul-le-mul (area-small w h a b) d
+
+pub picture-fit : (bytes : List ℕ) (w h c : ℕ) → wrongPicture bytes w h c ≡ false → Picture bytes w h c
+unfolding wrongPicture
+picture-fit bytes w h c f =
+    let t = or-false (wrongSize w) (wrongSize h || (wrongChannels c || not (eqb (length bytes) (w * h * c * 4)))) f in
+    let u = or-false (wrongSize h) (wrongChannels c || not (eqb (length bytes) (w * h * c * 4))) (t .1) in
+    let v = or-false (wrongChannels c) (not (eqb (length bytes) (w * h * c * 4))) (u .1) in
+    record {
+      sizes = record { wide = size-fit w (t .0) .0; width-most = size-fit w (t .0) .1; high = size-fit h (u .0) .0; height-most = size-fit h (u .0) .1 };
+      channels-least = channels-fit c (v .0) .0;
+      channels-most = channels-fit c (v .0) .1;
+      whole = eqb-true (length bytes) (w * h * c * 4) (not-false (eqb (length bytes) (w * h * c * 4)) (v .1));
+    }
+
+pub reached : (x : ℕ) → beyond x ≡ false → Reached (ofBits binary64 x)
+unfolding beyond
+reached x h = holds (within reach (ofBits binary64 x)) (not-false (within reach (ofBits binary64 x)) h)
+  where
+    holds : (t : Bool) → t ≡ true → T t
+    holds true e = tt
+    holds false e = absurd (true≢false (sym e))
+
+pub outside-fit : (bytes : List ℕ) (w h c policy code : ℕ) (background : List ℕ) (x y : ℕ) → outside bytes w h c policy code background x y ≡ false
+    → Picture bytes w h c × (Reached (ofBits binary64 x) × Reached (ofBits binary64 y))
+unfolding outside
+outside-fit bytes w h c policy code background x y f =
+    let r : Bool = beyond x || beyond y in
+    let q : Bool = large background 4 || r in
+    let p : Bool = large bytes (w * h * c) || q in
+    let t = or-false (wrongPicture bytes w h c) (wrongCodes policy code || p) f in
+    let u = or-false (wrongCodes policy code) p (t .1) in
+    let v = or-false (large bytes (w * h * c)) q (u .1) in
+    let k = or-false (large background 4) r (v .1) in
+    let l = or-false (beyond x) (beyond y) (k .1) in
+    (picture-fit bytes w h c (t .0), (reached x (l .0), reached y (l .1)))
+
+-- the background is a picture of one pixel
+pub one-pixel : (bytes : List ℕ) → length bytes ≡ 16 → Inside bytes 1 4 0 0
+one-pixel bytes e = record {
+  height = 1;
+  picture = record {
+    sizes = record { wide = lit≤ tt; width-most = lit≤ tt; high = lit≤ tt; height-most = lit≤ tt };
+    channels-least = lit≤ tt;
+    channels-most = lit≤ tt;
+    whole = e;
+  };
+  column = lit≤ tt;
+  row = lit≤ tt;
+}

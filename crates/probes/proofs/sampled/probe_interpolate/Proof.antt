@@ -1,0 +1,49 @@
+-- `probes::sampled::probe_interpolate` meets its contract: the test of the domain, then the colour, stored. Assumes nothing.
+use mathlib.Core.Path.{sym, _∙_}
+use lib.Dec.{T}
+use Rattle.probes.specs.Sampled.{probeInterpolate}
+use Rattle.probes.proofs.SampledLaws.{outside-fit, one-pixel}
+use borrow.Author.Needs.{needs}
+use Rattle.probes.proofs.sampled.probe_interpolate.Statement.{statement}
+use Rattle.probes.proofs.sampled.probe_interpolate.Tie as tie
+
+outside-requires : tie.Need-outside-requires
+outside-requires c κs = search needs
+
+returns : tie.Need-returns
+unfolding probeInterpolate
+returns c = rw (← c .before .outside .ensures, c .if1 .taken)
+
+pixel-requires : tie.Need-pixel-requires
+pixel-requires c κs = one-pixel _ (search needs)
+
+f64-of-bits-requires : tie.Need-f64-of-bits-requires
+f64-of-bits-requires c κs = search needs
+
+f64-of-bits-requires-2 : tie.Need-f64-of-bits-requires-2
+f64-of-bits-requires-2 c κs = search needs
+
+interpolate-requires : tie.Need-interpolate-requires
+interpolate-requires c κs =
+    let f = outside-fit _ _ _ _ _ _ _ _ _ (sym (c .before .before .before .before .before .outside .ensures) ∙ c .before .before .before .before .if1 .left) in
+    (f .0, (rw (c .before .f64-of-bits .ensures) (f .1 .0), rw (c .f64-of-bits2 .ensures) (f .1 .1)))
+
+put-pixel-requires : tie.Need-put-pixel-requires
+put-pixel-requires c κs = search needs
+
+returns-2 : tie.Need-returns-2
+unfolding probeInterpolate
+returns-2 c = rw (← c .before .before .before .before .before .before .before .before .outside .ensures, c .before .before .before .before .before .before .before .if1 .left, c .put-pixel .ensures, c .before .before .interpolate .ensures, c .before .before .before .f64-of-bits2 .ensures, c .before .before .before .before .f64-of-bits .ensures, c .before .before .before .before .before .pixel .ensures)
+
+pub probe-interpolate-spec : {M : Type 1} → statement M
+probe-interpolate-spec =
+    tie.close
+    (tie.spec
+    outside-requires
+    returns
+    pixel-requires
+    f64-of-bits-requires
+    f64-of-bits-requires-2
+    interpolate-requires
+    put-pixel-requires
+    returns-2)

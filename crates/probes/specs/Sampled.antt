@@ -1,0 +1,63 @@
+-- The sampler handed out: 0 with the colour's or the weights' bits in the bytes lent, or 1 outside the domain, where nothing is written. Assumes nothing.
+use Prim.Native.Nat.{ℕ, _*_}
+use mathlib.Core.Bool.{Bool, false, not, cond, _||_}
+use mathlib.Core.List.{List}
+use lib.Dec.{eqb, ltb}
+use lib.ListN.{length}
+use lib.Ieee.{Float, binary32, binary64, ofBits, le}
+use Rattle.exact.specs.Loop.{upTo}
+use Rattle.number.specs.Bytes.{sampleAt, putF32}
+use Rattle.number.specs.Magnitude.{within}
+use Rattle.probes.specs.Fitted.{wrongSize}
+use Rattle.sampler.specs.Cell.{reach}
+use Rattle.sampler.specs.Colour.{zero, half, one}
+use Rattle.sampler.specs.Cubic.{cubicWeights}
+use Rattle.sampler.specs.Interpolate.{interpolate}
+use Rattle.sampler.specs.Pixel.{pixelAt}
+use Rattle.sampler.specs.Store.{putPixel}
+use Rattle.sampler.specs.Weighted.{weightAt}
+
+-- ---- what is outside the domain
+-- neither 1, 3 nor 4
+unfoldable pub wrongChannels : ℕ → Bool
+wrongChannels n = not (eqb n 1 || (eqb n 3 || eqb n 4))
+
+unfoldable pub wrongPicture : List ℕ → ℕ → ℕ → ℕ → Bool
+wrongPicture bytes width height channels =
+    wrongSize width || (wrongSize height || (wrongChannels channels || not (eqb (length bytes) (width * height * channels * 4))))
+
+unfoldable pub wrongCodes : ℕ → ℕ → Bool
+wrongCodes policy code = ltb 13 policy || ltb 8 code
+
+-- one of the first n samples is not a number, or above 65,536 in magnitude
+unfoldable pub large : List ℕ → ℕ → Bool
+large bytes n = upTo (λ (k : ℕ) (t : Bool). t || not (within (ofBits binary32 0x4780_0000) (sampleAt bytes k))) 0 n false
+
+-- a coordinate, by its bits, that is not a number or above 2^30 + 1 in magnitude
+unfoldable pub beyond : ℕ → Bool
+beyond x = not (within reach (ofBits binary64 x))
+
+unfoldable pub outside : List ℕ → ℕ → ℕ → ℕ → ℕ → ℕ → List ℕ → ℕ → ℕ → Bool
+outside bytes width height channels policy code background x y =
+    wrongPicture bytes width height channels
+    || (wrongCodes policy code || (large bytes (width * height * channels) || (large background 4 || (beyond x || beyond y))))
+
+-- ---- the answers
+unfoldable pub probeInterpolate : List ℕ → ℕ → ℕ → ℕ → ℕ → ℕ → List ℕ → ℕ → ℕ → List ℕ → ℕ × List ℕ
+probeInterpolate bytes width height channels policy code background x y out =
+    cond (outside bytes width height channels policy code background x y) (1, out)
+    (0, putPixel out 4 0 (interpolate bytes width height channels policy code (pixelAt background 1 4 0 0) (ofBits binary64 x) (ofBits binary64 y)))
+
+abbrev pub putWeights : List ℕ → List Float → List ℕ
+putWeights out w = putF32 (putF32 (putF32 (putF32 out 0 (weightAt w 0)) 4 (weightAt w 1)) 8 (weightAt w 2)) 12 (weightAt w 3)
+
+-- a fraction that is not from 0 to 1
+unfoldable pub noFraction : Float → Bool
+noFraction t = not (le zero t) || not (le t one)
+
+-- 6 is `Catrom`, 7 is `Spline`
+unfoldable pub probeCubic : ℕ → ℕ → List ℕ → ℕ × List ℕ
+probeCubic code t out =
+    cond (noFraction (ofBits binary32 t)) (1, out)
+    (cond (eqb code 6) (0, putWeights out (cubicWeights (ofBits binary32 t) zero half))
+    (cond (eqb code 7) (0, putWeights out (cubicWeights (ofBits binary32 t) one zero)) (1, out)))

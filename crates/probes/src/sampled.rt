@@ -1,0 +1,171 @@
+// The sampler in bytes: a colour, or the cubic weights. Assumes nothing.
+ghost use mathlib.Core.Path.{_≡_};
+ghost use mathlib.Core.Bool.{not};
+ghost use Prim.Native.Nat.{_*_, _≤_};
+ghost use lib.ListN.{length};
+ghost use Rattle.probes.specs.Sampled.{wrongChannels, wrongPicture, wrongCodes, large, beyond, outside, noFraction, putWeights, probeInterpolate, probeCubic};
+use crate::fitted::wrong_size;
+use number::bytes::f32_within;
+use number::bytes::put_f32;
+use number::pattern::f32_of_bits;
+use number::pattern::f64_bits_within;
+use number::pattern::f64_of_bits;
+use sampler::cubic::cubic_weights;
+use sampler::interpolate::interpolate;
+use sampler::pixel::pixel;
+use sampler::store::put_pixel;
+
+fn wrong_channels(n: u64) -> bool
+    ensures { λ r. ⌜ r ≡ wrongChannels n ⌝ }
+{
+    !((n == 1) | ((n == 3) | (n == 4)))
+}
+
+fn wrong_picture(picture: &[u8], width: u64, height: u64, channels: u64) -> bool
+    ensures { λ r. ⌜ r ≡ wrongPicture (now (picture .entry)) width height channels ⌝ }
+{
+    if wrong_size(width) {
+        return true;
+    }
+    if wrong_size(height) {
+        return true;
+    }
+    if wrong_channels(channels) {
+        return true;
+    }
+    picture.len() as u64 != width * height * channels * 4
+}
+
+fn wrong_codes(policy: u64, code: u64) -> bool
+    ensures { λ r. ⌜ r ≡ wrongCodes policy code ⌝ }
+{
+    (13 < policy) | (8 < code)
+}
+
+// Whether one of the first n samples is not a number or above 65,536 in magnitude.
+fn large(s: &[u8], n: usize) -> bool
+    requires { ⌜ n * 4 ≤ length (now s) ⌝ }
+    ensures { λ r. ⌜ r ≡ large (now (s .entry)) n ⌝ }
+{
+    let mut found = false;
+    for k in 0..n {
+        found = found | !f32_within(s, 4 * k, 0x4780_0000);
+    }
+    found
+}
+
+fn beyond(x: u64) -> bool
+    ensures { λ r. ⌜ r ≡ beyond x ⌝ }
+{
+    !f64_bits_within(x, 0x41d0_0000_0040_0000)
+}
+
+fn outside(
+    picture: &[u8],
+    width: u64,
+    height: u64,
+    channels: u64,
+    policy: u64,
+    code: u64,
+    background: &[u8; 16],
+    x: u64,
+    y: u64,
+) -> bool
+    ensures { λ r.
+        ⌜ r ≡ outside (now (picture .entry)) width height channels policy code (now (background .entry)) x y ⌝ }
+{
+    if wrong_picture(picture, width, height, channels) {
+        return true;
+    }
+    if wrong_codes(policy, code) {
+        return true;
+    }
+    if large(picture, (width * height * channels) as usize) {
+        return true;
+    }
+    if large(background, 4) {
+        return true;
+    }
+    if beyond(x) {
+        return true;
+    }
+    beyond(y)
+}
+
+#[no_mangle]
+pub extern "C" fn probe_interpolate(
+    picture: &[u8],
+    width: u64,
+    height: u64,
+    channels: u64,
+    policy: u64,
+    interpolation: u64,
+    background: &[u8; 16],
+    x: u64,
+    y: u64,
+    out: &mut [u8; 16],
+) -> u64
+    ensures { λ r.
+        ⌜ (r, now (out .exit)) ≡ probeInterpolate (now (picture .entry)) width height channels policy interpolation (now (background .entry)) x y (now (out .entry)) ⌝ }
+{
+    if outside(
+        picture,
+        width,
+        height,
+        channels,
+        policy,
+        interpolation,
+        background,
+        x,
+        y,
+    ) {
+        return 1;
+    }
+    let c = interpolate(
+        picture,
+        width,
+        height,
+        channels,
+        policy,
+        interpolation,
+        pixel(background, 1, 4, 0, 0),
+        f64_of_bits(x),
+        f64_of_bits(y),
+    );
+    put_pixel(out, 4, 0, c);
+    0
+}
+
+fn no_fraction(t: f32) -> bool
+    ensures { λ r. ⌜ r ≡ noFraction t ⌝ }
+{
+    !(t >= 0.0) | !(t <= 1.0)
+}
+
+fn put_weights(out: &mut [u8; 16], w: [f32; 4])
+    ensures { λ _. ⌜ now (out .exit) ≡ putWeights (now (out .entry)) w ⌝ }
+{
+    put_f32(out, 0, w[0]);
+    put_f32(out, 4, w[1]);
+    put_f32(out, 8, w[2]);
+    put_f32(out, 12, w[3]);
+}
+
+#[no_mangle]
+pub extern "C" fn probe_cubic(interpolation: u64, t: u32, out: &mut [u8; 16]) -> u64
+    ensures { λ r. ⌜ (r, now (out .exit)) ≡ probeCubic interpolation t (now (out .entry)) ⌝ }
+{
+    let f = f32_of_bits(t);
+    if no_fraction(f) {
+        return 1;
+    }
+    if interpolation == 6 {
+        put_weights(out, cubic_weights(f, 0.0, 0.5));
+        return 0;
+    }
+    if interpolation == 7 {
+        put_weights(out, cubic_weights(f, 1.0, 0.0));
+        return 0;
+    }
+    1
+}

@@ -1,0 +1,36 @@
+-- `sampler::weights::weights` meets its contract: an arm for each code whose taps differ, and the same weight for the others. Assumes nothing.
+use mathlib.Core.Path.{sym}
+use Rattle.sampler.specs.Interpolation.{interpolation}
+use Rattle.sampler.proofs.InterpolationCode.{weights-alike}
+use borrow.Author.Needs.{needs}
+use Rattle.sampler.proofs.weights.weights.Statement.{statement}
+use Rattle.sampler.proofs.weights.weights.Tie as tie
+
+bilinear-requires : tie.Need-bilinear-requires
+bilinear-requires c κs = search needs
+
+cubic-requires : tie.Need-cubic-requires
+cubic-requires c κs = search needs
+
+cubic-requires-2 : tie.Need-cubic-requires-2
+cubic-requires-2 c κs = search needs
+
+returns : tie.Need-returns
+unfolding interpolation
+returns c = rw (c .before .match .keys1) (c .bilinear .ensures)
+
+returns-2 : tie.Need-returns-2
+unfolding interpolation
+returns-2 c = rw (c .before .match .keys2) (c .cubic .ensures)
+
+returns-3 : tie.Need-returns-3
+unfolding interpolation
+returns-3 c = rw (c .before .match .keys3) (c .cubic2 .ensures)
+
+returns-4 : tie.Need-returns-4
+returns-4 c = sym (weights-alike _ _ _ (c .match .rest))
+
+pub weights-spec : {M : Type 1} → statement M
+weights-spec =
+    tie.close
+    (tie.spec bilinear-requires cubic-requires cubic-requires-2 returns returns-2 returns-3 returns-4)

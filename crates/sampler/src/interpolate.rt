@@ -1,0 +1,401 @@
+// The colour at a point of index space: the cell, the taps from it, their weights, and the weighted mean. Assumes that the bytes are a
+// picture's, and the point's coordinates at most 2^30 + 1 in magnitude.
+ghost use mathlib.Core.Path.{_≡_};
+ghost use mathlib.Core.List.{[], _∷_};
+ghost use Prim.Native.Nat.{_+_, _*_, _≤_, _<_};
+ghost use lib.Signed.{mag};
+ghost use Rattle.sampler.specs.At.{at};
+ghost use Rattle.sampler.specs.Cell.{Reached, cell};
+ghost use Rattle.sampler.specs.Interpolate as Interpolate;
+ghost use Rattle.sampler.specs.Interpolation.{Bilinear, interpolation};
+ghost use Rattle.sampler.specs.Pixel.{Picture, pixelAt};
+ghost use Rattle.sampler.specs.Taps.{side, taps};
+ghost use Rattle.sampler.specs.Weighted.{weighted};
+ghost use Rattle.sampler.specs.Weights.{corners, weights};
+use crate::at::at;
+use crate::cell::first;
+use crate::cell::fraction;
+use crate::colour::Rgba;
+use crate::pixel::pixel;
+use crate::taps::side;
+use crate::taps::tap;
+use crate::weighted::added;
+use crate::weighted::mean;
+use crate::weighted::nothing;
+use crate::weights::weights;
+use number::pattern::bits_of_i64;
+
+// The weighted mean of the n by n taps from a cell on.
+fn square(
+    picture: &[u8],
+    width: u64,
+    height: u64,
+    channels: u64,
+    policy: u64,
+    background: Rgba,
+    column: i64,
+    row: i64,
+    n: usize,
+    w: [f32; 16],
+) -> Rgba
+    requires { ⌜ Picture (now picture) width height channels ⌝ }
+    requires { ⌜ (mag column ≤ 2147483649) × (mag row ≤ 2147483649) ⌝ }
+    requires { ⌜ (0 < n) × (n ≤ 4) ⌝ }
+    ensures { λ r.
+        ⌜ r ≡ weighted (taps (at (now (picture .entry)) width height channels policy background) (record { column = column; row = row }) n) w (n * n) ⌝ }
+{
+    let mut s = nothing();
+    let count = n * n;
+    for k in 0..count {
+        s = added(
+            tap(
+                picture,
+                width,
+                height,
+                channels,
+                policy,
+                background,
+                column,
+                row,
+                n,
+                k,
+            ),
+            w[k],
+            s,
+        );
+    }
+    mean(s)
+}
+
+// Every interpolation that weighs several taps.
+fn several(
+    picture: &[u8],
+    width: u64,
+    height: u64,
+    channels: u64,
+    policy: u64,
+    code: u64,
+    background: Rgba,
+    x: f64,
+    y: f64,
+) -> Rgba
+    requires { ⌜ Picture (now picture) width height channels ⌝ }
+    requires { ⌜ Reached x × Reached y ⌝ }
+    requires { ⌜ 0 < side (interpolation code) ⌝ }
+    ensures { λ r.
+        ⌜ r ≡ Interpolate.several (interpolation code) (at (now (picture .entry)) width height channels policy background) x y ⌝ }
+{
+    square(
+        picture,
+        width,
+        height,
+        channels,
+        policy,
+        background,
+        first(code, x),
+        first(code, y),
+        side(code),
+        weights(code, fraction(x), fraction(y)),
+    )
+}
+
+// The weighted mean of the four taps of `Bilinear`.
+fn blended(a: Rgba, b: Rgba, c: Rgba, d: Rgba, tx: f32, ty: f32) -> Rgba
+    ensures { λ r. ⌜ r ≡ weighted (a ∷ b ∷ c ∷ d ∷ []) (corners tx ty) 4 ⌝ }
+{
+    let sx = 1.0 - tx;
+    let sy = 1.0 - ty;
+    let s = added(b, tx * sy, added(a, sx * sy, nothing()));
+    mean(added(d, tx * ty, added(c, sx * ty, s)))
+}
+
+// The four taps of a cell that lies inside, which no policy is asked for.
+fn inside(
+    picture: &[u8],
+    width: u64,
+    height: u64,
+    channels: u64,
+    i: u64,
+    j: u64,
+    tx: f32,
+    ty: f32,
+) -> Rgba
+    requires { ⌜ Picture (now picture) width height channels ⌝ }
+    requires { ⌜ (i + 1 < width) × (j + 1 < height) ⌝ }
+    ensures { λ r.
+        ⌜ r ≡ weighted (pixelAt (now (picture .entry)) width channels i j ∷ pixelAt (now (picture .entry)) width channels (i + 1) j ∷ pixelAt (now (picture .entry)) width channels i (j + 1) ∷ pixelAt (now (picture .entry)) width channels (i + 1) (j + 1) ∷ []) (corners tx ty) 4 ⌝ }
+{
+    blended(
+        pixel(picture, width, channels, i, j),
+        pixel(picture, width, channels, i + 1, j),
+        pixel(picture, width, channels, i, j + 1),
+        pixel(picture, width, channels, i + 1, j + 1),
+        tx,
+        ty,
+    )
+}
+
+// Those of any cell.
+fn anywhere(
+    picture: &[u8],
+    width: u64,
+    height: u64,
+    channels: u64,
+    policy: u64,
+    background: Rgba,
+    column: i64,
+    row: i64,
+    tx: f32,
+    ty: f32,
+) -> Rgba
+    requires { ⌜ Picture (now picture) width height channels ⌝ }
+    requires { ⌜ (mag column ≤ 2147483649) × (mag row ≤ 2147483649) ⌝ }
+    ensures { λ r.
+        ⌜ r ≡ weighted (taps (at (now (picture .entry)) width height channels policy background) (record { column = column; row = row }) 2) (weights Bilinear tx ty) 4 ⌝ }
+{
+    blended(
+        tap(
+            picture,
+            width,
+            height,
+            channels,
+            policy,
+            background,
+            column,
+            row,
+            2,
+            0,
+        ),
+        tap(
+            picture,
+            width,
+            height,
+            channels,
+            policy,
+            background,
+            column,
+            row,
+            2,
+            1,
+        ),
+        tap(
+            picture,
+            width,
+            height,
+            channels,
+            policy,
+            background,
+            column,
+            row,
+            2,
+            2,
+        ),
+        tap(
+            picture,
+            width,
+            height,
+            channels,
+            policy,
+            background,
+            column,
+            row,
+            2,
+            3,
+        ),
+        tx,
+        ty,
+    )
+}
+
+// The four taps around a point, from its cell on.
+fn around(
+    picture: &[u8],
+    width: u64,
+    height: u64,
+    channels: u64,
+    policy: u64,
+    background: Rgba,
+    column: i64,
+    row: i64,
+    tx: f32,
+    ty: f32,
+) -> Rgba
+    requires { ⌜ Picture (now picture) width height channels ⌝ }
+    requires { ⌜ (mag column ≤ 2147483649) × (mag row ≤ 2147483649) ⌝ }
+    ensures { λ r.
+        ⌜ r ≡ weighted (taps (at (now (picture .entry)) width height channels policy background) (record { column = column; row = row }) 2) (weights Bilinear tx ty) 4 ⌝ }
+{
+    let i = bits_of_i64(column);
+    let j = bits_of_i64(row);
+    if i < width - 1 && j < height - 1 {
+        return inside(picture, width, height, channels, i, j, tx, ty);
+    }
+    anywhere(
+        picture,
+        width,
+        height,
+        channels,
+        policy,
+        background,
+        column,
+        row,
+        tx,
+        ty,
+    )
+}
+
+fn bilinear(
+    picture: &[u8],
+    width: u64,
+    height: u64,
+    channels: u64,
+    policy: u64,
+    background: Rgba,
+    x: f64,
+    y: f64,
+) -> Rgba
+    requires { ⌜ Picture (now picture) width height channels ⌝ }
+    requires { ⌜ Reached x × Reached y ⌝ }
+    ensures { λ r.
+        ⌜ r ≡ Interpolate.several Bilinear (at (now (picture .entry)) width height channels policy background) x y ⌝ }
+{
+    around(
+        picture,
+        width,
+        height,
+        channels,
+        policy,
+        background,
+        first(5, x),
+        first(5, y),
+        fraction(x),
+        fraction(y),
+    )
+}
+
+// One tap alone.
+fn single(
+    picture: &[u8],
+    width: u64,
+    height: u64,
+    channels: u64,
+    policy: u64,
+    code: u64,
+    background: Rgba,
+    x: f64,
+    y: f64,
+) -> Rgba
+    requires { ⌜ Picture (now picture) width height channels ⌝ }
+    requires { ⌜ Reached x × Reached y ⌝ }
+    ensures { λ r.
+        ⌜ r ≡ Interpolate.single (at (now (picture .entry)) width height channels policy background) (cell (interpolation code) x y) ⌝ }
+{
+    at(
+        picture,
+        width,
+        height,
+        channels,
+        policy,
+        background,
+        first(code, x),
+        first(code, y),
+    )
+}
+
+pub fn interpolate(
+    picture: &[u8],
+    width: u64,
+    height: u64,
+    channels: u64,
+    policy: u64,
+    code: u64,
+    background: Rgba,
+    x: f64,
+    y: f64,
+) -> Rgba
+    requires { ⌜ Picture (now picture) width height channels ⌝ }
+    requires { ⌜ Reached x × Reached y ⌝ }
+    ensures { λ r. ⌜ r ≡ Interpolate.interpolate (now (picture .entry)) width height channels policy code background x y ⌝ }
+{
+    match code {
+        0 => single(
+            picture,
+            width,
+            height,
+            channels,
+            policy,
+            code,
+            background,
+            x,
+            y,
+        ),
+        1 => single(
+            picture,
+            width,
+            height,
+            channels,
+            policy,
+            code,
+            background,
+            x,
+            y,
+        ),
+        2 => several(
+            picture,
+            width,
+            height,
+            channels,
+            policy,
+            code,
+            background,
+            x,
+            y,
+        ),
+        3 => several(
+            picture,
+            width,
+            height,
+            channels,
+            policy,
+            code,
+            background,
+            x,
+            y,
+        ),
+        4 => several(
+            picture,
+            width,
+            height,
+            channels,
+            policy,
+            code,
+            background,
+            x,
+            y,
+        ),
+        5 => bilinear(picture, width, height, channels, policy, background, x, y),
+        6 => several(
+            picture,
+            width,
+            height,
+            channels,
+            policy,
+            code,
+            background,
+            x,
+            y,
+        ),
+        7 => several(
+            picture,
+            width,
+            height,
+            channels,
+            policy,
+            code,
+            background,
+            x,
+            y,
+        ),
+        _ => background,
+    }
+}

@@ -1,0 +1,67 @@
+// The taps of an interpolation: a square of indexes from its cell on, numbered row by row. Assumes that the bytes are a picture's,
+// and the cell that of a point whose coordinates are small.
+ghost use mathlib.Core.Path.{_≡_};
+ghost use Prim.Native.Nat.{_*_, _≤_, _<_};
+ghost use lib.IntN.{pos, _+ℤ_};
+ghost use lib.Signed.{mag};
+ghost use Rattle.sampler.specs.At.{at};
+ghost use Rattle.sampler.specs.Interpolation.{interpolation};
+ghost use Rattle.sampler.specs.Pixel.{Picture};
+ghost use Rattle.sampler.specs.Taps.{side, tap};
+use crate::at::at;
+use crate::colour::Rgba;
+
+// How many taps stand side by side.
+pub fn side(code: u64) -> usize
+    ensures { λ r. ⌜ r ≡ side (interpolation code) ⌝ }
+{
+    match code {
+        0 => 1,
+        1 => 1,
+        2 => 2,
+        3 => 3,
+        4 => 4,
+        5 => 2,
+        6 => 4,
+        7 => 4,
+        _ => 0,
+    }
+}
+
+// The index k further on.
+pub fn moved(v: i64, k: usize) -> i64
+    requires { ⌜ (mag v ≤ 2147483649) × (k ≤ 4) ⌝ }
+    ensures { λ r. ⌜ r ≡ v +ℤ pos k ⌝ }
+{
+    v + k as i64
+}
+
+// The tap numbered k of a square of n by n.
+pub fn tap(
+    picture: &[u8],
+    width: u64,
+    height: u64,
+    channels: u64,
+    policy: u64,
+    background: Rgba,
+    column: i64,
+    row: i64,
+    n: usize,
+    k: usize,
+) -> Rgba
+    requires { ⌜ Picture (now picture) width height channels ⌝ }
+    requires { ⌜ (mag column ≤ 2147483649) × (mag row ≤ 2147483649) ⌝ }
+    requires { ⌜ (0 < n) × ((n ≤ 4) × (k < n * n)) ⌝ }
+    ensures { λ r. ⌜ r ≡ tap (at (now (picture .entry)) width height channels policy background) (record { column = column; row = row }) n k ⌝ }
+{
+    at(
+        picture,
+        width,
+        height,
+        channels,
+        policy,
+        background,
+        moved(column, k % n),
+        moved(row, k / n),
+    )
+}

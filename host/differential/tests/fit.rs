@@ -38,7 +38,9 @@ fn expected(r: Reference, job: &Job) -> Result<Vec<f64>, u64> {
     match refused(job) {
         0 => {
             let (w, h) = (job.width as f64, job.height as f64);
-            let mapping = r.build(job.method as u8, &job.args, w, h).map_err(|_| 8u64)?;
+            let mapping = r
+                .build(job.method as u8, &job.args, w, h)
+                .map_err(|_| 8u64)?;
             Ok(mapping.coefficients())
         }
         number => Err(u64::from(number)),
@@ -78,7 +80,10 @@ fn coefficients_and_refusals() {
             Err(number) => answers[number as usize] += 1,
         }
     }
-    println!("{} jobs; accepted and by refusal: {answers:?}; by method: {methods:?}", count());
+    println!(
+        "{} jobs; accepted and by refusal: {answers:?}; by method: {methods:?}",
+        count()
+    );
     for number in [0, 1, 3, 4, 5, 6, 7, 8] {
         assert!(answers[number] > 0, "no job was answered with {number}");
     }
@@ -98,8 +103,14 @@ fn trial_cards() {
     let mut order = vec![2.5];
     order.extend([0.0; 36]);
     assert_eq!(fit(7, &order), Err(7));
-    assert_eq!(fit(0, &[1.0, 2.0, 0.0, 0.0]), Ok(vec![1.0, 0.0, 1.0, 0.0, 1.0, 2.0]));
-    assert_eq!(fit(0, &[1_048_576.0; 4]), Ok(vec![1.0, 0.0, 0.0, 0.0, 1.0, 0.0]));
+    assert_eq!(
+        fit(0, &[1.0, 2.0, 0.0, 0.0]),
+        Ok(vec![1.0, 0.0, 1.0, 0.0, 1.0, 2.0])
+    );
+    assert_eq!(
+        fit(0, &[1_048_576.0; 4]),
+        Ok(vec![1.0, 0.0, 0.0, 0.0, 1.0, 0.0])
+    );
     assert_eq!(fit(0, &[1_048_576.000_000_000_2; 4]), Err(5));
     assert!(fit(13, &[0.0; 256]).is_ok());
     assert_eq!(fit(13, &[0.0; 260]), Err(4));

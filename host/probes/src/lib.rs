@@ -16,6 +16,20 @@ mod ffi {
             height: u64,
             out: *mut [u8; 2064],
         ) -> u64;
+        pub unsafe fn probe_interpolate(
+            picture: *const u8,
+            length: usize,
+            width: u64,
+            height: u64,
+            channels: u64,
+            policy: u64,
+            interpolation: u64,
+            background: *const [u8; 16],
+            x: u64,
+            y: u64,
+            out: *mut [u8; 16],
+        ) -> u64;
+        pub unsafe fn probe_cubic(interpolation: u64, t: u32, out: *mut [u8; 16]) -> u64;
     }
 }
 
@@ -62,11 +76,80 @@ pub fn fit(method: u64, arguments: &[u8], width: u64, height: u64) -> Result<Vec
         ffi::probe_fit(method, bytes, length, width, height, &mut out)
     };
     let (words, _) = out.as_chunks::<8>();
-    let count = if answer == 0 { u64::from_le_bytes(words[0]) as usize } else { 0 };
+    let count = if answer == 0 {
+        u64::from_le_bytes(words[0]) as usize
+    } else {
+        0
+    };
     let written = if answer == 0 { 8 + 8 * count } else { 0 };
-    assert!(out[written..].iter().all(|&byte| byte == UNTOUCHED), "a byte beyond the answer is changed");
+    assert!(
+        out[written..].iter().all(|&byte| byte == UNTOUCHED),
+        "a byte beyond the answer is changed"
+    );
     if answer != 0 {
         return Err(answer);
     }
-    Ok(words[1..=count].iter().map(|&word| f64::from_le_bytes(word)).collect())
+    Ok(words[1..=count]
+        .iter()
+        .map(|&word| f64::from_le_bytes(word))
+        .collect())
+}
+
+/// Four f32 out of 16 bytes, or none where the probe answers that its input is outside the domain, and then writes nothing.
+fn colour(answer: u64, out: [u8; 16]) -> Option<[f32; 4]> {
+    if answer != 0 {
+        assert!(out == [UNTOUCHED; 16], "a refused call changed a byte");
+        return None;
+    }
+    let (words, _) = out.as_chunks::<4>();
+    Some(std::array::from_fn(|k| f32::from_le_bytes(words[k])))
+}
+
+/// A picture for `interpolate`: samples as bytes.
+pub struct Picture<'a> {
+    pub bytes: &'a [u8],
+    pub width: u64,
+    pub height: u64,
+    pub channels: u64,
+}
+
+/// The colour at a point in index space.
+pub fn interpolate(
+    picture: &Picture,
+    policy: u64,
+    interpolation: u64,
+    background: [f32; 4],
+    x: f64,
+    y: f64,
+) -> Option<[f32; 4]> {
+    let mut out = [UNTOUCHED; 16];
+    let mut lent = [0; 16];
+    for (k, component) in background.iter().enumerate() {
+        lent[4 * k..4 * k + 4].copy_from_slice(&component.to_le_bytes());
+    }
+    // SAFETY: each pointer is to a slice or an array of the length that the callee is told or knows.
+    let answer = unsafe {
+        ffi::probe_interpolate(
+            picture.bytes.as_ptr(),
+            picture.bytes.len(),
+            picture.width,
+            picture.height,
+            picture.channels,
+            policy,
+            interpolation,
+            &lent,
+            x.to_bits(),
+            y.to_bits(),
+            &mut out,
+        )
+    };
+    colour(answer, out)
+}
+
+/// The four weights of Catrom (6) or Spline (7) at a fraction.
+pub fn cubic(interpolation: u64, t: f32) -> Option<[f32; 4]> {
+    let mut out = [UNTOUCHED; 16];
+    // SAFETY: `out` is an array of the size that the callee knows.
+    let answer = unsafe { ffi::probe_cubic(interpolation, t.to_bits(), &mut out) };
+    colour(answer, out)
 }

@@ -1,2 +1,5 @@
 -- What the probes answer, where it is more than a leaf's own definition.
 pub mod Fitted
+pub mod Placed
+pub mod Pointed
+pub mod Sized

@@ -9,7 +9,7 @@ use fit::build::build;
 use number::bytes::put_f64;
 use number::bytes::put_u64;
 
-fn wrong_size(n: u64) -> bool
+pub fn wrong_size(n: u64) -> bool
     ensures { λ r. ⌜ r ≡ wrongSize n ⌝ }
 {
     n == 0 || 4096 < n

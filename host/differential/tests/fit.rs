@@ -14,31 +14,13 @@ fn count() -> u64 {
     }
 }
 
-fn bytes(job: &Job) -> Vec<u8> {
-    let mut bytes: Vec<u8> = job.args.iter().flat_map(|x| x.to_le_bytes()).collect();
-    bytes.resize(bytes.len() + job.args_rest, 0x3f);
-    bytes
-}
-
-/// The refusals of a fit alone: its picture's size, then those of the method and its arguments.
-fn refused(job: &Job) -> u8 {
-    let bad_side = |side: u64| side == 0 || side > refusal::SIDE;
-    if bad_side(job.width) || bad_side(job.height) {
-        return 1;
-    }
-    refusal::before_the_fit(&Job {
-        method: job.method,
-        args: job.args.clone(),
-        args_rest: job.args_rest,
-        ..Job::plain()
-    })
-}
-
 fn expected(r: Reference, job: &Job) -> Result<Vec<f64>, u64> {
-    match refused(job) {
+    match refusal::of_the_fit(job) {
         0 => {
             let (w, h) = (job.width as f64, job.height as f64);
-            let mapping = r.build(job.method as u8, &job.args, w, h).map_err(|_| 8u64)?;
+            let mapping = r
+                .build(job.method as u8, &job.args, w, h)
+                .map_err(|_| 8u64)?;
             Ok(mapping.coefficients())
         }
         number => Err(u64::from(number)),
@@ -64,7 +46,7 @@ fn coefficients_and_refusals() {
     let mut methods = [0u64; 14];
     for index in 0..count() {
         let job = generate::job(SEED, index, &|_| None);
-        let ours = probes::fit(job.method, &bytes(&job), job.width, job.height);
+        let ours = probes::fit(job.method, &job.args_bytes(), job.width, job.height);
         let originals = expected(r, &job);
         assert!(
             same(&ours, &originals),
@@ -78,7 +60,10 @@ fn coefficients_and_refusals() {
             Err(number) => answers[number as usize] += 1,
         }
     }
-    println!("{} jobs; accepted and by refusal: {answers:?}; by method: {methods:?}", count());
+    println!(
+        "{} jobs; accepted and by refusal: {answers:?}; by method: {methods:?}",
+        count()
+    );
     for number in [0, 1, 3, 4, 5, 6, 7, 8] {
         assert!(answers[number] > 0, "no job was answered with {number}");
     }
@@ -98,8 +83,14 @@ fn trial_cards() {
     let mut order = vec![2.5];
     order.extend([0.0; 36]);
     assert_eq!(fit(7, &order), Err(7));
-    assert_eq!(fit(0, &[1.0, 2.0, 0.0, 0.0]), Ok(vec![1.0, 0.0, 1.0, 0.0, 1.0, 2.0]));
-    assert_eq!(fit(0, &[1_048_576.0; 4]), Ok(vec![1.0, 0.0, 0.0, 0.0, 1.0, 0.0]));
+    assert_eq!(
+        fit(0, &[1.0, 2.0, 0.0, 0.0]),
+        Ok(vec![1.0, 0.0, 1.0, 0.0, 1.0, 2.0])
+    );
+    assert_eq!(
+        fit(0, &[1_048_576.0; 4]),
+        Ok(vec![1.0, 0.0, 0.0, 0.0, 1.0, 0.0])
+    );
     assert_eq!(fit(0, &[1_048_576.000_000_000_2; 4]), Err(5));
     assert!(fit(13, &[0.0; 256]).is_ok());
     assert_eq!(fit(13, &[0.0; 260]), Err(4));

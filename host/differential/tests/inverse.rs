@@ -23,12 +23,7 @@ fn jobs() -> u64 {
 
 type Sort = fn(&mut Random, &Job) -> (f64, f64);
 
-const SORTS: [(&str, Sort); 4] = [
-    ("pixel centres", centre),
-    ("on pairs", on_a_pair),
-    ("far", far),
-    ("beyond 2^30", beyond),
-];
+const SORTS: [Sort; 4] = [centre, on_a_pair, far, beyond];
 
 /// The centre of a pixel of the picture.
 fn centre(r: &mut Random, job: &Job) -> (f64, f64) {
@@ -148,7 +143,7 @@ fn source_points() {
         let job = generate::job(SEED, index, &|_| None);
         let mapping = mapping(r, &job);
         let mut random = Random::nth(SEED + 1, index);
-        for (_, sort) in SORTS {
+        for sort in SORTS {
             for _ in 0..OF_A_SORT {
                 let at = sort(&mut random, &job);
                 compare(&mut met, index, &job, &mapping, at);

@@ -2,4 +2,7 @@
 // itself. Floats pass as their bits; a NaN comes out as 0x7fc00000 or 0x7ff8000000000000. No product links it.
 pub mod fitted;
 pub mod number_tools;
+pub mod placed;
+pub mod pointed;
 pub mod sampled;
+pub mod sized;

@@ -43,6 +43,19 @@ pub fn before_the_fit(job: &Job) -> u8 {
     first.map_or(0, |(number, _)| *number)
 }
 
+/// The refusals of a fit alone: its picture's size, then those of the method and its arguments.
+pub fn of_the_fit(job: &Job) -> u8 {
+    if bad_side(job.width) || bad_side(job.height) {
+        return 1;
+    }
+    before_the_fit(&Job {
+        method: job.method,
+        args: job.args.clone(),
+        args_rest: job.args_rest,
+        ..Job::plain()
+    })
+}
+
 /// Refusals 9 to 11 with the output's window, or 0.
 pub fn after_the_fit(job: &Job, w: Window) -> u8 {
     let far = |offset: i64| !(-OFFSET..=OFFSET).contains(&offset);

@@ -14,28 +14,8 @@ fn count() -> u64 {
     }
 }
 
-fn bytes(job: &Job) -> Vec<u8> {
-    let mut bytes: Vec<u8> = job.args.iter().flat_map(|x| x.to_le_bytes()).collect();
-    bytes.resize(bytes.len() + job.args_rest, 0x3f);
-    bytes
-}
-
-/// The refusals of a fit alone: its picture's size, then those of the method and its arguments.
-fn refused(job: &Job) -> u8 {
-    let bad_side = |side: u64| side == 0 || side > refusal::SIDE;
-    if bad_side(job.width) || bad_side(job.height) {
-        return 1;
-    }
-    refusal::before_the_fit(&Job {
-        method: job.method,
-        args: job.args.clone(),
-        args_rest: job.args_rest,
-        ..Job::plain()
-    })
-}
-
 fn expected(r: Reference, job: &Job) -> Result<Vec<f64>, u64> {
-    match refused(job) {
+    match refusal::of_the_fit(job) {
         0 => {
             let (w, h) = (job.width as f64, job.height as f64);
             let mapping = r
@@ -66,7 +46,7 @@ fn coefficients_and_refusals() {
     let mut methods = [0u64; 14];
     for index in 0..count() {
         let job = generate::job(SEED, index, &|_| None);
-        let ours = probes::fit(job.method, &bytes(&job), job.width, job.height);
+        let ours = probes::fit(job.method, &job.args_bytes(), job.width, job.height);
         let originals = expected(r, &job);
         assert!(
             same(&ours, &originals),

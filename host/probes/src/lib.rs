@@ -30,6 +30,30 @@ mod ffi {
             out: *mut [u8; 16],
         ) -> u64;
         pub unsafe fn probe_cubic(interpolation: u64, t: u32, out: *mut [u8; 16]) -> u64;
+        pub unsafe fn probe_inverse(
+            method: u64,
+            arguments: *const u8,
+            length: usize,
+            width: u64,
+            height: u64,
+            x: u64,
+            y: u64,
+            out: *mut [u8; 24],
+        ) -> u64;
+        pub unsafe fn probe_window(
+            method: u64,
+            arguments: *const u8,
+            length: usize,
+            width: u64,
+            height: u64,
+            bestfit: u64,
+            viewport: u64,
+            view_width: u64,
+            view_height: u64,
+            view_x: i64,
+            view_y: i64,
+            out: *mut [u8; 32],
+        ) -> u64;
     }
 }
 
@@ -152,4 +176,83 @@ pub fn cubic(interpolation: u64, t: f32) -> Option<[f32; 4]> {
     // SAFETY: `out` is an array of the size that the callee knows.
     let answer = unsafe { ffi::probe_cubic(interpolation, t.to_bits(), &mut out) };
     colour(answer, out)
+/// A source point, and whether it is usable. Where there is none, u and v are 0.
+#[derive(Clone, Copy, Debug)]
+pub struct Point {
+    pub u: f64,
+    pub v: f64,
+    pub usable: bool,
+}
+
+/// The source point of the output point x, y by a fit over the arguments' bytes, or the refusal's number. A refusal
+/// writes nothing.
+pub fn inverse(
+    method: u64,
+    arguments: &[u8],
+    width: u64,
+    height: u64,
+    (x, y): (f64, f64),
+) -> Result<Point, u64> {
+    let mut out = [UNTOUCHED; 24];
+    // SAFETY: the pointer and the length are one slice's, and `out` is an array of that size.
+    let answer = unsafe {
+        let (bytes, length) = (arguments.as_ptr(), arguments.len());
+        let (x, y) = (x.to_bits(), y.to_bits());
+        ffi::probe_inverse(method, bytes, length, width, height, x, y, &mut out)
+    };
+    if answer != 0 {
+        assert_eq!(out, [UNTOUCHED; 24], "a refusal writes");
+        return Err(answer);
+    }
+    let (words, _) = out.as_chunks::<8>();
+    let usable = u64::from_le_bytes(words[2]);
+    assert!(usable <= 1, "usable is {usable}");
+    Ok(Point {
+        u: f64::from_le_bytes(words[0]),
+        v: f64::from_le_bytes(words[1]),
+        usable: usable == 1,
+    })
+}
+
+/// A window of the output: width, height, x and y.
+pub type Window = (u64, u64, i64, i64);
+
+/// The window of the output by a fit over the arguments' bytes, or the refusal's number. A refusal writes nothing.
+pub fn window(
+    method: u64,
+    arguments: &[u8],
+    width: u64,
+    height: u64,
+    bestfit: u64,
+    viewport: Option<Window>,
+) -> Result<Window, u64> {
+    let mut out = [UNTOUCHED; 32];
+    let given = u64::from(viewport.is_some());
+    let (view_width, view_height, view_x, view_y) = viewport.unwrap_or_default();
+    // SAFETY: the pointer and the length are one slice's, and `out` is an array of that size.
+    let answer = unsafe {
+        let (bytes, length) = (arguments.as_ptr(), arguments.len());
+        ffi::probe_window(
+            method,
+            bytes,
+            length,
+            width,
+            height,
+            bestfit,
+            given,
+            view_width,
+            view_height,
+            view_x,
+            view_y,
+            &mut out,
+        )
+    };
+    if answer != 0 {
+        assert_eq!(out, [UNTOUCHED; 32], "a refusal writes");
+        return Err(answer);
+    }
+    let (words, _) = out.as_chunks::<8>();
+    let number = |k: usize| u64::from_le_bytes(words[k]);
+    let offset = |k: usize| i64::from_le_bytes(words[k]);
+    Ok((number(0), number(1), offset(2), offset(3)))
 }

@@ -176,6 +176,8 @@ pub fn cubic(interpolation: u64, t: f32) -> Option<[f32; 4]> {
     // SAFETY: `out` is an array of the size that the callee knows.
     let answer = unsafe { ffi::probe_cubic(interpolation, t.to_bits(), &mut out) };
     colour(answer, out)
+}
+
 /// A source point, and whether it is usable. Where there is none, u and v are 0.
 #[derive(Clone, Copy, Debug)]
 pub struct Point {

@@ -1,5 +1,8 @@
 -- The laws of the sampler, a file for each subject.
 pub mod AtLaws
+pub mod AtOpaque
+pub mod BilinearOpaque
+pub mod CellFloor
 pub mod CellLaws
 pub mod CubicBounds
 pub mod CubicError

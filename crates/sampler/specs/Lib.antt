@@ -8,6 +8,7 @@ pub mod Interpolate
 pub mod Interpolation
 pub mod Mitchell
 pub mod Named
+pub mod Opaque
 pub mod Pixel
 pub mod Random
 pub mod Store

@@ -14,28 +14,20 @@ use lib.Signed.{mag}
 use lib.Ieee.{ofBits, fits}
 use Rattle.exact.specs.Weighted.{Unit32}
 use Rattle.number.specs.Bytes.{sampleAt, twosComplement}
-use Rattle.sampler.specs.At.{samples, at}
-use Rattle.sampler.specs.Colour.{zero, half, one, grey}
+use Rattle.sampler.specs.At.{at}
+use Rattle.sampler.specs.Colour.{zero, half, one}
 use Rattle.sampler.specs.Index.{within, tile, parity}
-use Rattle.sampler.specs.Named.{Policy, Edge, Background, Black, White, Gray, Transparent, Tile, Mirror, HorizontalTile, VerticalTile, HorizontalTileEdge, VerticalTileEdge, CheckerTile, Random, policy, picked, outside, named, Lies}
+use Rattle.sampler.specs.Named.{Policy, Edge, Background, Black, White, Gray, Transparent, Tile, Mirror, HorizontalTile, VerticalTile, HorizontalTileEdge, VerticalTileEdge, CheckerTile, Random, policy, picked, outside, named}
 use Rattle.sampler.specs.Opaque.{OpaquePicture, OpaquePlace}
 use Rattle.sampler.specs.Pixel.{widened, pixelAt}
 use Rattle.sampler.specs.Weighted.{Opaque}
 use Rattle.sampler.specs.declared.colour.Rgba.{Rgba}
 use Rattle.sampler.specs.declared.named.Tap.{Tap}
 use Rattle.sampler.specs.declared.named.Tap.the-variants as Tap
-use Rattle.sampler.proofs.NamedLaws.{named-lies}
+use Rattle.sampler.proofs.AtLaws.{Solid, at-keep}
 use Rattle.sampler.proofs.PixelCode.{number-lt}
 
 -- ---- what is named is not the clear colour
-abbrev pub Solid : Tap → Type 0
-Solid (Tap.Pixel x y) = Unit {0}
-Solid Tap.Background = Unit {0}
-Solid Tap.Black = Unit {0}
-Solid Tap.White = Unit {0}
-Solid Tap.Gray = Unit {0}
-Solid Tap.Transparent = ⊥
-
 either : (t : Bool) (p q : Tap) → Solid p → Solid q → Solid (cond t p q)
 either true p q f g = f
 either false p q f g = g
@@ -116,17 +108,9 @@ module _ (bytes : List ℕ) (w h channels : ℕ) (P : OpaquePicture bytes w h ch
       along : (c : ℕ) → channels ≡ c → (OpaquePicture bytes w h c → Opaque (widened bytes c ((y * w + x) * c))) → Opaque (widened bytes channels ((y * w + x) * channels))
       along c e f = subst (λ (n : ℕ). OpaquePicture bytes w h n → Opaque (widened bytes n ((y * w + x) * n))) (sym e) f P
 
-  samples-opaque : (background : Rgba) → Opaque background → (t : Tap) → Lies w h t → Solid t → Opaque (samples bytes w channels background t)
-  samples-opaque background B (Tap.Pixel x y) l s = pixel-opaque x y (l .0) (l .1)
-  samples-opaque background B Tap.Background l s = B
-  samples-opaque background B Tap.Black l s = record { red = zero-unit; green = zero-unit; blue = zero-unit; alpha = refl }
-  samples-opaque background B Tap.White l s = record { red = one-unit; green = one-unit; blue = one-unit; alpha = refl }
-  samples-opaque background B Tap.Gray l s = record { red = half-unit; green = half-unit; blue = half-unit; alpha = refl }
-  samples-opaque background B Tap.Transparent l s = absurd s
-
 -- ---- the law
 pub at-opaque : (bytes : List ℕ) (w h channels code : ℕ) (background : Rgba) → OpaquePlace bytes w h channels code background → (i j : ℤ) → Opaque (at bytes w h channels code background i j)
-unfolding at
 at-opaque bytes w h channels code background O i j =
-    let s = O .inside .picture .sizes in
-    samples-opaque bytes w h channels (O .inside) background (O .around) (named code w h i j) (named-lies w h (s .wide) (s .high) code i j) (named-solid code w h (O .solid) i j)
+    at-keep Opaque bytes w h channels (pixel-opaque bytes w h channels (O .inside)) background (O .around) (record { red = zero-unit; green = zero-unit; blue = zero-unit; alpha = refl })
+    (record { red = one-unit; green = one-unit; blue = one-unit; alpha = refl }) (record { red = half-unit; green = half-unit; blue = half-unit; alpha = refl }) (O .inside .picture) code i j
+    (λ f. absurd (f (named-solid code w h (O .solid) i j)))

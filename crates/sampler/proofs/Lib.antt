@@ -1,4 +1,5 @@
 -- The laws of the sampler, a file for each subject.
+pub mod AtFinite
 pub mod AtLaws
 pub mod AtOpaque
 pub mod BilinearOpaque
@@ -15,6 +16,7 @@ pub mod CubicPieces
 pub mod CubicShape
 pub mod IndexCode
 pub mod IndexLaws
+pub mod InterpolateFinite
 pub mod InterpolationCode
 pub mod NamedCode
 pub mod NamedExamples

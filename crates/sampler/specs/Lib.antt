@@ -3,6 +3,7 @@ pub mod At
 pub mod Cell
 pub mod Colour
 pub mod Cubic
+pub mod Finite
 pub mod Index
 pub mod Interpolate
 pub mod Interpolation

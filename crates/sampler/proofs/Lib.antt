@@ -1,5 +1,9 @@
 -- The laws of the sampler, a file for each subject.
+pub mod AtFinite
 pub mod AtLaws
+pub mod AtOpaque
+pub mod BilinearOpaque
+pub mod CellFloor
 pub mod CellLaws
 pub mod CubicBounds
 pub mod CubicError
@@ -12,6 +16,7 @@ pub mod CubicPieces
 pub mod CubicShape
 pub mod IndexCode
 pub mod IndexLaws
+pub mod InterpolateFinite
 pub mod InterpolationCode
 pub mod NamedCode
 pub mod NamedExamples

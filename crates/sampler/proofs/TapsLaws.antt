@@ -1,23 +1,25 @@
--- A list of sixteen has its function's value at each number below sixteen; and the column and the row of a tap in a square of at most four by four
--- are small.
--- Provides: `sixteen-at`, `tap-at`; `column-small`, `row-small`, `square-small`, `side-small`; `grown` (the sums with one tap more), `finished`; `four-corners`, `inside-corners` (four taps by name). Assumes nothing.
+-- A list of sixteen has its function's value at each number below sixteen, so the sums over the list are those over the square of taps, row by row.
+-- Provides: `sixteen-at`, `tap-at`; `square-small`, `side-small`, `number-small`; of the sums: `started`, `grown` (one tap more), `row-done`,
+-- `none-lined`, `lined-next` (one row more), `finished`; `four-corners`, `inside-corners` (four taps by name). Assumes nothing.
 use mathlib.Core.Path.{_≡_, refl, sym, ap, _∙_}
 use mathlib.Core.List.{List, [], _∷_}
-use Prim.Native.Nat.{ℕ, zero, suc, _+_, _*_, _/_, _%_, _≤_, _<_, zero-le}
-use native.Mathlib.Nat.{add-zero, mod-lt, div-lt-iff-lt-mul, mul-le-mul}
+use Prim.Native.Nat.{ℕ, zero, suc, _+_, _*_, _≤_, _<_, zero-le}
+use native.Mathlib.Nat.{add-zero, add-assoc, zero-mul, mul-le-mul, le-add-right, le-antisymm, lt-of-lt-of-le}
 use native.Mathlib.Omega.{arith}
+use lib.Arith.{digits-lt, digits-div, digits-mod}
 use lib.Dec.{lit≤}
 use lib.ListN.{getD}
 use lib.IntN.{pos, _+ℤ_}
 use lib.Ieee.{Float, nan}
-use Rattle.exact.proofs.Loop.{upTo-next, upTo-last}
+use Rattle.exact.specs.Loop.{upTo}
+use Rattle.exact.proofs.Loop.{upTo-none, upTo-next, upTo-join}
 use Rattle.sampler.specs.At.{at}
 use Rattle.sampler.specs.Cell.{Cell}
 use Rattle.sampler.specs.Colour.{grey}
 use Rattle.sampler.specs.Interpolation.{Interpolation, Integer, Nearest, Average, Average9, Average16, Bilinear, Catrom, Spline, Background}
 use Rattle.sampler.specs.Pixel.{pixelAt}
 use Rattle.sampler.specs.Taps.{Plane, side, sixteen, tap, taps}
-use Rattle.sampler.specs.Weighted.{nothing, added, mean, tapAt, weightAt, summed, weighted}
+use Rattle.sampler.specs.Weighted.{nothing, added, mean, tapAt, weightAt, summed, lined, weighted}
 use Rattle.sampler.specs.Weights.{corners, weights}
 use Rattle.sampler.specs.declared.colour.Rgba.{Rgba}
 use Rattle.sampler.specs.declared.weighted.Sums.{Sums}
@@ -43,12 +45,6 @@ sixteen-at f d (suc (suc (suc (suc (suc (suc (suc (suc (suc (suc (suc (suc (suc 
 sixteen-at f d (suc (suc (suc (suc (suc (suc (suc (suc (suc (suc (suc (suc (suc (suc (suc zero))))))))))))))) h = refl
 sixteen-at f d (suc (suc (suc (suc (suc (suc (suc (suc (suc (suc (suc (suc (suc (suc (suc (suc k)))))))))))))))) h = absurd (omega arith)
 
-pub column-small : (n k : ℕ) → 0 < n → n ≤ 4 → k % n ≤ 4
-column-small n k p h = let l = mod-lt k p in omega arith
-
-pub row-small : (n k : ℕ) → 0 < n → n ≤ 4 → k < n * n → k / n ≤ 4
-row-small n k p h g = let l = div-lt-iff-lt-mul p .1 g in omega arith
-
 pub square-small : (n : ℕ) → n ≤ 4 → n * n ≤ 16
 square-small n h = mul-le-mul h h
 
@@ -57,18 +53,50 @@ pub tap-at : (plane : Plane) (c : Cell) (n k : ℕ) → k < 16 → tapAt (taps p
 unfolding taps
 tap-at plane c n k h = sixteen-at (tap plane c n) (grey nan nan) k h
 
--- the sums grow by one tap
-pub grown : (plane : Plane) (c : Cell) (n : ℕ) (w : List Float) (k : ℕ) (p : Rgba) (s r : Sums) → k < 16 → p ≡ tap plane c n k → s ≡ summed (taps plane c n) w k → r ≡ added p (weightAt w k) s
-    → r ≡ summed (taps plane c n) w (k + 1)
-grown plane c n w k p s r h e inv g =
-    g
-    ∙ ap (λ (q : Rgba). added q (weightAt w k) s) (e ∙ sym (tap-at plane c n k h))
-    ∙ upTo-next (λ (k : ℕ). added (tapAt (taps plane c n) k) (weightAt w k)) 0 nothing k zero-le inv
+pub number-small : (n j i : ℕ) → j < n → i < n → n ≤ 4 → j * n + i < 16
+number-small n j i hj hi h = lt-of-lt-of-le (digits-lt hj hi) (square-small n h)
 
--- and after the last of m
-pub finished : (plane : Plane) (c : Cell) (n : ℕ) (w : List Float) (m k : ℕ) (s : Sums) (r : Rgba) → k ≤ m → m ≤ k → s ≡ summed (taps plane c n) w k → r ≡ mean s → r ≡ weighted (taps plane c n) w m
-unfolding weighted
-finished plane c n w m k s r a b inv g = g ∙ ap mean (upTo-last (λ (k : ℕ). added (tapAt (taps plane c n) k) (weightAt w k)) 0 nothing k m a b inv)
+-- ---- the sums, row by row
+module _ (plane : Plane) (c : Cell) (n : ℕ) (w : List Float) where
+  abbrev pub step : ℕ → Sums → Sums
+  step k = added (tapAt (taps plane c n) k) (weightAt w k)
+
+  -- before the first of row j
+  pub started : (j : ℕ) (start : Sums) → start ≡ upTo step (j * n) (j * n + 0) start
+  started j start = upTo-none step (j * n) start ∙ ap (λ (k : ℕ). upTo step (j * n) k start) (sym (add-zero (j * n)))
+
+  -- with the tap numbered i in row j
+  pub grown : (j i : ℕ) (start : Sums) (p : Rgba) (s r : Sums) → j < n → i < n → n ≤ 4 → p ≡ plane (c .column +ℤ pos i) (c .row +ℤ pos j) → s ≡ upTo step (j * n) (j * n + i) start
+      → r ≡ added p (weightAt w (j * n + i)) s → r ≡ upTo step (j * n) (j * n + (i + 1)) start
+  grown j i start p s r hj hi h e inv g =
+      g
+      ∙ ap (λ (q : Rgba). added q (weightAt w (j * n + i)) s) (e ∙ sym (tap-at plane c n (j * n + i) (number-small n j i hj hi h) ∙ (λ t. plane (c .column +ℤ pos (digits-mod j hi t)) (c .row +ℤ pos (digits-div j hi t)))))
+      ∙ upTo-next step (j * n) start (j * n + i) (le-add-right (j * n) i) inv
+      ∙ ap (λ (k : ℕ). upTo step (j * n) k start) (add-assoc (j * n) i 1)
+
+  -- after its last
+  pub row-done : (j i : ℕ) (start s : Sums) → i ≤ n → n ≤ i → s ≡ upTo step (j * n) (j * n + i) start → s ≡ lined (taps plane c n) w n j start
+  row-done j i start s a b inv = inv ∙ ap (λ (k : ℕ). upTo step (j * n) (j * n + k) start) (le-antisymm a b)
+
+  -- before the first row
+  pub none-lined : nothing ≡ summed (taps plane c n) w (0 * n)
+  none-lined = upTo-none step 0 nothing ∙ ap (λ (k : ℕ). summed (taps plane c n) w k) (sym (zero-mul n))
+
+  -- with a whole row
+  pub lined-next : (j : ℕ) (s r : Sums) → s ≡ summed (taps plane c n) w (j * n) → r ≡ lined (taps plane c n) w n j s → r ≡ summed (taps plane c n) w ((j + 1) * n)
+  lined-next j s r inv g =
+      g
+      ∙ ap (λ (z : Sums). upTo step (j * n) (j * n + n) z) inv
+      ∙ sym (upTo-join step 0 nothing (j * n) (j * n + n) zero-le (le-add-right (j * n) n))
+      ∙ ap (λ (k : ℕ). summed (taps plane c n) w k) (another j)
+    where
+      another : (j : ℕ) → j * n + n ≡ (j + 1) * n
+      another j = omega arith
+
+  -- and after the last row
+  pub finished : (j : ℕ) (s : Sums) (r : Rgba) → j ≤ n → n ≤ j → s ≡ summed (taps plane c n) w (j * n) → r ≡ mean s → r ≡ weighted (taps plane c n) w (n * n)
+  unfolding weighted
+  finished j s r a b inv g = g ∙ ap mean (inv ∙ ap (λ (i : ℕ). summed (taps plane c n) w (i * n)) (le-antisymm a b))
 
 -- ---- two by two: the list's four taps, in order
 pub four-corners : (plane : Plane) (c : Cell) (tx ty : Float)

@@ -1,6 +1,6 @@
 -- The weighted mean of taps, colours weighted by alpha: the Rust's `weighted`, rounded once per operation in the order written.
 -- A tap is a colour and its weight. Assumes nothing.
-use Prim.Native.Nat.{ℕ}
+use Prim.Native.Nat.{ℕ, _+_, _*_}
 use mathlib.Core.Path.{_≡_}
 use mathlib.Core.Bool.{cond}
 use mathlib.Core.List.{List, [], _∷_}
@@ -53,6 +53,10 @@ weightAt weights k = getD weights k nan
 -- the sums over the first n taps
 abbrev pub summed : List Rgba → List Float → ℕ → Sums
 summed taps weights n = upTo (λ (k : ℕ). added (tapAt taps k) (weightAt weights k)) 0 n nothing
+
+-- the sums with the taps of row j of n by n added
+abbrev pub lined : List Rgba → List Float → ℕ → ℕ → Sums → Sums
+lined taps weights n j s = upTo (λ (k : ℕ). added (tapAt taps k) (weightAt weights k)) (j * n) (j * n + n) s
 
 unfoldable pub weighted : List Rgba → List Float → ℕ → Rgba
 weighted taps weights n = mean (summed taps weights n)

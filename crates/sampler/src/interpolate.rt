@@ -9,8 +9,8 @@ ghost use Rattle.sampler.specs.Cell.{Reached, cell};
 ghost use Rattle.sampler.specs.Interpolate as Interpolate;
 ghost use Rattle.sampler.specs.Interpolation.{Bilinear, interpolation};
 ghost use Rattle.sampler.specs.Pixel.{Picture, pixelAt};
-ghost use Rattle.sampler.specs.Taps.{side, taps};
-ghost use Rattle.sampler.specs.Weighted.{weighted};
+ghost use Rattle.sampler.specs.Taps.{taps};
+ghost use Rattle.sampler.specs.Weighted.{lined, weighted};
 ghost use Rattle.sampler.specs.Weights.{corners, weights};
 use crate::at::at;
 use crate::cell::first;
@@ -19,11 +19,54 @@ use crate::colour::Rgba;
 use crate::pixel::pixel;
 use crate::taps::side;
 use crate::taps::tap;
+use crate::weighted::Sums;
 use crate::weighted::added;
 use crate::weighted::mean;
 use crate::weighted::nothing;
 use crate::weights::weights;
 use number::pattern::bits_of_i64;
+
+// The sums with a row of taps added, the row numbered j of n by n.
+fn line(
+    picture: &[u8],
+    width: u64,
+    height: u64,
+    channels: u64,
+    policy: u64,
+    background: Rgba,
+    column: i64,
+    row: i64,
+    n: usize,
+    j: usize,
+    weight: &[f32; 16],
+    s: Sums,
+) -> Sums
+    requires { ⌜ Picture (now picture) width height channels ⌝ }
+    requires { ⌜ (mag column ≤ 2147483649) × (mag row ≤ 2147483649) ⌝ }
+    requires { ⌜ (j < n) × (n ≤ 4) ⌝ }
+    ensures { λ r. ⌜ r ≡ lined (taps (at (now (picture .entry)) width height channels policy background) (record { column = column; row = row }) n) (now (weight .entry)) n j s ⌝ }
+{
+    let mut sums = s;
+    for i in 0..n {
+        sums = added(
+            tap(
+                picture,
+                width,
+                height,
+                channels,
+                policy,
+                background,
+                column,
+                row,
+                i,
+                j,
+            ),
+            weight[j * n + i],
+            sums,
+        );
+    }
+    sums
+}
 
 // The weighted mean of the n by n taps from a cell on.
 fn square(
@@ -36,31 +79,27 @@ fn square(
     column: i64,
     row: i64,
     n: usize,
-    w: [f32; 16],
+    weight: &[f32; 16],
 ) -> Rgba
     requires { ⌜ Picture (now picture) width height channels ⌝ }
     requires { ⌜ (mag column ≤ 2147483649) × (mag row ≤ 2147483649) ⌝ }
-    requires { ⌜ (0 < n) × (n ≤ 4) ⌝ }
-    ensures { λ r.
-        ⌜ r ≡ weighted (taps (at (now (picture .entry)) width height channels policy background) (record { column = column; row = row }) n) w (n * n) ⌝ }
+    requires { ⌜ n ≤ 4 ⌝ }
+    ensures { λ r. ⌜ r ≡ weighted (taps (at (now (picture .entry)) width height channels policy background) (record { column = column; row = row }) n) (now (weight .entry)) (n * n) ⌝ }
 {
     let mut s = nothing();
-    let count = n * n;
-    for k in 0..count {
-        s = added(
-            tap(
-                picture,
-                width,
-                height,
-                channels,
-                policy,
-                background,
-                column,
-                row,
-                n,
-                k,
-            ),
-            w[k],
+    for j in 0..n {
+        s = line(
+            picture,
+            width,
+            height,
+            channels,
+            policy,
+            background,
+            column,
+            row,
+            n,
+            j,
+            weight,
             s,
         );
     }
@@ -81,10 +120,10 @@ fn several(
 ) -> Rgba
     requires { ⌜ Picture (now picture) width height channels ⌝ }
     requires { ⌜ Reached x × Reached y ⌝ }
-    requires { ⌜ 0 < side (interpolation code) ⌝ }
     ensures { λ r.
         ⌜ r ≡ Interpolate.several (interpolation code) (at (now (picture .entry)) width height channels policy background) x y ⌝ }
 {
+    let weight = weights(code, fraction(x), fraction(y));
     square(
         picture,
         width,
@@ -95,7 +134,7 @@ fn several(
         first(code, x),
         first(code, y),
         side(code),
-        weights(code, fraction(x), fraction(y)),
+        &weight,
     )
 }
 
@@ -163,7 +202,7 @@ fn anywhere(
             background,
             column,
             row,
-            2,
+            0,
             0,
         ),
         tap(
@@ -175,7 +214,19 @@ fn anywhere(
             background,
             column,
             row,
-            2,
+            1,
+            0,
+        ),
+        tap(
+            picture,
+            width,
+            height,
+            channels,
+            policy,
+            background,
+            column,
+            row,
+            0,
             1,
         ),
         tap(
@@ -187,20 +238,8 @@ fn anywhere(
             background,
             column,
             row,
-            2,
-            2,
-        ),
-        tap(
-            picture,
-            width,
-            height,
-            channels,
-            policy,
-            background,
-            column,
-            row,
-            2,
-            3,
+            1,
+            1,
         ),
         tx,
         ty,

@@ -1,13 +1,13 @@
 // The taps of an interpolation: a square of indexes from its cell on, numbered row by row. Assumes that the bytes are a picture's,
 // and the cell that of a point whose coordinates are small.
 ghost use mathlib.Core.Path.{_≡_};
-ghost use Prim.Native.Nat.{_*_, _≤_, _<_};
+ghost use Prim.Native.Nat.{_≤_};
 ghost use lib.IntN.{pos, _+ℤ_};
 ghost use lib.Signed.{mag};
 ghost use Rattle.sampler.specs.At.{at};
 ghost use Rattle.sampler.specs.Interpolation.{interpolation};
 ghost use Rattle.sampler.specs.Pixel.{Picture};
-ghost use Rattle.sampler.specs.Taps.{side, tap};
+ghost use Rattle.sampler.specs.Taps.{side};
 use crate::at::at;
 use crate::colour::Rgba;
 
@@ -36,7 +36,7 @@ pub fn moved(v: i64, k: usize) -> i64
     v + k as i64
 }
 
-// The tap numbered k of a square of n by n.
+// The tap i columns and j rows from the cell.
 pub fn tap(
     picture: &[u8],
     width: u64,
@@ -46,13 +46,13 @@ pub fn tap(
     background: Rgba,
     column: i64,
     row: i64,
-    n: usize,
-    k: usize,
+    i: usize,
+    j: usize,
 ) -> Rgba
     requires { ⌜ Picture (now picture) width height channels ⌝ }
     requires { ⌜ (mag column ≤ 2147483649) × (mag row ≤ 2147483649) ⌝ }
-    requires { ⌜ (0 < n) × ((n ≤ 4) × (k < n * n)) ⌝ }
-    ensures { λ r. ⌜ r ≡ tap (at (now (picture .entry)) width height channels policy background) (record { column = column; row = row }) n k ⌝ }
+    requires { ⌜ (i ≤ 4) × (j ≤ 4) ⌝ }
+    ensures { λ r. ⌜ r ≡ at (now (picture .entry)) width height channels policy background (column +ℤ pos i) (row +ℤ pos j) ⌝ }
 {
     at(
         picture,
@@ -61,7 +61,7 @@ pub fn tap(
         channels,
         policy,
         background,
-        moved(column, k % n),
-        moved(row, k / n),
+        moved(column, i),
+        moved(row, j),
     )
 }

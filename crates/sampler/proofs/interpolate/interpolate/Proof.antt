@@ -1,6 +1,5 @@
 -- `sampler::interpolate::interpolate` meets its contract: an arm for each code, and the background for the others. Assumes nothing.
 use mathlib.Core.Path.{_∙_}
-use lib.Dec.{lit<}
 use Rattle.sampler.specs.Interpolate.{interpolate}
 use Rattle.sampler.specs.Interpolation.{interpolation}
 use Rattle.sampler.proofs.InterpolationCode.{background-code}
@@ -15,27 +14,22 @@ single-requires-2 : tie.Need-single-requires-2
 single-requires-2 c κs = search needs
 
 several-requires : tie.Need-several-requires
-unfolding interpolation
-several-requires c κs = (search needs, (search needs, rw (c .match .keys3) (lit< tt)))
+several-requires c κs = search needs
 
 several-requires-2 : tie.Need-several-requires-2
-unfolding interpolation
-several-requires-2 c κs = (search needs, (search needs, rw (c .match .keys4) (lit< tt)))
+several-requires-2 c κs = search needs
 
 several-requires-3 : tie.Need-several-requires-3
-unfolding interpolation
-several-requires-3 c κs = (search needs, (search needs, rw (c .match .keys5) (lit< tt)))
+several-requires-3 c κs = search needs
 
 bilinear-requires : tie.Need-bilinear-requires
 bilinear-requires c κs = search needs
 
 several-requires-4 : tie.Need-several-requires-4
-unfolding interpolation
-several-requires-4 c κs = (search needs, (search needs, rw (c .match .keys7) (lit< tt)))
+several-requires-4 c κs = search needs
 
 several-requires-5 : tie.Need-several-requires-5
-unfolding interpolation
-several-requires-5 c κs = (search needs, (search needs, rw (c .match .keys8) (lit< tt)))
+several-requires-5 c κs = search needs
 
 returns : tie.Need-returns
 unfolding interpolate interpolation

@@ -1,0 +1,102 @@
+-- Document 01's refusal table: each test by itself, then the table. A test stands on its own and may be asked out of turn; the table's order says which
+-- number a caller gets. Assumes nothing.
+use Prim.Native.Nat.{ℕ, _+_, _*_, _/_}
+use mathlib.Core.Bool.{Bool, false, not, _||_, cond}
+use mathlib.Core.List.{List, [], _∷_}
+use lib.Dec.{eqb, ltb}
+use lib.ListN.{length}
+use lib.Ieee.{binary32, ofBits, lt}
+use Rattle.exact.specs.Loop.{upTo}
+use Rattle.exact.specs.Table.{firstOf}
+use Rattle.number.specs.Bytes.{sampleAt}
+use Rattle.number.specs.Magnitude.{within}
+use Rattle.arguments.specs.Method.{present}
+use Rattle.arguments.specs.Refusal as Arguments
+use Rattle.fit.specs.Build.{build}
+use Rattle.fit.specs.declared.mapping.Fitted.{Fitted}
+use Rattle.fit.specs.declared.mapping.Mapping.{Mapping}
+use Rattle.sampler.specs.Colour.{one}
+use Rattle.sampler.specs.declared.colour.Rgba.{Rgba}
+use Rattle.window.specs.Window.{window, refusalOf, widthOf, heightOf}
+use Rattle.window.specs.declared.window.Placed.{Placed}
+use Rattle.distort.specs.Job.{Image, Given, Call, yes, colourOf}
+
+-- ---- the fit, the window and the channels of the output
+unfoldable pub fitOf : Image → Given → Fitted
+fitOf p g = build (g .method) (g .arguments) (p .width) (p .height)
+
+unfoldable pub windowOf : Image → Given → Placed
+windowOf p g =
+    window (fitOf p g .mapping .kind) (fitOf p g .mapping .coef) (p .width) (p .height) (yes (g .bestfit)) (yes (g .viewport)) (g .viewWidth) (g .viewHeight) (g .viewX) (g .viewY)
+
+-- the code of the policy `Transparent`
+abbrev pub transparent : ℕ
+transparent = 5
+
+-- four if the picture has four, the policy is `Transparent`, or the background's alpha is below 1; otherwise the picture's own
+unfoldable pub channelsOf : Image → Given → ℕ
+channelsOf p g = cond (eqb (p .channels) 4 || (eqb (g .policy) transparent || lt (colourOf (g .background) .a) one)) 4 (p .channels)
+
+-- ---- 1, size
+unfoldable pub badSide : ℕ → Bool
+badSide n = eqb n 0 || ltb 4096 n
+
+unfoldable pub badChannels : ℕ → Bool
+badChannels n = not (eqb n 1 || (eqb n 3 || eqb n 4))
+
+unfoldable pub badSize : Image → Bool
+badSize p = badSide (p .width) || (badSide (p .height) || badChannels (p .channels))
+
+-- ---- 2, stock: the picture's length is not width × height × channels samples of four bytes
+unfoldable pub badStock : Image → Bool
+badStock p = not (eqb (length (p .bytes)) (p .width * p .height * p .channels * 4))
+
+-- ---- 3, code: fourteen policies and nine interpolations, counted from 0
+unfoldable pub badCode : Given → Bool
+badCode g = not (present (g .method)) || (ltb 13 (g .policy) || ltb 8 (g .interpolation))
+
+-- ---- 5, number: one of the first n samples is not finite or above 65,536 in magnitude
+unfoldable pub large : List ℕ → ℕ → Bool
+large bytes n = upTo (λ (k : ℕ) (t : Bool). t || not (within (ofBits binary32 0x4780_0000) (sampleAt bytes k))) 0 n false
+
+unfoldable pub badNumber : Image → Given → Bool
+badNumber p g =
+    Arguments.badNumber (g .arguments)
+    || (large (p .bytes) (p .width * p .height * p .channels) || (large (g .background) 4 || large (g .matte) 4))
+
+-- ---- 8, degenerate: the fit, once the arguments are fit for it, gives no mapping
+unfoldable pub degenerate : Image → Given → Bool
+degenerate p g = eqb (fitOf p g .refusal) 8
+
+-- ---- 9, window
+unfoldable pub badWindow : Image → Given → Bool
+badWindow p g = eqb (refusalOf (windowOf p g)) 9
+
+-- ---- 10, rows: whole numbers, so that the sum does not wrap
+unfoldable pub badRows : Call → Bool
+badRows c = ltb (heightOf (windowOf (c .image) (c .given))) (c .first + c .rows)
+
+-- ---- 11, tray: the band's length is not rows × output width × output channels samples of four bytes
+unfoldable pub badTray : Call → Bool
+badTray c = not (eqb (length (c .band)) (c .rows * widthOf (windowOf (c .image) (c .given)) * channelsOf (c .image) (c .given) * 4))
+
+-- ---- the table
+abbrev pub ofJob : Image → Given → List (ℕ × Bool) → List (ℕ × Bool)
+ofJob p g more =
+    (1, badSize p)
+    ∷ ((2, badStock p)
+    ∷ ((3, badCode g)
+    ∷ ((4, Arguments.badCount (g .method) (g .arguments))
+    ∷ ((5, badNumber p g)
+    ∷ ((6, Arguments.badOrder (g .method) (g .arguments))
+    ∷ ((7, Arguments.fewPairs (g .method) (g .arguments))
+    ∷ ((8, degenerate p g)
+    ∷ ((9, badWindow p g)
+    ∷ more))))))))
+
+abbrev pub refusals : Call → List (ℕ × Bool)
+refusals c = ofJob (c .image) (c .given) ((10, badRows c) ∷ ((11, badTray c) ∷ []))
+
+-- the first number that applies, 0 where none does
+unfoldable pub refusal : Call → ℕ
+refusal c = firstOf (refusals c)

@@ -1,0 +1,2 @@
+// The distort call: the job, its refusals, the band.
+pub mod answer;

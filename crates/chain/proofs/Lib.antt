@@ -1,0 +1,1 @@
+-- The third demand, proved.

@@ -1,0 +1,106 @@
+-- The third demand, in document 01's words: the chain conditions, and what is claimed of the picture after a list of calls. Assumes nothing.
+use Prim.Native.Nat.{ℕ, _+_, _*_, _<_}
+use mathlib.Core.Path.{_≡_}
+use mathlib.Core.Logic.{_⊎_}
+use mathlib.Core.List.{List, [], _∷_}
+use lib.Dec.{T}
+use lib.IntN.{ℤ}
+use lib.ListN.{length}
+use lib.Ieee.{Float}
+use lib.Ieee.Scale.{finite}
+use Rattle.exact.specs.Fraction.{Fraction, frac, value, Within, Unit01}
+use Rattle.exact.specs.Sums.{askedF}
+use Rattle.number.specs.Bytes.{sampleAt}
+use Rattle.arguments.specs.Method as Method
+use Rattle.fit.specs.declared.mapping.Fitted.{Fitted}
+use Rattle.fit.specs.declared.mapping.Mapping.{Mapping}
+use Rattle.inverse.specs.Conditions.{Meets}
+use Rattle.sampler.specs.Colour.{one}
+use Rattle.sampler.specs.declared.colour.Rgba.{Rgba}
+use Rattle.distort.specs.Job.{Image, Given, Call, colourOf}
+use Rattle.distort.specs.Refusal.{transparent, fitOf}
+use Rattle.distort.specs.declared.answer.Answer.{Answer}
+use Rattle.chain.specs.Exact.{ExactImage, place, exactly, exactChain}
+use Rattle.chain.specs.Warps.{Warp, widthIn, heightIn, xIn, yIn, State, after}
+
+-- ---- the conditions
+-- a number from 0 to 1
+pub record InUnit (x : Float) : Type 0 where
+  pub number : T (finite x)
+  pub unit : Unit01 (value x)
+
+-- three channels, or four with alpha 1; samples from 0 to 1. Its size may be anything that its bytes are as many as.
+pub record First (p : Image) : Type 0 where
+  pub colours : (p .channels ≡ 3) ⊎ (p .channels ≡ 4)
+  pub whole : length (p .bytes) ≡ p .width * p .height * p .channels * 4
+  pub samples : (k : ℕ) → k < p .width * p .height * p .channels → InUnit (sampleAt (p .bytes) k)
+  pub alphas : p .channels ≡ 4 → (n : ℕ) → n < p .width * p .height → sampleAt (p .bytes) (n * 4 + 3) ≡ one
+
+-- a colour from 0 to 1 with alpha 1
+pub record OpaqueColour (c : Rgba) : Type 0 where
+  pub red : InUnit (c .r)
+  pub green : InUnit (c .g)
+  pub blue : InUnit (c .b)
+  pub alpha : c .a ≡ one
+
+-- the six methods whose source point is a sum or a quotient of sums
+pub data Chained : ℕ → Type 0 where
+  by-affine : Chained Method.affine
+  by-affine-projection : Chained Method.affineProjection
+  by-perspective : Chained Method.perspective
+  by-perspective-projection : Chained Method.perspectiveProjection
+  by-bilinear-reverse : Chained Method.bilinearReverse
+  by-polynomial : Chained Method.polynomial
+
+-- the code of `Bilinear`
+abbrev pub bilinear : ℕ
+bilinear = 5
+
+-- of a warp: method, interpolation, policy, background, and the sums at every output pixel, with the fit's own coefficients
+pub record Conditions (w : Warp) : Type 0 where
+  pub method : Chained (w .given .method)
+  pub interpolation : w .given .interpolation ≡ bilinear
+  pub policy : w .given .policy ≡ transparent → ⊥
+  pub background : OpaqueColour (colourOf (w .given .background))
+  pub pixels : (i j : ℕ) → i < widthIn (w .answered) → j < heightIn (w .answered)
+      → Meets (fitOf (w .chain) (w .given) .mapping .kind) (fitOf (w .chain) (w .given) .mapping .order) (fitOf (w .chain) (w .given) .mapping .coef) (askedF i (xIn (w .answered))) (askedF j (yIn (w .answered)))
+
+-- a warp is lent the whole band of the last warp before it, with the size and channels from that one's answer, or the first picture where there was none
+abbrev pub Lent : Warp → Type 0
+Lent w = w .lent ≡ w .chain
+
+-- P of each warp
+abbrev pub Each : (Warp → Type 0) → List Warp → Type 0
+Each P [] = Unit {0}
+Each P (w ∷ ws) = P w × Each P ws
+
+-- ---- the claim
+abbrev pub sampleOf : Image → ℕ → ℕ → ℕ → Float
+sampleOf p i j k = sampleAt (p .bytes) (place (p .width) (p .channels) i j k)
+
+-- the sample of channel k at column i and row j: a number from 0 to 1, and at most n/524,288 from the exact one at its place
+pub record NearSample (p : Image) (q : ExactImage) (n i j k : ℕ) : Type 0 where
+  pub is : InUnit (sampleOf p i j k)
+  pub near : Within (value (sampleOf p i j k)) (q .sample i j k) (frac n 524288)
+
+-- the size and channels of the exact picture, and so at every sample; every alpha is 1
+pub record Near (p : Image) (q : ExactImage) (n : ℕ) : Type 0 where
+  pub width : p .width ≡ q .width
+  pub height : p .height ≡ q .height
+  pub channels : p .channels ≡ q .channels
+  pub whole : length (p .bytes) ≡ p .width * p .height * p .channels * 4
+  pub samples : (i j k : ℕ) → i < p .width → j < p .height → k < p .channels → NearSample p q n i j k
+  pub alphas : p .channels ≡ 4 → (i j : ℕ) → i < p .width → j < p .height → sampleOf p i j 3 ≡ one
+
+-- ---- the demand, of every first picture and every list of calls
+abbrev pub warpsOf : Image → List Call → List Warp
+warpsOf first calls = after first calls .warps
+
+abbrev pub ThirdDemand : Type 0
+ThirdDemand =
+    (first : Image) (calls : List Call) → First first → Each Lent (warpsOf first calls) → Each Conditions (warpsOf first calls)
+    → Near (after first calls .image) (exactChain (exactly first) (warpsOf first calls)) (length (warpsOf first calls))
+
+-- with no warps both pictures are equal
+abbrev pub NoWarps : Type 0
+NoWarps = (first : Image) (calls : List Call) → warpsOf first calls ≡ [] → after first calls .image ≡ first

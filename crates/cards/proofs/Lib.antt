@@ -1,0 +1,2 @@
+-- The trial cards, proved.
+pub mod CardsRight

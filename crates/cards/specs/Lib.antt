@@ -1,0 +1,2 @@
+-- The trial cards.
+pub mod Cards

@@ -63,13 +63,3 @@ leastPairs m order =
 -- a similarity, of two pairs, has four unknowns in one system; else there are three for u and three for v
 unfoldable pub affineTerms : ℕ → ℕ
 affineTerms pairs = cond (eqb pairs 2) 4 3
-
--- the terms that the method m fits to its pairs; 0 where it fits none
-unfoldable pub terms : ℕ → ℕ → Float → ℕ
-terms m pairs order =
-    cond (eqb m affine) (affineTerms pairs)
-    (cond (eqb m perspective) 8
-    (cond (eqb m bilinearReverse) 4
-    (cond (eqb m bilinearForward) 4
-    (cond (eqb m polynomial) (termsOf order)
-    0))))

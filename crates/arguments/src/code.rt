@@ -1,8 +1,12 @@
 // What the methods state, by their codes. Assumes nothing.
 use crate::method::Affine;
+use crate::method::AffineProjection;
+use crate::method::Barrel;
+use crate::method::BarrelInverse;
 use crate::method::BilinearForward;
 use crate::method::BilinearReverse;
 use crate::method::Perspective;
+use crate::method::PerspectiveProjection;
 use crate::method::Polynomial;
 use crate::method::Shepards;
 ghost use mathlib.Core.Path.{_≡_};
@@ -22,7 +26,7 @@ pub fn is_present(code: u64) -> bool
     code < 8 || 10 < code
 }
 
-// The least pairs, 0 where the method takes none.
+// The least pairs, 0 where the method takes none, and for a code that is none.
 pub fn least_pairs(code: u64, order: f64) -> u64
     ensures { λ r. ⌜ r ≡ leastPairs code order ⌝ }
 {
@@ -42,30 +46,19 @@ pub fn least_pairs(code: u64, order: f64) -> u64
         return Polynomial::least_pairs(order);
     }
     if code == Shepards::CODE {
-        Shepards::LEAST_PAIRS
-    } else {
-        0
+        return Shepards::LEAST_PAIRS;
     }
-}
-
-// The terms that the method fits, 0 where it fits none.
-pub fn terms(code: u64, pairs: u64, order: f64) -> u64
-    ensures { λ r. ⌜ r ≡ Method.terms code pairs order ⌝ }
-{
-    if code == Affine::CODE {
-        return Affine::terms(pairs);
+    if code == AffineProjection::CODE {
+        return AffineProjection::LEAST_PAIRS;
     }
-    if code == Perspective::CODE {
-        return Perspective::TERMS;
+    if code == PerspectiveProjection::CODE {
+        return PerspectiveProjection::LEAST_PAIRS;
     }
-    if code == BilinearReverse::CODE {
-        return BilinearReverse::TERMS;
+    if code == Barrel::CODE {
+        return Barrel::LEAST_PAIRS;
     }
-    if code == BilinearForward::CODE {
-        return BilinearForward::TERMS;
-    }
-    if code == Polynomial::CODE {
-        return Polynomial::terms(order);
+    if code == BarrelInverse::CODE {
+        return BarrelInverse::LEAST_PAIRS;
     }
     0
 }

@@ -1,5 +1,5 @@
 // The methods as types: each states its code, its least pair count and its term count, which the refusals and the fit
-// read. Assumes nothing.
+// read. A method that takes no pairs, or fits no terms, states 0. Assumes nothing.
 ghost use mathlib.Core.Path.{_≡_};
 ghost use Rattle.arguments.specs.Method.{affineTerms};
 ghost use Rattle.arguments.specs.Order.{bilinearOrder, degree, termsOf, goodOrder};
@@ -25,6 +25,10 @@ impl AffineProjection {
     pub const CODE: u64 = 1;
 
     pub const ARGUMENTS: u64 = 6;
+
+    pub const LEAST_PAIRS: u64 = 0;
+
+    pub const TERMS: u64 = 0;
 }
 
 pub struct Perspective {}
@@ -43,6 +47,10 @@ impl PerspectiveProjection {
     pub const CODE: u64 = 4;
 
     pub const ARGUMENTS: u64 = 8;
+
+    pub const LEAST_PAIRS: u64 = 0;
+
+    pub const TERMS: u64 = 0;
 }
 
 pub struct BilinearReverse {}
@@ -128,9 +136,23 @@ pub struct Barrel {}
 impl Barrel {
     pub const CODE: u64 = 11;
 
-    pub const CODE_INVERSE: u64 = 12;
+    pub const LEAST_ARGUMENTS: u64 = 3;
+
+    pub const LEAST_PAIRS: u64 = 0;
+
+    pub const TERMS: u64 = 0;
+}
+
+pub struct BarrelInverse {}
+
+impl BarrelInverse {
+    pub const CODE: u64 = 12;
 
     pub const LEAST_ARGUMENTS: u64 = 3;
+
+    pub const LEAST_PAIRS: u64 = 0;
+
+    pub const TERMS: u64 = 0;
 }
 
 pub struct Shepards {}
@@ -139,4 +161,6 @@ impl Shepards {
     pub const CODE: u64 = 13;
 
     pub const LEAST_PAIRS: u64 = 1;
+
+    pub const TERMS: u64 = 0;
 }

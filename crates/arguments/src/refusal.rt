@@ -3,6 +3,7 @@
 use crate::code;
 use crate::method::AffineProjection;
 use crate::method::Barrel;
+use crate::method::BarrelInverse;
 use crate::method::PerspectiveProjection;
 use crate::method::Polynomial;
 use crate::store;
@@ -43,8 +44,8 @@ fn bad_for(method: u64, n: u64) -> bool
     if method == Barrel::CODE {
         return n < Barrel::LEAST_ARGUMENTS;
     }
-    if method == Barrel::CODE_INVERSE {
-        return n < Barrel::LEAST_ARGUMENTS;
+    if method == BarrelInverse::CODE {
+        return n < BarrelInverse::LEAST_ARGUMENTS;
     }
     if method == Polynomial::CODE {
         return n == 0 || bad_values(n - 1);

@@ -17,6 +17,7 @@ use crate::shepards::shepards;
 use arguments::method::Affine;
 use arguments::method::AffineProjection;
 use arguments::method::Barrel;
+use arguments::method::BarrelInverse;
 use arguments::method::BilinearForward;
 use arguments::method::BilinearReverse;
 use arguments::method::Perspective;
@@ -64,7 +65,7 @@ fn made(
     if method == Barrel::CODE {
         return barrel(values, count, w, h, mapping::BARREL);
     }
-    if method == Barrel::CODE_INVERSE {
+    if method == BarrelInverse::CODE {
         return barrel(values, count, w, h, mapping::BARREL_INVERSE);
     }
     shepards(values, pairs)

@@ -32,15 +32,32 @@ returns-6 c = rw (c .if6 .taken)
 
 returns-7 : tie.Need-returns-7
 unfolding leastPairs
-returns-7 c =
+returns-7 c = rw (c .if7 .taken)
+
+returns-8 : tie.Need-returns-8
+unfolding leastPairs
+returns-8 c = rw (c .if8 .taken)
+
+returns-9 : tie.Need-returns-9
+unfolding leastPairs
+returns-9 c = rw (c .if9 .taken)
+
+returns-10 : tie.Need-returns-10
+unfolding leastPairs
+returns-10 c = rw (c .if10 .taken)
+
+returns-11 : tie.Need-returns-11
+unfolding leastPairs
+returns-11 c =
+    let six = c .before .before .before .before in
     simp (
-      ne-eqb _ _ (c .before .before .before .before .before .if1 .left),
-      ne-eqb _ _ (c .before .before .before .before .if2 .left),
-      ne-eqb _ _ (c .before .before .before .if3 .left),
-      ne-eqb _ _ (c .before .before .if4 .left),
-      ne-eqb _ _ (c .before .if5 .left),
-      ne-eqb _ _ (c .if6 .left),
+      ne-eqb _ _ (six .before .before .before .before .before .if1 .left),
+      ne-eqb _ _ (six .before .before .before .before .if2 .left),
+      ne-eqb _ _ (six .before .before .before .if3 .left),
+      ne-eqb _ _ (six .before .before .if4 .left),
+      ne-eqb _ _ (six .before .if5 .left),
+      ne-eqb _ _ (six .if6 .left),
     )
 
 pub least-pairs-spec : {M : Type 1} → statement M
-least-pairs-spec = tie.close (tie.spec returns returns-2 returns-3 returns-4 (λ c κs. search needs) returns-5 returns-6 returns-7)
+least-pairs-spec = tie.close (tie.spec returns returns-2 returns-3 returns-4 (λ c κs. search needs) returns-5 returns-6 returns-7 returns-8 returns-9 returns-10 returns-11)

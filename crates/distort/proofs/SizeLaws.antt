@@ -2,6 +2,7 @@
 use mathlib.Core.Path.{_≡_}
 use mathlib.Core.Logic.{_⊎_, inl, inr, ⊎-elim}
 use mathlib.Core.Bool.{Bool, true, false, not, _||_}
+use mathlib.Core.List.{List}
 use Prim.Native.Nat.{ℕ, _*_, _≤_, _<_}
 use native.Mathlib.Nat.{mul-le-mul}
 use native.Mathlib.Omega.{arith}
@@ -9,7 +10,7 @@ use lib.Dec.{eqb, ltb, lit≤}
 use lib.ListN.{length}
 use borrow.Author.Tests.{eqb-true, eqb-false, ltb-false, not-false}
 use Rattle.arguments.proofs.CountLaws.{neither, either}
-use Rattle.sampler.specs.Pixel.{Picture}
+use Rattle.sampler.specs.Pixel.{Picture, Inside}
 use Rattle.distort.specs.Job.{Image}
 use Rattle.distort.specs.Refusal.{badSide, badChannels, badSize, badStock}
 
@@ -76,3 +77,17 @@ picture-fit p f g =
       channels-most = c .1;
       whole = stock-whole p g;
     }
+
+-- a background or a matte is a picture of one pixel
+pub one-pixel : (bytes : List ℕ) → length bytes ≡ 16 → Inside bytes 1 4 0 0
+one-pixel bytes e = record {
+  height = 1;
+  picture = record {
+    sizes = record { wide = lit≤ tt; width-most = lit≤ tt; high = lit≤ tt; height-most = lit≤ tt };
+    channels-least = lit≤ tt;
+    channels-most = lit≤ tt;
+    whole = e;
+  };
+  column = lit≤ tt;
+  row = lit≤ tt;
+}

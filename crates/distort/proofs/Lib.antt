@@ -1,1 +1,13 @@
 -- The laws of the distort call.
+pub mod AcceptedLaws
+pub mod BandLaws
+pub mod CallLaws
+pub mod DistortLaws
+pub mod JobLaws
+pub mod JoinedLaws
+pub mod LargeLaws
+pub mod PixelLaws
+pub mod PlacedLaws
+pub mod ReachLaws
+pub mod RowLaws
+pub mod SizeLaws

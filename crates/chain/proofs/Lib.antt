@@ -1,2 +1,4 @@
 -- The third demand, proved.
+pub mod Faithful
+pub mod PlaceLaws
 pub mod SameLaws

@@ -80,9 +80,9 @@ module _ (p : Image) (q : ExactImage) (n : ℕ) (F : Faithful p q n) (P : Pictur
     picture = P;
     colours = F .colours;
     samples = λ (m : ℕ) l.
-      held-unit (p .bytes) m
-      (subst (λ (k : ℕ). InUnit (sampleAt (p .bytes) k)) (placed w c m)
-      (F .near .samples (m / c % w) (m / c / w) (m % c) (column-lt w c m (P .sizes .wide)) (row-lt w c m h (P .sizes .wide) (P .channels-least) l) (channel-lt w c m (P .channels-least)) .is));
+        held-unit (p .bytes) m
+        (subst (λ (k : ℕ). InUnit (sampleAt (p .bytes) k)) (placed w c m)
+        (F .near .samples (m / c % w) (m / c / w) (m % c) (column-lt w c m (P .sizes .wide)) (row-lt w c m h (P .sizes .wide) (P .channels-least) l) (channel-lt w c m (P .channels-least)) .is));
     alphas = λ e (m : ℕ) l. alpha-at m e l;
   }
     where

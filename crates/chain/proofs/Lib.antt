@@ -1,4 +1,5 @@
 -- The third demand, proved.
 pub mod Faithful
 pub mod PlaceLaws
+pub mod PlaneLaws
 pub mod SameLaws

@@ -1,5 +1,6 @@
 -- The third demand, proved.
 pub mod Faithful
+pub mod JoinLaws
 pub mod PixelLaws
 pub mod PlaceLaws
 pub mod PlaneLaws

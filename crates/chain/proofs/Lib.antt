@@ -5,3 +5,4 @@ pub mod PixelLaws
 pub mod PlaceLaws
 pub mod PlaneLaws
 pub mod SameLaws
+pub mod WarpLaws

@@ -1,4 +1,5 @@
 -- The third demand, proved.
+pub mod Chain
 pub mod Faithful
 pub mod JoinLaws
 pub mod PixelLaws

@@ -1,5 +1,7 @@
 -- The third demand, proved.
 pub mod Chain
+pub mod Closed
+pub mod Example
 pub mod Faithful
 pub mod JoinLaws
 pub mod PixelLaws

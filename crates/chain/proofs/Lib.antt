@@ -1,9 +1,11 @@
 -- The third demand, proved.
+pub mod BoundExample
 pub mod Chain
 pub mod Closed
 pub mod Example
 pub mod Faithful
 pub mod JoinLaws
+pub mod Opened
 pub mod PixelLaws
 pub mod PlaceLaws
 pub mod PlaneLaws

@@ -1,2 +1,4 @@
 // The distort call: the job, its refusals, the band.
 pub mod answer;
+pub mod refusal;
+pub mod tray;

@@ -1,1 +1,2 @@
 -- The third demand, proved.
+pub mod ReadLaws

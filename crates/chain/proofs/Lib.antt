@@ -1,4 +1,9 @@
 -- The third demand, proved.
+pub mod Faithful
 pub mod HomeLaws
+pub mod LentLaws
+pub mod MemoryLaws
+pub mod PlaceLaws
 pub mod ReadLaws
+pub mod SameLaws
 pub mod TurnLaws

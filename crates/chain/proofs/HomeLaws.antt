@@ -1,17 +1,19 @@
 -- Where the chain's picture lies whole, its bytes are read: at first by the premise, and every event that keeps the words on sharing keeps it so. A whole warp has just
 -- written them there; any other call writes apart from them, or nothing. Assumes nothing.
-use mathlib.Core.Path.{_≡_, refl, sym, ap, _∙_, subst, subst₂}
+use mathlib.Core.Path.{_≡_, sym, _∙_, subst, subst₂}
 use mathlib.Core.Bool.{true, false}
 use mathlib.Core.List.{List, [], _∷_}
 use Prim.Native.Nat.{ℕ, _+_, _≤_, _<_}
 use native.Mathlib.Omega.{arith}
 use lib.ListN.{length}
-use Rattle.distort.specs.Call.{answer, left}
+use Rattle.distort.specs.Call.{left}
 use Rattle.distort.specs.Job.{Image, Call}
 use Rattle.chain.specs.Warps.{State, accepted, waits, warped, step}
-use Rattle.chain.specs.Memory.{Memory, read, written, Asked, callIn, Event, Calls, Writes, Lies, Home, Nowhere, At, World, homeAfter, happens, lived, size, InBuffer, Apart, KeptCall, Kept, AllKept, born}
+use Rattle.chain.specs.Memory.{Memory, read, written, Asked, callIn, Event, Calls, Writes, Lies, Home, Nowhere, At, World, homeAfter, happens, lived}
+use Rattle.chain.specs.Memory.{size, InBuffer, KeptCall, Kept, AllKept, born}
 use Rattle.chain.proofs.ReadLaws.{read-length, read-same, read-back, read-apart}
-use Rattle.chain.proofs.TurnLaws.{Makes, Turn, is-refused, is-whole, is-joined, is-alone, turn, refused-writes-nothing}
+use Rattle.chain.proofs.TurnLaws.{Makes, Turn, is-refused, is-whole, is-joined, is-alone, turn}
+use Rattle.chain.proofs.RefusedLaws.{refused-writes-nothing}
 
 -- ---- the invariant
 abbrev pub Holds : Memory → State → Home → Type 0
@@ -25,7 +27,8 @@ in-buffer : (w : World) (P : ℕ → Type 0) (from : ℕ) → w .home ≡ At fro
 in-buffer w P from e h = subst (λ (home : Home). InBuffer w home P) e h
 
 -- the same bytes there, the same picture
-still : (w : World) (m : Memory) → ((from : ℕ) → w .home ≡ At from → (a : ℕ) → from ≤ a → a < from + size w → m a ≡ w .memory a) → AtHome w → Holds m (w .chain) (w .home)
+still : (w : World) (m : Memory) → ((from : ℕ) → w .home ≡ At from → (a : ℕ) → from ≤ a → a < from + size w → m a ≡ w .memory a)
+    → AtHome w → Holds m (w .chain) (w .home)
 still w m same home from e = read-same m (w .memory) from (size w) (same from e) ∙ home from e
 
 nowhere : {from : ℕ} → Nowhere ≡ At from → ⊥
@@ -40,7 +43,8 @@ module _ (keeps-length : (c : Call) → length (left c) ≡ length (c .band)) wh
     abbrev after : Memory
     after = written (w .memory) (a .band) (left c)
 
-    made : {t : State} {to : ℕ → Home → Home} → Makes (w .chain) c t to → Holds after t (to (a .band) (w .home)) → Holds after (step (w .chain) c) (homeAfter (w .chain) c (a .band) (w .home))
+    made : {t : State} {to : ℕ → Home → Home} → Makes (w .chain) c t to → Holds after t (to (a .band) (w .home))
+        → Holds after (step (w .chain) c) (homeAfter (w .chain) c (a .band) (w .home))
     made k h = subst₂ (λ (s : State) (at : Home). Holds after s at) (sym (k .chain)) (sym (k .place (a .band) (w .home))) h
 
     -- refused: no byte is changed

@@ -1,11 +1,11 @@
 -- Every warp is lent the chain's picture: a whole one reads it where it lies whole, and bands join only where their picture has its very bytes and size. Assumes nothing.
 use mathlib.Core.Path.{_≡_, sym, ap, _∙_, subst}
-use mathlib.Core.Bool.{true, _&&_}
+use mathlib.Core.Bool.{true}
 use mathlib.Core.List.{List, [], _∷_, _++_}
 use Prim.Native.Nat.{ℕ}
 use lib.ListN.{length}
 use Rattle.distort.specs.Call.{answer, left}
-use Rattle.distort.specs.Job.{Image, Call}
+use Rattle.distort.specs.Job.{Call}
 use Rattle.chain.specs.Warps.{Warp, State, sameImage, everyRow, heightIn, group, completes, step}
 use Rattle.chain.specs.Demand.{Lent, Each}
 use Rattle.chain.specs.Memory.{read, Asked, callIn, Event, Calls, Writes, Lies, Home, World, happens, lived, LentHome, KeptCall, Kept, AllKept}

@@ -5,5 +5,6 @@ pub mod LentLaws
 pub mod MemoryLaws
 pub mod PlaceLaws
 pub mod ReadLaws
+pub mod RefusedLaws
 pub mod SameLaws
 pub mod TurnLaws

@@ -1,4 +1,5 @@
 -- The third demand, proved.
+pub mod ApartLaws
 pub mod Faithful
 pub mod HomeLaws
 pub mod LentLaws
@@ -8,3 +9,5 @@ pub mod ReadLaws
 pub mod RefusedLaws
 pub mod SameLaws
 pub mod TurnLaws
+pub mod TwoBands
+pub mod TwoBuffers

@@ -3,9 +3,9 @@
 use mathlib.Core.Path.{_≡_, refl, sym, ap, ap₂, _∙_}
 use mathlib.Core.Bool.{Bool, true, false, _&&_, cond}
 use mathlib.Core.Logic.{_⊎_, inl, inr, ⊎-elim}
-use mathlib.Core.List.{List, _∷_}
+use mathlib.Core.List.{List, _∷_, _++_}
 use Prim.Native.Nat.{ℕ, zero, suc, _+_, _-_, _≤_, _<_}
-use native.Mathlib.Nat.{add-zero, add-suc, suc-add, le-of-suc-le-suc, not-suc-le-zero}
+use native.Mathlib.Nat.{zero-add, add-zero, add-suc, suc-add, le-of-suc-le-suc, not-suc-le-zero}
 use native.Mathlib.Omega.{arith}
 use lib.Dec.{leb, ltb}
 use lib.ListN.{length, getD}
@@ -32,6 +32,12 @@ unfolding read
 read-same m p from zero h = refl
 read-same m p from (suc n) h =
     ap₂ (λ (x : ℕ) (xs : List ℕ). x ∷ xs) (h from (omega arith) (omega arith)) (read-same m p (suc from) n (λ a l u. h a (omega arith) (omega arith)))
+
+-- two reads in a row are one
+pub read-on : (m : Memory) (from n k : ℕ) → read m from (n + k) ≡ read m from n ++ read m (from + n) k
+unfolding read
+read-on m from zero k = rw (zero-add, add-zero)
+read-on m from (suc n) k = rw suc-add (ap (λ (xs : List ℕ). m from ∷ xs) (read-on m (suc from) n k ∙ rw (suc-add, add-suc)))
 
 -- ---- whether an address is among the written
 inside : (from n a : ℕ) → ((from ≤ a) × (a < from + n)) ⊎ (from ≤ a → a < from + n → ⊥)

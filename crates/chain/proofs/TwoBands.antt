@@ -1,7 +1,7 @@
 -- Events that keep the words on sharing: a warp in two bands out of one buffer, each of which the host puts where it belongs, until the picture lies whole. Of the
 -- calls only what they answer is taken as known, and that both together are the rows in order. Assumes nothing.
 use mathlib.Core.Path.{_≡_, refl, sym, ap, ap₂, _∙_, subst⁻¹}
-use mathlib.Core.Logic.{inl, inr}
+use mathlib.Core.Logic.{inr}
 use mathlib.Core.Bool.{true, false}
 use mathlib.Core.List.{List, [], _∷_, _++_}
 use Prim.Native.Nat.{ℕ, _+_, _≤_}

@@ -1,10 +1,12 @@
 -- The third demand, proved.
 pub mod ApartLaws
 pub mod Chain
+pub mod EveryList
 pub mod Faithful
 pub mod HomeLaws
 pub mod JoinLaws
 pub mod LentLaws
+pub mod MemoryCovers
 pub mod MemoryLaws
 pub mod PixelLaws
 pub mod PlaceLaws
@@ -12,6 +14,7 @@ pub mod PlaneLaws
 pub mod ReadLaws
 pub mod RefusedLaws
 pub mod SameLaws
+pub mod Scenes
 pub mod TurnLaws
 pub mod TwoBands
 pub mod TwoBuffers

@@ -5,6 +5,7 @@ pub mod EveryList
 pub mod Faithful
 pub mod HomeLaws
 pub mod JoinLaws
+pub mod LengthLaws
 pub mod LentLaws
 pub mod MemoryCovers
 pub mod MemoryLaws

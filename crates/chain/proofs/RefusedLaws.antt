@@ -11,7 +11,7 @@ use Rattle.chain.specs.Memory.{written, Asked, callIn, Event, Calls, Wor
 use Rattle.chain.proofs.ReadLaws.{write-back}
 use Rattle.chain.proofs.TurnLaws.{refused-makes}
 
-refused-left : (c : Call) → accepted c ≡ false → left c ≡ c .band
+pub refused-left : (c : Call) → accepted c ≡ false → left c ≡ c .band
 unfolding accepted left
 refused-left c e = rw e
 

@@ -1,7 +1,9 @@
 -- The third demand, proved.
 pub mod ApartLaws
 pub mod Chain
+pub mod Closed
 pub mod EveryList
+pub mod Example
 pub mod Faithful
 pub mod HomeLaws
 pub mod JoinLaws

@@ -9,59 +9,21 @@ use native.Mathlib.Omega.{arith}
 use lib.IntN.{ℤ, pos, negsuc}
 use lib.Ieee as Ieee
 use Rattle.exact.specs.Fraction.{_+F_, _*F_, _/F_, absF}
-use Rattle.exact.specs.Loop as Loop
 use Rattle.exact.specs.Sums.{askedF}
-use Rattle.exact.specs.Table as Table
 use Rattle.number.specs.Bytes as Bytes
-use Rattle.number.specs.Floor as Floor
-use Rattle.number.specs.Magnitude as Magnitude
-use Rattle.number.specs.Narrow as Narrow
-use Rattle.arguments.specs.Method as Method
-use Rattle.arguments.specs.Refusal as Arguments
-use Rattle.arguments.specs.Store as Store
-use Rattle.fit.specs.Affine as Affine
-use Rattle.fit.specs.Build as Build
-use Rattle.fit.specs.Eliminate as Eliminate
-use Rattle.fit.specs.Fit as Fit
-use Rattle.fit.specs.Invert as Invert
-use Rattle.fit.specs.Mapping as Mappings
-use Rattle.fit.specs.Monomials as Monomials
-use Rattle.fit.specs.Normal as Normal
-use Rattle.fit.specs.Orient as Orient
-use Rattle.fit.specs.Perspective as Perspective
-use Rattle.fit.specs.Polynomial as Polynomial
-use Rattle.fit.specs.Solve as Solve
 use Rattle.fit.specs.declared.mapping.Fitted.{Fitted}
 use Rattle.fit.specs.declared.mapping.Mapping.{Mapping}
 use Rattle.inverse.specs.Conditions.{Terms, Meets}
 use Rattle.inverse.specs.ExactPoint.{monomialsF, exactPoint}
-use Rattle.inverse.specs.Inverse as Inverse
-use Rattle.inverse.specs.Perspective as Perspectives
-use Rattle.inverse.specs.Point as Point
-use Rattle.inverse.specs.Polynomial as Polynomials
-use Rattle.window.specs.Span as Span
-use Rattle.window.specs.Window as Window
-use Rattle.sampler.specs.At as At
 use Rattle.sampler.specs.Colour.{one}
-use Rattle.sampler.specs.Index as Index
-use Rattle.sampler.specs.Interpolate as Interpolate
-use Rattle.sampler.specs.Interpolation as Interpolation
-use Rattle.sampler.specs.Named as Named
 use Rattle.sampler.specs.Pixel as Pixel
-use Rattle.sampler.specs.Random as Random
-use Rattle.sampler.specs.Store as Stored
-use Rattle.sampler.specs.Taps as Taps
-use Rattle.sampler.specs.Weighted as Weighted
-use Rattle.distort.specs.Band as Band
-use Rattle.distort.specs.Call.{left, answer, rowsOf, matteOf}
 use Rattle.distort.specs.Job.{Image, Given, Call, colourOf}
-use Rattle.distort.specs.Joined as Joined
-use Rattle.distort.specs.Refusal as Refusal
-use Rattle.distort.specs.Refusal.{fitOf, refusal}
+use Rattle.distort.specs.Refusal.{fitOf}
 use Rattle.distort.specs.declared.answer.Answer.the-variants.{Accepted}
 use Rattle.chain.specs.Demand.{InUnit, First, OpaqueColour, Conditions, by-affine, by-affine-projection, by-perspective-projection, by-bilinear-reverse, Lent, Each}
 use Rattle.chain.specs.Warps.{sameBytes, sameWhole, sameImage, sameGiven, alike, accepted, allRows, holds, anyHolds, everyRow, rowIn, alikeTo, rowSize, together, completes, step, run, Warp, State, after}
 use Rattle.chain.proofs.Closed.{below, below-every, leF, closed, unitly, unit, linearly, linear, termly, poly}
+use Rattle.chain.proofs.Opened.{opened}
 
 -- ---- numbers in bytes: f32 0, 1/4, 3/8, 1/2 and 1, then f64 0, 1/4, 1/2, 1 and 2
 abbrev s0 : List ℕ
@@ -113,13 +75,13 @@ by method arguments policy viewport y = record {
 }
 
 -- half a row down (Edge); as from a tilted plane (Mirror); rows taken twice as far apart (Random); half a row down again, one row up (Edge)
-abbrev shifted : Given
+abbrev pub shifted : Given
 shifted = by 1 (d1 ++ d0 ++ d0 ++ d1 ++ d0 ++ d1/2) 0 0 (pos 0)
 
-abbrev tilted : Given
+abbrev pub tilted : Given
 tilted = by 4 (d1 ++ d0 ++ d0 ++ d0 ++ d1 ++ d0 ++ d0 ++ d1/4) 7 0 (pos 0)
 
-abbrev spread : Given
+abbrev pub spread : Given
 spread = by 5 ((d0 ++ d0 ++ d0 ++ d0) ++ (d1 ++ d0 ++ d1 ++ d0) ++ (d0 ++ d2 ++ d0 ++ d1) ++ (d1 ++ d2 ++ d1 ++ d1)) 13 0 (pos 0)
 
 abbrev above : Given
@@ -136,19 +98,19 @@ high = s0 ++ s1/2 ++ s1
 abbrev deep : List ℕ
 deep = s1 ++ s1/4 ++ s0
 
-abbrev low : List ℕ
+abbrev pub low : List ℕ
 low = s1/2 ++ s3/8 ++ s1/2
 
-abbrev p0 : Image
+abbrev pub p0 : Image
 p0 = card 3 (high ++ deep)
 
-abbrev p1 : Image
+abbrev pub p1 : Image
 p1 = card 3 (high ++ low)
 
-abbrev p2 : Image
+abbrev pub p2 : Image
 p2 = card 3 ((0x25 ∷ 0x49 ∷ 0x12 ∷ 0x3d ∷ 0xb8 ∷ 0x6d ∷ 0xfb ∷ 0x3e ∷ 0x6e ∷ 0xdb ∷ 0x76 ∷ 0x3f ∷ []) ++ low)
 
-abbrev p3 : Image
+abbrev pub p3 : Image
 p3 = card 3 ((0x92 ∷ 0x24 ∷ 0x89 ∷ 0x3e ∷ 0xdc ∷ 0xb6 ∷ 0xdd ∷ 0x3e ∷ 0xb7 ∷ 0x6d ∷ 0x3b ∷ 0x3f ∷ []) ++ low)
 
 abbrev q0 : Image
@@ -158,7 +120,7 @@ abbrev q1 : Image
 q1 = card 4 (high ++ s1 ++ (high ++ s1))
 
 -- ---- the lists; a band is black before
-abbrev row : List ℕ
+abbrev pub row : List ℕ
 row = s0 ++ s0 ++ s0
 
 abbrev calls : List Call
@@ -175,19 +137,14 @@ abbrev alone : List Call
 alone = record { image = q0; given = above; first = 0; rows = 2; band = row ++ row ++ s0 ++ s0 } ∷ []
 
 -- their warps
-abbrev made : Given → Image → ℤ → Warp
+abbrev pub made : Given → Image → ℤ → Warp
 made g p y = record { given = g; answered = Accepted 1 2 (pos 0) y (p .channels) 0; lent = p; chain = p }
 
-abbrev warps : List Warp
+abbrev pub warps : List Warp
 warps = made shifted p0 (pos 0) ∷ made tilted p1 (pos 0) ∷ made spread p2 (pos 0) ∷ []
 
 abbrev one-warp : List Warp
 one-warp = made above q0 (negsuc 0) ∷ []
-
--- ---- all that a call computes with
-opened : Unit {0}
-unfolding left answer matteOf Joined.totalled Band.rowMatte Band.rowsMatte rowsOf refusal Table.firstOf Refusal.badSize Refusal.badSide Refusal.badChannels Refusal.badStock Refusal.badCode Method.present Arguments.badCount Arguments.badFor Arguments.badValues Refusal.badNumber Arguments.badNumber Loop.upTo Arguments.stillGood Arguments.goodNumber Magnitude.within Ieee.le Magnitude.abs Ieee.ofBits Bytes.numberAt Refusal.large Arguments.badOrder Arguments.fewPairs Arguments.pairsOf Method.skip Method.leastPairs Store.orderOf Refusal.degenerate Refusal.fitOf Build.build Arguments.refusal Store.valuesOf Store.heldOf Store.keep Affine.affineProjection Affine.shift Affine.affine Invert.invertAffine Invert.invert3 Mappings.solvedOr8 Mappings.mapping Refusal.badWindow Refusal.windowOf Window.window Window.joined Span.held Refusal.badRows Refusal.badTray Refusal.channelsOf Ieee.sub Ieee.mul Span.goodOffset Span.goodLength Pixel.pixelAt Pixel.widened Ieee.add Ieee.div Ieee.ofInt Ieee.toBits Ieee.lt Ieee.isNan Band.shown Band.rowBytes Band.rowsBytes Joined.joined At.at Index.within Index.clamped Index.tile Index.mirror Interpolate.interpolate Interpolation.interpolation Named.policy Named.picked Named.named Stored.narrowed Stored.putPixel Taps.taps Weighted.added Weighted.quotient Weighted.mean Weighted.weighted Inverse.inverse Point.usable Floor.floorI64 Floor.floorF64 Floor.floorℤ Floor.inDomain Floor.isZero Narrow.narrow Bytes.putNumber Perspective.perspectiveProjection Orient.orient Perspectives.perspective Eliminate.better Eliminate.takeTerm Eliminate.clearRow Eliminate.column Eliminate.step Eliminate.outcome Fit.both Monomials.push Monomials.ofDegree Monomials.monomials Monomials.putTerm Normal.addProduct Normal.addTerm Normal.normal Normal.lstsq Normal.inTurn Polynomial.orderNumber Solve.addKnown Solve.substitute Solve.answer Solve.solved Polynomials.polynomial Polynomials.terms Bytes.twosComplement Magnitude.reaching Loop.downTo Random.mix Random.folded
-opened = tt
 
 ends : after p0 calls ≡ record { image = p3; waiting = []; warps = warps }
 unfolding opened sameBytes sameWhole sameImage sameGiven alike accepted allRows holds anyHolds everyRow rowIn alikeTo rowSize together completes step run
@@ -232,7 +189,7 @@ spread-meets = two (MeetsAt p2 spread (pos 0))
     (record { terms = (poly tt, poly tt); u = closed tt; v = closed tt })
 
 -- ---- the premises
-first : First p0
+pub first : First p0
 unfolding Ieee.ofBits Bytes.numberAt below unitly leF
 first = record {
   colours = inl refl;
@@ -265,7 +222,7 @@ black = record { red = unit tt; green = unit tt; blue = unit tt; alpha = refl }
 lent : Each Lent warps
 lent = (refl, (refl, (refl, tt)))
 
-conditions : Each Conditions warps
+pub conditions : Each Conditions warps
 conditions = (
   record { method = by-affine-projection; interpolation = refl; policy = λ e. omega arith; background = black; pixels = shifted-meets },
   (

@@ -14,7 +14,7 @@ use Rattle.arguments.specs.Method.{affineProjection, perspectiveProjecti
 use Rattle.arguments.specs.Order.{goodOrder}
 use Rattle.arguments.specs.Store.{countOf, orderOf}
 use Rattle.arguments.specs.Refusal.{badValues, badFor, badCount, goodNumber, badNumber, badOrder, pairsOf, fewPairs, refusals, refusal}
-use Rattle.arguments.proofs.TableLaws.{row-failed}
+use Rattle.exact.proofs.TableLaws.{row-failed}
 use Rattle.arguments.proofs.NumberLaws.{all-good}
 use Rattle.arguments.proofs.CountLaws.{neither, values-count, pairs-after}
 

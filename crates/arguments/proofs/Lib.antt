@@ -6,5 +6,4 @@ pub mod NumberLaws
 pub mod OrderLaws
 pub mod PairLaws
 pub mod StoreLaws
-pub mod TableLaws
 pub mod Witness

@@ -1,1 +1,11 @@
 -- The laws of the distort call.
+pub mod AcceptedLaws
+pub mod BandLaws
+pub mod CallLaws
+pub mod JobLaws
+pub mod JoinedLaws
+pub mod LargeLaws
+pub mod PixelLaws
+pub mod ReachLaws
+pub mod RowLaws
+pub mod SizeLaws

@@ -3,7 +3,7 @@ use Prim.Native.Nat.{ℕ}
 use mathlib.Core.Bool.{Bool, not}
 use mathlib.Core.List.{List}
 use lib.Dec.{eqb}
-use lib.IntN.{ℤ}
+use lib.IntN.{ℤ, pos}
 use Rattle.sampler.specs.Pixel.{pixelAt}
 use Rattle.sampler.specs.declared.colour.Rgba.{Rgba}
 
@@ -13,6 +13,9 @@ pub record Image : Type 0 where
   pub width : ℕ
   pub height : ℕ
   pub channels : ℕ
+
+abbrev pub imageOf : List ℕ → ℕ → ℕ → ℕ → Image
+imageOf bytes width height channels = record { bytes = bytes; width = width; height = height; channels = channels }
 
 -- all that a call is given except picture, rows and band
 pub record Given : Type 0 where
@@ -29,12 +32,52 @@ pub record Given : Type 0 where
   pub viewX : ℤ
   pub viewY : ℤ
 
+-- where nothing is asked of the window
+abbrev pub plainly : ℕ → List ℕ → ℕ → ℕ → List ℕ → List ℕ → Given
+plainly method arguments policy interpolation background matte = record {
+  method = method;
+  arguments = arguments;
+  policy = policy;
+  interpolation = interpolation;
+  background = background;
+  matte = matte;
+  bestfit = 0;
+  viewport = 0;
+  viewWidth = 0;
+  viewHeight = 0;
+  viewX = pos 0;
+  viewY = pos 0;
+}
+
 pub record Call : Type 0 where
   pub image : Image
   pub given : Given
   pub first : ℕ
   pub rows : ℕ
   pub band : List ℕ
+
+-- from the call's parameters, in their order
+abbrev pub callOf : List ℕ → ℕ → ℕ → ℕ → ℕ → List ℕ → ℕ → ℕ → List ℕ → List ℕ → ℕ → ℕ → ℕ → ℕ → ℤ → ℤ → ℕ → ℕ → List ℕ → Call
+callOf picture width height channels method arguments policy interpolation background matte bestfit viewport view-width view-height view-x view-y first rows band = record {
+  image = imageOf picture width height channels;
+  given = record {
+    method = method;
+    arguments = arguments;
+    policy = policy;
+    interpolation = interpolation;
+    background = background;
+    matte = matte;
+    bestfit = bestfit;
+    viewport = viewport;
+    viewWidth = view-width;
+    viewHeight = view-height;
+    viewX = view-x;
+    viewY = view-y;
+  };
+  first = first;
+  rows = rows;
+  band = band;
+}
 
 -- of bestfit and viewport: 0 is no, anything else yes
 abbrev pub yes : ℕ → Bool

@@ -3,4 +3,5 @@ pub mod Band
 pub mod Call
 pub mod Job
 pub mod Joined
+pub mod Placed
 pub mod Refusal

@@ -4,7 +4,7 @@ use Prim.Native.Nat.{ℕ, _+_, _*_, _/_}
 use mathlib.Core.Bool.{Bool, false, not, _||_, cond}
 use mathlib.Core.List.{List, [], _∷_}
 use lib.Dec.{eqb, ltb}
-use lib.ListN.{length}
+use lib.ListN.{length, take}
 use lib.Ieee.{binary32, ofBits, lt}
 use Rattle.exact.specs.Loop.{upTo}
 use Rattle.exact.specs.Table.{firstOf}
@@ -34,8 +34,11 @@ abbrev pub transparent : ℕ
 transparent = 5
 
 -- four if the picture has four, the policy is `Transparent`, or the background's alpha is below 1; otherwise the picture's own
-unfoldable pub channelsOf : Image → Given → ℕ
-channelsOf p g = cond (eqb (p .channels) 4 || (eqb (g .policy) transparent || lt (colourOf (g .background) .a) one)) 4 (p .channels)
+unfoldable pub widest : ℕ → ℕ → Rgba → ℕ
+widest channels policy background = cond (eqb channels 4 || (eqb policy transparent || lt (background .a) one)) 4 channels
+
+abbrev pub channelsOf : Image → Given → ℕ
+channelsOf p g = widest (p .channels) (g .policy) (colourOf (g .background))
 
 -- ---- 1, size
 unfoldable pub badSide : ℕ → Bool
@@ -44,25 +47,24 @@ badSide n = eqb n 0 || ltb 4096 n
 unfoldable pub badChannels : ℕ → Bool
 badChannels n = not (eqb n 1 || (eqb n 3 || eqb n 4))
 
-unfoldable pub badSize : Image → Bool
-badSize p = badSide (p .width) || (badSide (p .height) || badChannels (p .channels))
+unfoldable pub badSize : ℕ → ℕ → ℕ → Bool
+badSize width height channels = badSide width || (badSide height || badChannels channels)
 
 -- ---- 2, stock: the picture's length is not width × height × channels samples of four bytes
 unfoldable pub badStock : Image → Bool
 badStock p = not (eqb (length (p .bytes)) (p .width * p .height * p .channels * 4))
 
 -- ---- 3, code: fourteen policies and nine interpolations, counted from 0
-unfoldable pub badCode : Given → Bool
-badCode g = not (present (g .method)) || (ltb 13 (g .policy) || ltb 8 (g .interpolation))
+unfoldable pub badCode : ℕ → ℕ → ℕ → Bool
+badCode method policy interpolation = not (present method) || (ltb 13 policy || ltb 8 interpolation)
 
 -- ---- 5, number: one of the first n samples is not finite or above 65,536 in magnitude
 unfoldable pub large : List ℕ → ℕ → Bool
 large bytes n = upTo (λ (k : ℕ) (t : Bool). t || not (within (ofBits binary32 0x4780_0000) (sampleAt bytes k))) 0 n false
 
-unfoldable pub badNumber : Image → Given → Bool
-badNumber p g =
-    Arguments.badNumber (g .arguments)
-    || (large (p .bytes) (p .width * p .height * p .channels) || (large (g .background) 4 || large (g .matte) 4))
+unfoldable pub badNumber : Image → List ℕ → List ℕ → List ℕ → Bool
+badNumber p arguments background matte =
+    Arguments.badNumber arguments || (large (p .bytes) (p .width * p .height * p .channels) || (large background 4 || large matte 4))
 
 -- ---- 8, degenerate: the fit, once the arguments are fit for it, gives no mapping
 unfoldable pub degenerate : Image → Given → Bool
@@ -83,11 +85,11 @@ badTray c = not (eqb (length (c .band)) (c .rows * widthOf (windowOf (c .image) 
 -- ---- the table
 abbrev pub ofJob : Image → Given → List (ℕ × Bool) → List (ℕ × Bool)
 ofJob p g more =
-    (1, badSize p)
+    (1, badSize (p .width) (p .height) (p .channels))
     ∷ ((2, badStock p)
-    ∷ ((3, badCode g)
+    ∷ ((3, badCode (g .method) (g .policy) (g .interpolation))
     ∷ ((4, Arguments.badCount (g .method) (g .arguments))
-    ∷ ((5, badNumber p g)
+    ∷ ((5, badNumber p (g .arguments) (g .background) (g .matte))
     ∷ ((6, Arguments.badOrder (g .method) (g .arguments))
     ∷ ((7, Arguments.fewPairs (g .method) (g .arguments))
     ∷ ((8, degenerate p g)
@@ -96,6 +98,14 @@ ofJob p g more =
 
 abbrev pub refusals : Call → List (ℕ × Bool)
 refusals c = ofJob (c .image) (c .given) ((10, badRows c) ∷ ((11, badTray c) ∷ []))
+
+-- of rows 1 to 7, which ask for no fit and no window
+unfoldable pub unfit : Image → Given → ℕ
+unfit p g = firstOf (take 7 (ofJob p g []))
+
+-- of rows 1 to 9, which ask nothing of rows and band
+unfoldable pub jobRefusal : Image → Given → ℕ
+jobRefusal p g = firstOf (ofJob p g [])
 
 -- the first number that applies, 0 where none does
 unfoldable pub refusal : Call → ℕ

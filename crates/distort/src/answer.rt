@@ -1,4 +1,8 @@
-// What a distort call answers. Assumes nothing.
+// What a distort call answers, and the answer in bytes. Assumes nothing.
+ghost use mathlib.Core.Path.{_≡_};
+ghost use Rattle.distort.specs.Call.{numberOf, putAnswer};
+use number::bytes::put_i64;
+use number::bytes::put_u64;
 
 // An accepted call: the output's size, where it lies, its channels, and the matte pixels of the band. A refused one: the number.
 pub enum Answer {
@@ -11,4 +15,29 @@ pub enum Answer {
         matte: u64,
     },
     Refused(u64),
+}
+
+// The number, 0 where the call is accepted, and then its values in the bytes lent; a refusal writes nothing.
+pub fn put_answer(answer: Answer, out: &mut [u8; 48]) -> u64
+    ensures { λ r. ⌜ (r ≡ numberOf answer) × (now (out .exit) ≡ putAnswer answer (now (out .entry))) ⌝ }
+{
+    match answer {
+        Answer::Accepted {
+            width,
+            height,
+            x,
+            y,
+            channels,
+            matte,
+        } => {
+            put_u64(out, 0, width);
+            put_u64(out, 8, height);
+            put_i64(out, 16, x);
+            put_i64(out, 24, y);
+            put_u64(out, 32, channels);
+            put_u64(out, 40, matte);
+            0
+        }
+        Answer::Refused(number) => number,
+    }
 }

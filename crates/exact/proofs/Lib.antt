@@ -52,6 +52,7 @@ pub mod Steps
 pub mod SumQuotient
 pub mod Sums
 pub mod Surface
+pub mod TableLaws
 pub mod Taps
 pub mod Ulp
 pub mod UnitPatterns

@@ -12,3 +12,4 @@ pub mod MappingLaws
 pub mod FitLaws
 pub mod BuildLaws
 pub mod CountLaws
+pub mod DegenerateLaws

@@ -1,8 +1,9 @@
--- The laws of the source points, a file for each subject. Other crates cite those of PointNear.
+-- The laws of the source points, a file for each subject. Other crates cite those of MarkLaws and PointNear.
 pub mod ForwardLaws
 pub mod ShepardsLaws
 pub mod PolynomialLaws
 pub mod UsableLaws
+pub mod MarkLaws
 pub mod MonomialsNear
 pub mod PointNear
 pub mod BarrelExample

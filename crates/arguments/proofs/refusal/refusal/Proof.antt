@@ -8,7 +8,7 @@ use lib.ListN.{drop}
 use Rattle.exact.specs.Table.{firstOf}
 use Rattle.arguments.specs.Refusal as Refusal
 use Rattle.arguments.specs.Refusal.{refusals}
-use Rattle.arguments.proofs.TableLaws.{row-holds, row-passed, no-rows}
+use Rattle.exact.proofs.TableLaws.{row-holds, row-passed, no-rows}
 use Rattle.arguments.proofs.refusal.refusal.Statement.{statement}
 use Rattle.arguments.proofs.refusal.refusal.Tie as tie
 

@@ -1,0 +1,12 @@
+-- `bad_channels` is its definition: the tests are the definition's. Assumes nothing.
+use mathlib.Core.Path.{refl}
+use Rattle.distort.specs.Refusal.{badChannels}
+use Rattle.distort.proofs.refusal.bad_channels.Statement.{statement}
+use Rattle.distort.proofs.refusal.bad_channels.Tie as tie
+
+returns : tie.Need-returns
+unfolding badChannels
+returns c = refl
+
+pub bad-channels-spec : {M : Type 1} → statement M
+bad-channels-spec = tie.close (tie.spec returns)

@@ -1,0 +1,41 @@
+// What a call asks of its band: the channels of the output, and refusals 10 and 11. The last assumes that its product can be counted.
+ghost use mathlib.Core.Path.{_≡_};
+ghost use mathlib.Core.Bool.{not};
+ghost use Prim.Native.Nat.{_+_, _*_, _≤_};
+ghost use lib.Dec.{eqb, ltb};
+ghost use Rattle.distort.specs.Refusal as Refusal;
+use sampler::colour::Rgba;
+
+// The code of the policy `Transparent`.
+const TRANSPARENT: u64 = 5;
+
+// Four if the picture has four, the policy is `Transparent`, or the background's alpha is below 1; otherwise the picture's own.
+pub fn widest(channels: u64, policy: u64, background: Rgba) -> u64
+    ensures { λ r. ⌜ r ≡ Refusal.widest channels policy background ⌝ }
+{
+    if channels == 4 {
+        return 4;
+    }
+    if policy == TRANSPARENT {
+        return 4;
+    }
+    if background.a < 1.0 { 4 } else { channels }
+}
+
+// 10, rows. The sum of both could wrap, so it is not made.
+pub fn bad_rows(height: u64, first_row: u64, rows: u64) -> bool
+    ensures { λ r. ⌜ r ≡ ltb height («first_row» + rows) ⌝ }
+{
+    if height < first_row {
+        return true;
+    }
+    height - first_row < rows
+}
+
+// 11, tray.
+pub fn bad_tray(length: usize, rows: u64, width: u64, channels: u64) -> bool
+    requires { ⌜ (rows ≤ 4096) × ((width ≤ 4096) × (channels ≤ 4)) ⌝ }
+    ensures { λ r. ⌜ r ≡ not (eqb length (rows * width * channels * 4)) ⌝ }
+{
+    length as u64 != rows * width * channels * 4
+}

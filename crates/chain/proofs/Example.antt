@@ -75,13 +75,13 @@ by method arguments policy viewport y = record {
 }
 
 -- half a row down (Edge); as from a tilted plane (Mirror); rows taken twice as far apart (Random); half a row down again, one row up (Edge)
-abbrev shifted : Given
+abbrev pub shifted : Given
 shifted = by 1 (d1 ++ d0 ++ d0 ++ d1 ++ d0 ++ d1/2) 0 0 (pos 0)
 
-abbrev tilted : Given
+abbrev pub tilted : Given
 tilted = by 4 (d1 ++ d0 ++ d0 ++ d0 ++ d1 ++ d0 ++ d0 ++ d1/4) 7 0 (pos 0)
 
-abbrev spread : Given
+abbrev pub spread : Given
 spread = by 5 ((d0 ++ d0 ++ d0 ++ d0) ++ (d1 ++ d0 ++ d1 ++ d0) ++ (d0 ++ d2 ++ d0 ++ d1) ++ (d1 ++ d2 ++ d1 ++ d1)) 13 0 (pos 0)
 
 abbrev above : Given
@@ -98,19 +98,19 @@ high = s0 ++ s1/2 ++ s1
 abbrev deep : List ℕ
 deep = s1 ++ s1/4 ++ s0
 
-abbrev low : List ℕ
+abbrev pub low : List ℕ
 low = s1/2 ++ s3/8 ++ s1/2
 
-abbrev p0 : Image
+abbrev pub p0 : Image
 p0 = card 3 (high ++ deep)
 
-abbrev p1 : Image
+abbrev pub p1 : Image
 p1 = card 3 (high ++ low)
 
-abbrev p2 : Image
+abbrev pub p2 : Image
 p2 = card 3 ((0x25 ∷ 0x49 ∷ 0x12 ∷ 0x3d ∷ 0xb8 ∷ 0x6d ∷ 0xfb ∷ 0x3e ∷ 0x6e ∷ 0xdb ∷ 0x76 ∷ 0x3f ∷ []) ++ low)
 
-abbrev p3 : Image
+abbrev pub p3 : Image
 p3 = card 3 ((0x92 ∷ 0x24 ∷ 0x89 ∷ 0x3e ∷ 0xdc ∷ 0xb6 ∷ 0xdd ∷ 0x3e ∷ 0xb7 ∷ 0x6d ∷ 0x3b ∷ 0x3f ∷ []) ++ low)
 
 abbrev q0 : Image
@@ -120,7 +120,7 @@ abbrev q1 : Image
 q1 = card 4 (high ++ s1 ++ (high ++ s1))
 
 -- ---- the lists; a band is black before
-abbrev row : List ℕ
+abbrev pub row : List ℕ
 row = s0 ++ s0 ++ s0
 
 abbrev calls : List Call
@@ -137,10 +137,10 @@ abbrev alone : List Call
 alone = record { image = q0; given = above; first = 0; rows = 2; band = row ++ row ++ s0 ++ s0 } ∷ []
 
 -- their warps
-abbrev made : Given → Image → ℤ → Warp
+abbrev pub made : Given → Image → ℤ → Warp
 made g p y = record { given = g; answered = Accepted 1 2 (pos 0) y (p .channels) 0; lent = p; chain = p }
 
-abbrev warps : List Warp
+abbrev pub warps : List Warp
 warps = made shifted p0 (pos 0) ∷ made tilted p1 (pos 0) ∷ made spread p2 (pos 0) ∷ []
 
 abbrev one-warp : List Warp
@@ -189,7 +189,7 @@ spread-meets = two (MeetsAt p2 spread (pos 0))
     (record { terms = (poly tt, poly tt); u = closed tt; v = closed tt })
 
 -- ---- the premises
-first : First p0
+pub first : First p0
 unfolding Ieee.ofBits Bytes.numberAt below unitly leF
 first = record {
   colours = inl refl;
@@ -222,7 +222,7 @@ black = record { red = unit tt; green = unit tt; blue = unit tt; alpha = refl }
 lent : Each Lent warps
 lent = (refl, (refl, (refl, tt)))
 
-conditions : Each Conditions warps
+pub conditions : Each Conditions warps
 conditions = (
   record { method = by-affine-projection; interpolation = refl; policy = λ e. omega arith; background = black; pixels = shifted-meets },
   (

@@ -1,13 +1,27 @@
 -- The third demand, proved.
+pub mod ApartLaws
 pub mod BoundExample
 pub mod Chain
 pub mod Closed
+pub mod EveryList
 pub mod Example
 pub mod Faithful
+pub mod HomeLaws
 pub mod JoinLaws
+pub mod LengthLaws
+pub mod LentLaws
+pub mod MemoryCovers
+pub mod MemoryExample
+pub mod MemoryLaws
 pub mod Opened
 pub mod PixelLaws
 pub mod PlaceLaws
 pub mod PlaneLaws
+pub mod ReadLaws
+pub mod RefusedLaws
 pub mod SameLaws
+pub mod Scenes
+pub mod TurnLaws
+pub mod TwoBands
+pub mod TwoBuffers
 pub mod WarpLaws

@@ -53,7 +53,8 @@ callIn m a = record {
   band = read m (a .band) (a .bandLength);
 }
 
--- a call; the host writes bytes; the host says that the chain's picture, its rows put together or copied, lies whole from an address on
+-- a call, which writes its band (the bytes of its answer are a write that follows it); the host writes bytes; the host says that the chain's picture, its rows put
+-- together or copied, lies whole from an address on
 pub data Event : Type 0 where
   Calls : Asked → Event
   Writes : ℕ → List ℕ → Event

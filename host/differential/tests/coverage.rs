@@ -54,6 +54,7 @@ fn accepted_jobs_cover_the_domain() {
     for index in 0..6_000 {
         let job = generate::job(SEED, index, &window);
         match expected::expected(r, &job).verdict {
+            Verdict::Stray(place) => panic!("{place}"),
             Verdict::Refused(number) => {
                 *seen.entry(format!("refused {number:2}")).or_default() += 1;
             }

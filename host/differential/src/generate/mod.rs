@@ -7,6 +7,7 @@ mod numbers;
 mod pairs;
 mod picture;
 mod refused;
+pub mod warps;
 mod window;
 
 use crate::codes;

@@ -5,8 +5,7 @@
 //! 50,000 jobs: piece 0. With DIHYRAVO_FULL=1 pieces 0 to 99, five million jobs; DIHYRAVO_PIECES=7..20 runs those from 7
 //! up to 20 of them. A piece has a seed of its own.
 
-mod compiled;
-
+use crate::compiled;
 use differential::answer::parting;
 use differential::generate::{self, LIGHT};
 use differential::runner::{Difference, first_parting};

@@ -30,15 +30,13 @@ pub fn stream(job: &Job) -> Random {
     Random::nth(mixed, job.band as u64)
 }
 
-/// All that the call is given. Yes is any number but 0, and the numbers of a viewport that is not given are anything.
-fn raw<'a>(r: &mut Random, job: &Job, picture: &'a [u8], arguments: &'a [u8]) -> dihyravo::Job<'a> {
-    let yes = r.pick(&[1, 2, 1 << 32, 1 << 63, u64::MAX]);
-    let any = Window {
-        width: r.bits(),
-        height: r.bits(),
-        x: r.bits() as i64,
-        y: r.bits() as i64,
-    };
+/// All that the call is given, with `yes` for yes and the window `any` for a viewport that is not given.
+fn raw<'a>(
+    job: &Job,
+    picture: &'a [u8],
+    arguments: &'a [u8],
+    (yes, any): (u64, Window),
+) -> dihyravo::Job<'a> {
     let view = job.viewport.unwrap_or(any);
     dihyravo::Job {
         picture,
@@ -84,14 +82,38 @@ impl Guarded {
     }
 }
 
-/// The answer of one call, and the band as it leaves it.
+/// The answer of one call, and the band as it leaves it. Yes is any number but 0, and a viewport that is not given may be
+/// anything.
 pub fn answer(job: &Job) -> Answer {
-    let mut random = stream(job);
+    let mut r = stream(job);
+    let yes = r.pick(&[1, 2, 1 << 32, 1 << 63, u64::MAX]);
+    let any = Window {
+        width: r.bits(),
+        height: r.bits(),
+        x: r.bits() as i64,
+        y: r.bits() as i64,
+    };
+    call(job, (yes, any))
+}
+
+/// The same with the same numbers for the same job, whatever its rows: yes is 1, a viewport that is not given is the
+/// picture's own window.
+pub fn plain(job: &Job) -> Answer {
+    let own = Window {
+        width: job.width,
+        height: job.height,
+        x: 0,
+        y: 0,
+    };
+    call(job, (1, own))
+}
+
+fn call(job: &Job, marks: (u64, Window)) -> Answer {
     let (picture, arguments) = (job.samples_bytes(), job.args_bytes());
     let (mut lent, mut read) = (Guarded::new(&picture), Guarded::new(&arguments));
     let mut band = Guarded::new(&job.fresh_band());
     let mut said = Guarded::new(&[FRESH; 48]);
-    let call = raw(&mut random, job, lent.inside(), read.inside());
+    let call = raw(job, lent.inside(), read.inside(), marks);
     let out: &mut [u8; 48] = said.inside().try_into().expect("48 bytes are lent");
     let number = distort_into(&call, band.inside(), out);
     let verdict = match number {

@@ -13,6 +13,7 @@ pub mod random;
 pub mod refusal;
 pub mod runner;
 pub mod shrink;
+pub mod stored;
 pub mod text;
 
 pub use answer::{Answer, Verdict};

@@ -5,6 +5,8 @@ use std::fmt;
 
 #[derive(Clone, Copy, Debug, PartialEq, Eq)]
 pub enum Verdict {
+    /// A byte that the call must not write is changed; where it is.
+    Stray(&'static str),
     Refused(u8),
     Accepted {
         width: u64,
@@ -37,6 +39,7 @@ impl Answer {
 impl fmt::Display for Verdict {
     fn fmt(&self, f: &mut fmt::Formatter) -> fmt::Result {
         match self {
+            Verdict::Stray(place) => write!(f, "a byte of {place} is changed"),
             Verdict::Refused(number) => write!(f, "refused {number}"),
             Verdict::Accepted {
                 width,

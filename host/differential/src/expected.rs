@@ -1,6 +1,7 @@
 //! The answer that document 01 asks for, from the reference: `DistortImage::distort`, cut to the band, with the
 //! matte in every pixel whose source point is unusable, which is outside the domain of the comparison.
 
+use crate::generate::LIGHT;
 use crate::refusal::refusal;
 use crate::{Answer, Job, Verdict, Window};
 use reference::{Call, Mapping, Output, Picture, Reference};
@@ -8,7 +9,7 @@ use reference::{Call, Mapping, Output, Picture, Reference};
 /// The largest source coordinate that is usable.
 pub const USABLE: f64 = (1u64 << 30) as f64;
 
-/// The answer to any job. A job whose window is large takes as long as the reference takes for all of it.
+/// The answer to any job.
 pub fn expected(r: Reference, job: &Job) -> Answer {
     match refusal(r, job) {
         0 => accepted(r, job),
@@ -72,48 +73,62 @@ pub fn picture(job: &Job) -> Picture<'_> {
     }
 }
 
-fn distorted(r: Reference, job: &Job, w: Window) -> Output {
+/// The reference's rows from `first` on of a window.
+fn distorted(r: Reference, job: &Job, w: Window, first: u64, rows: u64) -> Vec<f32> {
+    let whole = (first, rows) == (0, w.height);
+    let part = Window {
+        height: rows,
+        y: w.y + first as i64,
+        ..w
+    };
+    let viewport = if whole { job.viewport } else { Some(part) };
     let output = r.distort(&Call {
         method: job.method as u8,
         args: &job.args,
         bestfit: job.bestfit,
-        viewport: job
-            .viewport
-            .map(|v| (v.width as u32, v.height as u32, v.x, v.y)),
+        viewport: viewport.map(|v| (v.width as u32, v.height as u32, v.x, v.y)),
         policy: job.policy as u8,
         interpolation: job.interpolation as u8,
         background: job.background,
         undefined: job.undefined,
         picture: picture(job),
     });
-    let output = output.expect("an accepted job is distorted");
+    let output: Output = output.expect("an accepted job is distorted");
     let size = (output.width as u64, output.height as u64);
-    assert_eq!((size, output.x, output.y), ((w.width, w.height), w.x, w.y));
+    assert_eq!(size, (part.width, part.height));
+    assert_eq!((output.x, output.y), (part.x, part.y));
     assert_eq!(output.channels as u64, job.output_channels());
-    output
+    output.samples
+}
+
+/// The rows of an accepted job: cut out of the whole, or, of a window that is too large for a quick run, asked for by a
+/// viewport that is those rows. A pixel is asked at the same point there: small whole numbers are added exactly.
+fn rows(r: Reference, job: &Job, w: Window) -> Vec<f32> {
+    if job.rows == 0 {
+        return Vec::new();
+    }
+    if w.width * w.height > LIGHT {
+        return distorted(r, job, w, job.first_row, job.rows);
+    }
+    let row = (w.width * job.output_channels()) as usize;
+    let whole = distorted(r, job, w, 0, w.height);
+    whole[job.first_row as usize * row..][..job.rows as usize * row].to_vec()
 }
 
 fn accepted(r: Reference, job: &Job) -> Answer {
     let mapping = fit(r, job).expect("an accepted job has a fit");
     let w = window(job, &mapping);
-    let whole = distorted(r, job, w).samples;
     let channels = job.output_channels();
     let undefined_pixel = narrowed(job.undefined, channels);
     let mut undefined = 0;
-    let mut band = Vec::with_capacity(job.band);
-    for j in job.first_row..job.first_row + job.rows {
-        for i in 0..w.width {
-            let point = source_point(&mapping, w, i, j);
-            let start = ((j * w.width + i) * channels) as usize;
-            let made = &whole[start..start + channels as usize];
-            let good = point.is_some_and(usable);
-            undefined += u64::from(!good);
-            let pixel = if point.is_none() || good {
-                made
-            } else {
-                &undefined_pixel
-            };
-            band.extend(pixel.iter().flat_map(|x| x.to_le_bytes()));
+    let mut samples = rows(r, job, w);
+    for (k, pixel) in samples.chunks_exact_mut(channels as usize).enumerate() {
+        let (i, j) = (k as u64 % w.width, k as u64 / w.width);
+        let point = source_point(&mapping, w, i, job.first_row + j);
+        let good = point.is_some_and(usable);
+        undefined += u64::from(!good);
+        if point.is_some() && !good {
+            pixel.copy_from_slice(&undefined_pixel);
         }
     }
     let verdict = Verdict::Accepted {
@@ -124,5 +139,6 @@ fn accepted(r: Reference, job: &Job) -> Answer {
         channels,
         undefined,
     };
+    let band = samples.iter().flat_map(|x| x.to_le_bytes()).collect();
     Answer { verdict, band }
 }

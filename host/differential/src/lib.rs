@@ -1,15 +1,19 @@
 //! The differential runs: jobs made from a seed, two answers to each, the first difference as a smallest job.
 
 pub mod answer;
+pub mod chain;
 pub mod codes;
+pub mod exact;
 pub mod expected;
 pub mod generate;
 pub mod job;
+pub mod lists;
 pub mod number;
 pub mod random;
 pub mod refusal;
 pub mod runner;
 pub mod shrink;
+pub mod stored;
 pub mod text;
 
 pub use answer::{Answer, Verdict};

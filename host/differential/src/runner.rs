@@ -11,6 +11,12 @@ pub type Answering<'a> = &'a dyn Fn(&Job) -> Answer;
 /// What the output's window of a job is, as far as it is known.
 pub type Windowing<'a> = &'a dyn Fn(&Job) -> Option<Window>;
 
+/// A generator: the job of a seed and an index.
+pub type Making<'a> = &'a dyn Fn(u64, u64, Windowing) -> Job;
+
+/// Where the answers to a job part, in words; none where they are the same.
+pub type Parting<'a> = &'a dyn Fn(&Job) -> Option<String>;
+
 /// The first difference of a run.
 #[derive(Clone, Debug)]
 pub struct Difference {
@@ -30,13 +36,23 @@ pub fn first_difference(
     right: Answering,
     window: Windowing,
 ) -> Option<Difference> {
-    let differs = |job: &Job| left(job) != right(job);
+    let parts = |job: &Job| parting(&left(job), &right(job));
+    first_parting(seed, indices, &generate::job, &parts, window)
+}
+
+/// Makes the jobs of `seed` with the given indices and tells the first whose answers part, and where.
+pub fn first_parting(
+    seed: u64,
+    indices: impl IntoIterator<Item = u64>,
+    make: Making,
+    parts: Parting,
+    window: Windowing,
+) -> Option<Difference> {
     for index in indices {
-        let found = generate::job(seed, index, window);
-        if differs(&found) {
-            let smallest = shrink(&found, &differs, window);
-            let parting = parting(&left(&smallest), &right(&smallest));
-            let parting = parting.expect("a shrunk job shows the difference");
+        let found = make(seed, index, window);
+        if parts(&found).is_some() {
+            let smallest = shrink(&found, &|job| parts(job).is_some(), window);
+            let parting = parts(&smallest).expect("a shrunk job shows the difference");
             return Some(Difference {
                 seed,
                 index,

@@ -3,7 +3,7 @@
 
 use differential::generate::{self, Kind};
 use differential::refusal::before_the_fit;
-use differential::{Job, Verdict, codes, expected};
+use differential::{Job, Verdict, Window, codes, expected, refusal};
 use reference::reference_or_skip;
 use std::collections::BTreeMap;
 
@@ -54,6 +54,7 @@ fn accepted_jobs_cover_the_domain() {
     for index in 0..6_000 {
         let job = generate::job(SEED, index, &window);
         match expected::expected(r, &job).verdict {
+            Verdict::Stray(place) => panic!("{place}"),
             Verdict::Refused(number) => {
                 *seen.entry(format!("refused {number:2}")).or_default() += 1;
             }
@@ -95,6 +96,114 @@ fn accepted_jobs_cover_the_domain() {
         );
     }
     assert!(pixels > 4 * undefined, "too many pixels are undefined");
+}
+
+/// What the whole call's edges are, and how a job there has to be answered by document 01.
+#[test]
+fn calls_cover_the_edges() {
+    let r = reference_or_skip!();
+    let window = |job: &Job| expected::window_of(r, job);
+    let mut seen: BTreeMap<&str, u64> = BTreeMap::new();
+    for index in 0..20_000 {
+        let job = generate::call(SEED, index, &window);
+        let number = refusal::refusal(r, &job);
+        for (name, holds) in edges(&job, window(&job), number) {
+            *seen.entry(name).or_default() += u64::from(holds);
+        }
+    }
+    for (name, count) in &seen {
+        println!("{count:6} {name}");
+    }
+    let few: Vec<_> = seen.iter().filter(|(_, n)| **n < 5).collect();
+    assert!(few.is_empty(), "too few: {few:?}");
+}
+
+fn edges(job: &Job, w: Option<Window>, number: u8) -> Vec<(&'static str, bool)> {
+    let barrel = [codes::BARREL, codes::BARREL_INVERSE].contains(&job.method);
+    let unread = barrel && job.args.len() > 6 && number == 5;
+    let broken = |x: &f64| !x.is_finite();
+    let w = w.unwrap_or(job.own_window());
+    let accepted = number == 0;
+    let wraps = job.first_row.checked_add(job.rows).is_none();
+    let far = [-refusal::OFFSET, refusal::OFFSET];
+    let alpha = |x: f32| accepted && job.background[3] == x;
+    let one = 1.0f32;
+    let huge = [job.width, job.height, job.channels]
+        .iter()
+        .any(|n| *n >= 1 << 32);
+    let unknown = [job.method, job.policy, job.interpolation];
+    let area = w.width.saturating_mul(w.height);
+    vec![
+        (
+            "an unread argument is not finite",
+            unread && job.args[6..].iter().any(broken),
+        ),
+        (
+            "an unread argument is too large",
+            unread && job.args[6..].iter().all(|x| x.is_finite()),
+        ),
+        (
+            "more than six arguments",
+            barrel && job.args.len() > 6 && accepted,
+        ),
+        ("one pixel", accepted && job.width * job.height == 1),
+        (
+            "an offset at a limit",
+            accepted && far.contains(&w.x) && far.contains(&w.y),
+        ),
+        (
+            "a window of 4,096 by 4,096",
+            accepted && area == 1 << 24 && job.rows > 0,
+        ),
+        (
+            "a side of 4,097",
+            number == 9 && [w.width, w.height].contains(&4_097),
+        ),
+        ("a picture 4,096 wide", accepted && job.width == 4_096),
+        ("a picture 4,096 high", accepted && job.height == 4_096),
+        (
+            "a picture 4,097 wide or high",
+            number == 1 && job.width.max(job.height) == 4_097,
+        ),
+        ("no rows", accepted && job.rows == 0),
+        (
+            "no rows at the height",
+            accepted && job.first_row == w.height,
+        ),
+        ("no rows beyond the height", number == 10 && job.rows == 0),
+        ("rows that wrap", number == 10 && wraps),
+        ("an alpha just below 1", alpha(one.next_down())),
+        ("an alpha just above 1", alpha(one.next_up())),
+        ("a huge size", number == 1 && huge),
+        (
+            "a huge code",
+            number == 3 && unknown.iter().any(|n| *n >= 1 << 32),
+        ),
+        (
+            "a huge window",
+            number == 9 && w.width.max(w.height) >= 1 << 32,
+        ),
+        (
+            "a huge offset",
+            number == 9 && (w.x == i64::MAX || w.x == i64::MIN),
+        ),
+        (
+            "huge rows",
+            number == 10 && job.first_row.max(job.rows) >= 1 << 32,
+        ),
+        (
+            "a large bestfit window",
+            accepted && job.bestfit && job.viewport.is_none() && area > generate::LIGHT,
+        ),
+        (
+            "a bestfit that is given up",
+            accepted
+                && job.bestfit
+                && job.viewport.is_none()
+                && w == job.own_window()
+                && job.method == codes::AFFINE_PROJECTION,
+        ),
+    ]
 }
 
 fn things(job: &Job) -> Vec<String> {

@@ -1,6 +1,10 @@
 //! The product's static library, libdihyravo.a, under safe names. All that it does is proved in Rattle; this crate only
 //! passes slices over.
 
+mod distort;
+
+pub use distort::{Answer, Job, distort, distort_into};
+
 mod ffi {
     unsafe extern "C" {
         pub unsafe fn dihyravo_method(name: *const u8, length: usize) -> i64;

@@ -2,10 +2,12 @@
 //! at the limits of each row of the refusal table. The same seed and index give the same job everywhere.
 
 mod arguments;
+mod edges;
 mod numbers;
 mod pairs;
 mod picture;
 mod refused;
+pub mod warps;
 mod window;
 
 use crate::codes;
@@ -44,6 +46,17 @@ pub fn job(seed: u64, index: u64, window: &dyn Fn(&Job) -> Option<Window>) -> Jo
     debug_assert_eq!(crate::refusal::before_the_fit(&job), 0, "{job}");
     job
 }
+
+/// The `index`th job of the whole call under `seed`: of four, three are those of `job` and one is at an edge.
+pub fn call(seed: u64, index: u64, window: Finder) -> Job {
+    match index % 4 {
+        3 => edges::job(&mut Random::nth(seed, index), window),
+        k => job(seed, index / 4 * 3 + k, window),
+    }
+}
+
+/// What the output's window of a job is, as far as it is known.
+type Finder<'a> = &'a dyn Fn(&Job) -> Option<Window>;
 
 /// A job that no refusal before the fit applies to.
 fn any(r: &mut Random, wild: bool, window: &dyn Fn(&Job) -> Option<Window>) -> Job {

@@ -4,12 +4,10 @@
 mod after;
 mod before;
 
-use super::with_method;
+use super::{Finder, with_method};
+use crate::Job;
 use crate::codes::{self, *};
 use crate::random::Random;
-use crate::{Job, Window};
-
-type Finder<'a> = &'a dyn Fn(&Job) -> Option<Window>;
 
 /// The rows of the table.
 pub const ROWS: u64 = 11;

@@ -29,6 +29,7 @@ use Rattle.distort.specs.Refusal.{fitOf, windowOf, widest, channelsOf, d
 use Rattle.distort.proofs.AcceptedLaws.{Passed, unfit-passed, fit-8, widest-known, unfit-job, fit-job, job-call}
 use Rattle.distort.proofs.CallLaws.{done, refused-answer, placed-answer}
 use Rattle.distort.proofs.SizeLaws.{OneThreeFour, size-fit, picture-fit}
+use Rattle.distort.proofs.ViewLaws.{Viewed, view-read}
 
 above : (n : ℕ) → (n ≡ 0 → ⊥) → 0 < n
 above n h = omega arith
@@ -109,15 +110,16 @@ module _ (c : Call) where
               go Placed.Refused e =
                   refused-answer c 9 (lit≤ tt) (job-call c 9 (lit≤ tt) (window-left ∙ sym (row-holds 9 _ _ (ap (λ (p : Placed). eqb (refusalOf p) 9) e))))
 
-          pub by-window : {best viewport : Bool} {x y : ℤ} {background matte : Rgba} {channels : ℕ} {r : Answer} {out : List ℕ}
-              → best ≡ yes (c .given .bestfit) → viewport ≡ yes (c .given .viewport) → x ≡ c .given .viewX → y ≡ c .given .viewY
+          pub by-window : {best viewport : Bool} {width height : ℕ} {x y : ℤ} {background matte : Rgba} {channels : ℕ} {r : Answer} {out : List ℕ}
+              → best ≡ yes (c .given .bestfit) → viewport ≡ yes (c .given .viewport) → (viewport ≡ true → Viewed c width height x y)
               → background ≡ colourOf (c .given .background) → matte ≡ colourOf (c .given .matte) → channels ≡ widest (c .image .channels) (c .given .policy) background
-              → _≡_ {A = Answer × List ℕ} (r, out) (windowed (window (f .mapping .kind) (f .mapping .coef) (c .image .width) (c .image .height) best viewport (c .given .viewWidth) (c .given .viewHeight) x y) (record { image = c .image; policy = c .given .policy; interpolation = c .given .interpolation; background = background; matte = matte }) (f .mapping .kind) (f .mapping .order) (f .mapping .count) (f .mapping .coef) channels (c .first) (c .rows) (c .band))
+              → _≡_ {A = Answer × List ℕ} (r, out) (windowed (window (f .mapping .kind) (f .mapping .coef) (c .image .width) (c .image .height) best viewport width height x y) (record { image = c .image; policy = c .given .policy; interpolation = c .given .interpolation; background = background; matte = matte }) (f .mapping .kind) (f .mapping .order) (f .mapping .count) (f .mapping .coef) channels (c .first) (c .rows) (c .band))
               → Done r out
           unfolding windowOf
-          by-window eb ev ex ey eg em ec e =
+          by-window {best} {viewport} {width} {height} {x} {y} {background} {matte} {channels} eb ev seen eg em ec e =
               let wide = ec ∙ ap (widest (c .image .channels) (c .given .policy)) eg in
               parts
               (e
-              ∙ (λ i. windowed (window (fitted i .mapping .kind) (fitted i .mapping .coef) (c .image .width) (c .image .height) (eb i) (ev i) (c .given .viewWidth) (c .given .viewHeight) (ex i) (ey i)) (record { image = c .image; policy = c .given .policy; interpolation = c .given .interpolation; background = eg i; matte = em i }) (fitted i .mapping .kind) (fitted i .mapping .order) (fitted i .mapping .count) (fitted i .mapping .coef) (wide i) (c .first) (c .rows) (c .band))
+              ∙ ap (λ (p : Placed). windowed p (record { image = c .image; policy = c .given .policy; interpolation = c .given .interpolation; background = background; matte = matte }) (f .mapping .kind) (f .mapping .order) (f .mapping .count) (f .mapping .coef) channels (c .first) (c .rows) (c .band)) (view-read c (f .mapping .kind) (f .mapping .coef) best viewport width height x y seen)
+              ∙ (λ i. windowed (window (fitted i .mapping .kind) (fitted i .mapping .coef) (c .image .width) (c .image .height) (eb i) (ev i) (c .given .viewWidth) (c .given .viewHeight) (c .given .viewX) (c .given .viewY)) (record { image = c .image; policy = c .given .policy; interpolation = c .given .interpolation; background = eg i; matte = em i }) (fitted i .mapping .kind) (fitted i .mapping .order) (fitted i .mapping .count) (fitted i .mapping .coef) (wide i) (c .first) (c .rows) (c .band))
               ∙ at-window)

@@ -14,3 +14,4 @@ pub mod ReachLaws
 pub mod RowLaws
 pub mod SampleLaws
 pub mod SizeLaws
+pub mod ViewLaws

@@ -1,6 +1,6 @@
 -- A distort call: the picture it is lent, what it is given besides, the rows it is asked for and the band they go to. Assumes nothing.
 use Prim.Native.Nat.{ℕ}
-use mathlib.Core.Bool.{Bool, not}
+use mathlib.Core.Bool.{Bool, not, cond}
 use mathlib.Core.List.{List}
 use lib.Dec.{eqb}
 use lib.IntN.{ℤ, pos}
@@ -56,7 +56,14 @@ pub record Call : Type 0 where
   pub rows : ℕ
   pub band : List ℕ
 
--- from the call's parameters, in their order
+-- of bestfit and viewport: 0 is no, anything else yes
+abbrev pub yes : ℕ → Bool
+yes n = not (eqb n 0)
+
+abbrev pub flag : Bool → ℕ
+flag b = cond b 1 0
+
+-- from the call's parameters, in their order. A yes is 1, and where there is no viewport its numbers are none, so that jobs that are the same are given the same.
 abbrev pub callOf : List ℕ → ℕ → ℕ → ℕ → ℕ → List ℕ → ℕ → ℕ → List ℕ → List ℕ → ℕ → ℕ → ℕ → ℕ → ℤ → ℤ → ℕ → ℕ → List ℕ → Call
 callOf picture width height channels method arguments policy interpolation background matte bestfit viewport view-width view-height view-x view-y first rows band = record {
   image = imageOf picture width height channels;
@@ -67,21 +74,17 @@ callOf picture width height channels method arguments policy interpolation backg
     interpolation = interpolation;
     background = background;
     matte = matte;
-    bestfit = bestfit;
-    viewport = viewport;
-    viewWidth = view-width;
-    viewHeight = view-height;
-    viewX = view-x;
-    viewY = view-y;
+    bestfit = flag (yes bestfit);
+    viewport = flag (yes viewport);
+    viewWidth = cond (yes viewport) view-width 0;
+    viewHeight = cond (yes viewport) view-height 0;
+    viewX = cond (yes viewport) view-x (pos 0);
+    viewY = cond (yes viewport) view-y (pos 0);
   };
   first = first;
   rows = rows;
   band = band;
 }
-
--- of bestfit and viewport: 0 is no, anything else yes
-abbrev pub yes : ℕ → Bool
-yes n = not (eqb n 0)
 
 -- background and matte are four f32 in 16 bytes
 abbrev pub colourOf : List ℕ → Rgba

@@ -1,4 +1,5 @@
 -- `distort` meets its contract, stage by stage: the tests that need no fit, the fit, and the window with what is worked in it. Assumes nothing.
+use mathlib.Core.Path.{refl}
 use mir.Syntax.{w64}
 use mir.ValLaws.{toZ-ofZ}
 use borrow.Author.Needs.{needs}
@@ -6,6 +7,7 @@ use denote.Ref.{now}
 use Rattle.distort.specs.Job.{Call, callOf}
 use Rattle.distort.proofs.DistortLaws.{by-tests, by-fit, by-window, picture-known, channels-known}
 use Rattle.distort.proofs.SizeLaws.{one-pixel}
+use Rattle.distort.proofs.ViewLaws.{yes-flag, read-if}
 use Rattle.distort.proofs.call.distort.Statement.{statement}
 use Rattle.distort.proofs.call.distort.Tie as tie
 
@@ -30,7 +32,7 @@ windowed-requires c κs =
 returns-3 : tie.Need-returns-3
 returns-3 c =
     let s = c .before .before .before .before .before .before .before .before .before .before .before .before .before .before .before .before .before .before .before .before .before in
-    by-window (made s) (c .before .before .before .before .before .before .before .before .before .before .before .before .before .before .before .before .before .unfit .ensures) (c .before .before .before .before .before .before .before .before .before .before .before .before .before .before .before .before .if1 .left) (c .before .before .before .before .before .before .before .before .before .before .before .before .before .before .before .build .ensures) (c .before .before .before .before .before .before .before .before .before .before .before .before .before .before .if2 .left) (c .before .before .before .before .before .before .yes .ensures) (c .before .before .before .before .before .yes2 .ensures) (toZ-ofZ w64 (s .args .view-x) (s .fits .view-x)) (toZ-ofZ w64 (s .args .view-y) (s .fits .view-y)) (c .before .before .before .before .before .before .before .before .before .before .pixel .ensures) (c .before .before .before .before .before .before .before .before .pixel2 .ensures) (c .before .before .before .before .widest .ensures)
+    by-window (made s) (c .before .before .before .before .before .before .before .before .before .before .before .before .before .before .before .before .before .unfit .ensures) (c .before .before .before .before .before .before .before .before .before .before .before .before .before .before .before .before .if1 .left) (c .before .before .before .before .before .before .before .before .before .before .before .before .before .before .before .build .ensures) (c .before .before .before .before .before .before .before .before .before .before .before .before .before .before .if2 .left) (yes-flag (s .args .bestfit) (c .before .before .before .before .before .before .yes .ensures)) (yes-flag (s .args .viewport) (c .before .before .before .before .before .yes2 .ensures)) (λ h. let v = c .before .before .before .before .before .yes2 .ensures in record { width = read-if v h refl; height = read-if v h refl; x = read-if v h (toZ-ofZ w64 (s .args .view-x) (s .fits .view-x)); y = read-if v h (toZ-ofZ w64 (s .args .view-y) (s .fits .view-y)) }) (c .before .before .before .before .before .before .before .before .before .before .pixel .ensures) (c .before .before .before .before .before .before .before .before .pixel2 .ensures) (c .before .before .before .before .widest .ensures)
     (c .before .before .windowed .ensures)
 
 pub distort-spec : {M : Type 1} → statement M

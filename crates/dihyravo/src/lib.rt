@@ -1,5 +1,7 @@
 // The product's static library: each call here is exported, and is thin over a crate that does the work. For every argument; a slice
 // comes as a pointer and a length.
+pub mod call;
+
 use names::Named;
 ghost use mathlib.Core.Path.{_≡_};
 ghost use Prim.Native.Nat.{_^_};

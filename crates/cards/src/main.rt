@@ -1,0 +1,193 @@
+// Runs trial cards through the distort call and prints how many came out right: the limits of refusals 1, 4 and 5 on both sides, and those cards of the proved
+// table that are calls. Each asks for no rows of a grey picture of zeros, under `Edge` and `Nearest`.
+ghost use mathlib.Core.Path.{_≡_};
+ghost use mathlib.Core.List.{[]};
+ghost use lib.ListN.{take};
+ghost use Rattle.distort.specs.Call.{answer, numberOf, putAnswer};
+ghost use Rattle.distort.specs.Job.{callOf};
+use distort::answer::put_answer;
+use distort::call::distort;
+use libc::STDOUT_FILENO;
+use number::bytes::put_u64;
+use number::bytes::u64_at;
+
+const AFFINE_PROJECTION: u64 = 1;
+
+const POLYNOMIAL: u64 = 7;
+
+const SHEPARDS: u64 = 13;
+
+const ONE: u64 = 0x3ff0_0000_0000_0000;
+
+// 0, 0, 0, 1: opaque black.
+const BLACK: [u8; 16] = [0, 0, 0, 0, 0, 0, 0, 0, 0, 0, 0, 0, 0, 0, 128, 63];
+
+// What the call answers: its number, and the answer's bytes.
+fn ask(
+    picture: &[u8],
+    width: u64,
+    height: u64,
+    method: u64,
+    arguments: &[u8],
+    bestfit: u64,
+    out: &mut [u8; 48],
+) -> u64 {
+    let mut band = [0u8; 4];
+    let answered = distort(
+        picture,
+        width,
+        height,
+        1,
+        method,
+        arguments,
+        0,
+        1,
+        &BLACK,
+        &BLACK,
+        bestfit,
+        0,
+        0,
+        0,
+        0,
+        0,
+        0,
+        0,
+        &mut band[..0],
+    );
+    put_answer(answered, out)
+}
+
+// The arguments 1, 0, 0, 1, 0, last by their bits, into the first 48 bytes.
+fn projection(last: u64) -> [u8; 48] {
+    let mut bytes = [0u8; 48];
+    put_u64(&mut bytes, 0, ONE);
+    put_u64(&mut bytes, 24, ONE);
+    put_u64(&mut bytes, 40, last);
+    bytes
+}
+
+// 1: width 4,096 passes and 4,097 does not.
+fn size_card(width: u64, number: u64) -> bool {
+    let picture = [0u8; 16388];
+    let mut out = [0u8; 48];
+    let arguments = projection(0);
+    if width > 4097 {
+        return false;
+    }
+    ask(
+        &picture[..4 * width as usize],
+        width,
+        1,
+        AFFINE_PROJECTION,
+        &arguments,
+        0,
+        &mut out,
+    ) == number
+}
+
+// 5: the argument 1,048,576 passes, the next f64 does not.
+fn number_card(bits: u64, number: u64) -> bool {
+    let picture = [0u8; 4];
+    let mut out = [0u8; 48];
+    let arguments = projection(bits);
+    ask(
+        &picture,
+        1,
+        1,
+        AFFINE_PROJECTION,
+        &arguments,
+        0,
+        &mut out,
+    ) == number
+}
+
+// 4: 64 pairs pass, 65 do not.
+fn pairs_card(pairs: usize, number: u64) -> bool {
+    let picture = [0u8; 4];
+    let mut out = [0u8; 48];
+    let arguments = [0u8; 2080];
+    if pairs > 65 {
+        return false;
+    }
+    ask(
+        &picture,
+        1,
+        1,
+        SHEPARDS,
+        &arguments[..32 * pairs],
+        0,
+        &mut out,
+    ) == number
+}
+
+// 8: `AffineProjection` 1, 2, 2, 4, 0, 0.
+fn singular_card() -> bool {
+    let picture = [0u8; 4];
+    let mut out = [0u8; 48];
+    let mut arguments = [0u8; 48];
+    put_u64(&mut arguments, 0, ONE);
+    put_u64(&mut arguments, 8, 0x4000_0000_0000_0000);
+    put_u64(&mut arguments, 16, 0x4000_0000_0000_0000);
+    put_u64(&mut arguments, 24, 0x4010_0000_0000_0000);
+    ask(
+        &picture,
+        1,
+        1,
+        AFFINE_PROJECTION,
+        &arguments,
+        0,
+        &mut out,
+    ) == 8
+}
+
+// 7: order 2.5 with nine pairs.
+fn order_card() -> bool {
+    let picture = [0u8; 4];
+    let mut out = [0u8; 48];
+    let mut arguments = [0u8; 296];
+    put_u64(&mut arguments, 0, 0x4004_0000_0000_0000);
+    ask(&picture, 1, 1, POLYNOMIAL, &arguments, 0, &mut out) == 7
+}
+
+// The identity's bestfit on 4 by 3: 6 by 5 at -1, -1.
+fn bestfit_card() -> bool {
+    let picture = [0u8; 48];
+    let mut out = [0u8; 48];
+    let arguments = projection(0);
+    if ask(
+        &picture,
+        4,
+        3,
+        AFFINE_PROJECTION,
+        &arguments,
+        1,
+        &mut out,
+    ) != 0 {
+        return false;
+    }
+    if u64_at(&out, 0) != 6 {
+        return false;
+    }
+    if u64_at(&out, 8) != 5 {
+        return false;
+    }
+    if u64_at(&out, 16) != 18446744073709551615 {
+        return false;
+    }
+    u64_at(&out, 24) == 18446744073709551615
+}
+
+fn right(held: bool) -> u64 {
+    if held { 1 } else { 0 }
+}
+
+fn main() {
+    let limits = right(size_card(4096, 0)) + right(size_card(4097, 1)) + right(number_card(0x4130_0000_0000_0000, 0)) + right(number_card(0x4130_0000_0000_0001, 5)) + right(pairs_card(64, 0)) + right(pairs_card(65, 4));
+    let others = right(singular_card()) + right(order_card()) + right(bestfit_card());
+    let passed = limits + others;
+    io::write_all(STDOUT_FILENO, b"cards: ");
+    io::print_decimal(STDOUT_FILENO, passed);
+    io::write_all(STDOUT_FILENO, b" passed, ");
+    io::print_decimal(STDOUT_FILENO, 9 - passed);
+    io::write_all(STDOUT_FILENO, b" failed\n");
+}

@@ -1,0 +1,62 @@
+// The distort call over bytes. For every argument: nothing is asked of a caller. Picture and arguments stay as they are, since they are lent shared.
+ghost use mathlib.Core.Path.{_≡_};
+ghost use Rattle.distort.specs.Call as Distort;
+ghost use Rattle.distort.specs.Job.{callOf};
+use distort::answer::put_answer;
+use distort::call::distort;
+
+// 0 where the call is accepted, else the refusal's number. Of bestfit and viewport 0 is no, anything else yes. On 0 the answer holds width and height, x and
+// y, the output's channels and the band's matte pixels; a refusal changes no byte of band or answer.
+#[no_mangle]
+pub extern "C" fn dihyravo_distort(
+    picture: &[u8],
+    width: u64,
+    height: u64,
+    channels: u64,
+    method: u64,
+    arguments: &[u8],
+    policy: u64,
+    interpolation: u64,
+    background: &[u8; 16],
+    matte: &[u8; 16],
+    bestfit: u64,
+    viewport: u64,
+    view_width: u64,
+    view_height: u64,
+    view_x: i64,
+    view_y: i64,
+    first_row: u64,
+    rows: u64,
+    band: &mut [u8],
+    answer: &mut [u8; 48],
+) -> u64
+    ensures { λ r.
+        ⌜ r ≡ Distort.numberOf (Distort.answer (callOf (now (picture .entry)) width height channels method (now (arguments .entry)) policy interpolation (now (background .entry)) (now (matte .entry)) bestfit viewport «view_width» «view_height» «view_x» «view_y» «first_row» rows (now (band .entry)))) ⌝ }
+    ensures { λ r.
+        ⌜ now (band .exit) ≡ Distort.left (callOf (now (picture .entry)) width height channels method (now (arguments .entry)) policy interpolation (now (background .entry)) (now (matte .entry)) bestfit viewport «view_width» «view_height» «view_x» «view_y» «first_row» rows (now (band .entry))) ⌝ }
+    ensures { λ r.
+        ⌜ now (answer .exit) ≡ Distort.putAnswer (Distort.answer (callOf (now (picture .entry)) width height channels method (now (arguments .entry)) policy interpolation (now (background .entry)) (now (matte .entry)) bestfit viewport «view_width» «view_height» «view_x» «view_y» «first_row» rows (now (band .entry)))) (now (answer .entry)) ⌝ }
+{
+    let answered = distort(
+        picture,
+        width,
+        height,
+        channels,
+        method,
+        arguments,
+        policy,
+        interpolation,
+        background,
+        matte,
+        bestfit,
+        viewport,
+        view_width,
+        view_height,
+        view_x,
+        view_y,
+        first_row,
+        rows,
+        band,
+    );
+    put_answer(answered, answer)
+}

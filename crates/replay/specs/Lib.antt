@@ -1,0 +1,2 @@
+-- What a replay compares.
+pub mod Same

@@ -3,7 +3,7 @@ ghost use mathlib.Core.Path.{_≡_};
 ghost use lib.Ieee.{binary32, binary64, ofBits, toBits};
 ghost use Rattle.number.specs.Floor.{floorI64};
 ghost use Rattle.number.specs.Narrow as Narrow;
-ghost use Rattle.number.specs.Root as Root;
+ghost use Rattle.root.specs.Root as Root;
 ghost use Rattle.number.specs.Power.{power};
 ghost use Rattle.number.specs.Wrapping.{wrapped};
 use number::pattern::bits_of_f32;
@@ -29,7 +29,7 @@ pub extern "C" fn probe_narrow(x: u64) -> u32
 pub extern "C" fn probe_root(x: u64) -> u64
     ensures { λ r. ⌜ r ≡ toBits binary64 (Root.root (ofBits binary64 x)) ⌝ }
 {
-    bits_of_f64(number::root::root(f64_of_bits(x)))
+    bits_of_f64(root::root::root(f64_of_bits(x)))
 }
 
 // An exponent above 5 counts as 5.

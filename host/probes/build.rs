@@ -1,7 +1,9 @@
-//! Links libprobes.a, from the folder DIHYRAVO_PROBES or from target/staticlib at the project's root.
+//! Links the archives of the probes, from the folder DIHYRAVO_PROBES or from target/staticlib at the project's root.
 
 use std::env;
 use std::path::PathBuf;
+
+const ARCHIVES: [&str; 3] = ["number_probes", "point_probes", "probes"];
 
 fn main() {
     println!("cargo::rerun-if-env-changed=DIHYRAVO_PROBES");
@@ -12,14 +14,16 @@ fn main() {
             PathBuf::from(here).join("../../target/staticlib")
         }
     };
-    let archive = folder.join("libprobes.a");
-    println!("cargo::rerun-if-changed={}", archive.display());
-    if !archive.is_file() {
-        println!(
-            "cargo::error=libprobes.a is not in target/staticlib: run `make` at the project's root first"
-        );
-        return;
-    }
     println!("cargo::rustc-link-search=native={}", folder.display());
-    println!("cargo::rustc-link-lib=static=probes");
+    for name in ARCHIVES {
+        let archive = folder.join(format!("lib{name}.a"));
+        println!("cargo::rerun-if-changed={}", archive.display());
+        if !archive.is_file() {
+            println!(
+                "cargo::error=lib{name}.a is not in target/staticlib: run `make` at the project's root first"
+            );
+            return;
+        }
+        println!("cargo::rustc-link-lib=static={name}");
+    }
 }

@@ -13,12 +13,12 @@ use lib.Ieee.{Float}
 use lib.ListN.{take}
 use Rattle.fit.specs.declared.mapping.Mapping.{Mapping}
 use Rattle.fit.specs.declared.mapping.Fitted.{Fitted}
-use Rattle.fit.specs.declared.solve.Solution.{Solution}
+use Rattle.solve.specs.declared.solve.Solution.{Solution}
 use Rattle.fit.specs.Mapping.{mapping, fitted, refused, solvedOr8}
 use Rattle.fit.specs.Fit.{both}
-use Rattle.fit.specs.Matrix.{Vector, System}
-use Rattle.fit.specs.Normal.{addRow, normal, inTurn}
-use Rattle.fit.proofs.NormalLaws.{normal-next, normal-next-two}
+use Rattle.solve.specs.Matrix.{Vector, System}
+use Rattle.solve.specs.Normal.{addRow, normal, inTurn}
+use Rattle.solve.proofs.NormalLaws.{normal-next, normal-next-two}
 
 same-row : {row r : Vector} {y z : Float} (n : ℕ) {s t : System} → row ≡ r → y ≡ z → s ≡ t → addRow row y n s ≡ addRow r z n t
 same-row n e f h i = addRow (e i) (f i) n (h i)

@@ -1,10 +1,6 @@
 -- The laws of the fit's definitions, each file under its subject.
 pub mod LoopLaws
-pub mod EliminateLaws
-pub mod SolveLaws
-pub mod NormalLaws
-pub mod ShapeLaws
-pub mod InvertLaws
+pub mod OrientLaws
 pub mod PaddedLaws
 pub mod MonomialsLaws
 pub mod TermsLaws

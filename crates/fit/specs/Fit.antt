@@ -8,10 +8,10 @@ use Rattle.fit.specs.declared.mapping.Fitted.{Fitted}
 use Rattle.fit.specs.declared.rows.Side.{Side}
 use Rattle.fit.specs.declared.rows.Terms.{Terms}
 use Rattle.fit.specs.declared.rows.Twin.{Twin}
-use Rattle.fit.specs.declared.solve.Solution.{Solution}
+use Rattle.solve.specs.declared.solve.Solution.{Solution}
 use Rattle.fit.specs.Mapping.{mapping, solvedOr8}
-use Rattle.fit.specs.Matrix.{Vector}
-use Rattle.fit.specs.Normal.{lstsq, inTurn}
+use Rattle.solve.specs.Matrix.{Vector}
+use Rattle.solve.specs.Normal.{lstsq, inTurn}
 use Rattle.fit.specs.Pairs.{pairAt}
 use Rattle.fit.specs.Rows.{rowOf, sideOf, firstRow, secondRow}
 

@@ -1,9 +1,5 @@
 -- The definitions of the fit.
 pub mod Matrix
-pub mod Eliminate
-pub mod Solve
-pub mod Normal
-pub mod Invert
 pub mod Orient
 pub mod Padded
 pub mod Monomials

@@ -2,7 +2,6 @@
 ghost use mathlib.Core.Path.{_≡_};
 ghost use Prim.Native.Nat.{_*_, _≤_};
 ghost use Rattle.fit.specs.Affine as Maker;
-use crate::invert::invert_affine;
 use crate::lstsq::fit_both;
 use crate::lstsq::fit_twin;
 use crate::mapping;
@@ -12,6 +11,7 @@ use crate::rows::Side;
 use crate::rows::Terms;
 use crate::rows::Twin;
 use arguments::method::Affine;
+use solve::invert::invert_affine;
 
 // The arguments are a forward map, column by column.
 pub fn affine_projection(values: &[f64; 257]) -> Fitted

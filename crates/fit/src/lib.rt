@@ -2,16 +2,12 @@
 pub mod affine;
 pub mod barrel;
 pub mod build;
-pub mod eliminate;
-pub mod invert;
 pub mod lstsq;
 pub mod mapping;
 pub mod monomials;
-pub mod normal;
 pub mod orient;
 pub mod pairs;
 pub mod perspective;
 pub mod polynomial;
 pub mod rows;
 pub mod shepards;
-pub mod solve;

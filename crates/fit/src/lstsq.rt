@@ -6,14 +6,14 @@ ghost use Rattle.fit.specs.Fit.{fitOne, fitTwin};
 ghost use Rattle.fit.specs.Fit as Fit;
 use crate::mapping;
 use crate::mapping::Fitted;
-use crate::normal::add_row;
 use crate::pairs::pair_at;
 use crate::rows;
 use crate::rows::Side;
 use crate::rows::Terms;
 use crate::rows::Twin;
-use crate::solve::Solution;
-use crate::solve::solve;
+use solve::normal::add_row;
+use solve::solve::Solution;
+use solve::solve::solve;
 
 pub fn fit_one(
     values: &[f64; 257],

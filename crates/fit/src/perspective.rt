@@ -3,7 +3,6 @@ ghost use mathlib.Core.Path.{_≡_};
 ghost use Prim.Native.Nat.{_*_, _≤_};
 ghost use Rattle.fit.specs.Perspective.{mean, projected};
 ghost use Rattle.fit.specs.Perspective as Maker;
-use crate::invert::invert3;
 use crate::lstsq::fit_twin;
 use crate::mapping;
 use crate::mapping::Fitted;
@@ -13,6 +12,7 @@ use crate::rows::Side;
 use crate::rows::Twin;
 use crate::rows::side_of;
 use arguments::method::Perspective;
+use solve::invert::invert3;
 
 // Where row k of a homography's numerators takes (u, v).
 fn projected(m: &[f64; 9], k: usize, u: f64, v: f64) -> f64

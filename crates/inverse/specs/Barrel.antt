@@ -5,8 +5,8 @@ use lib.Ieee.{Float, binary64, ofBits, lt}
 use Rattle.exact.specs.Double.{_⊕_, _⊖_, _⊗_, _⊘_}
 use Rattle.number.specs.Magnitude.{abs}
 use Rattle.number.specs.Power.{one}
-use Rattle.number.specs.Root.{root}
-use Rattle.fit.specs.Matrix.{Vector, at}
+use Rattle.root.specs.Root.{root}
+use Rattle.solve.specs.Matrix.{Vector, at}
 use Rattle.inverse.specs.declared.point.Point.{Point}
 use Rattle.inverse.specs.Point.{point, none}
 

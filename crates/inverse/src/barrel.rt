@@ -5,7 +5,7 @@ use crate::point::Point;
 use crate::usable::none;
 use crate::usable::point;
 use number::magnitude::abs;
-use number::root::root;
+use root::root::root;
 
 fn factor(c: &[f64; 256], dx: f64, dy: f64) -> f64
     ensures { λ r. ⌜ r ≡ Barrel.factor (now (c .entry)) dx dy ⌝ }

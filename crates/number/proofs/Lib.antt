@@ -1,12 +1,4 @@
 -- The laws of the number tools, a file for each subject. Other crates cite the `..Laws`.
-mod RootCases
-mod RootDigits
-mod RootNear
-mod RootNumbers
-mod RootPositive
-mod RootScale
-mod RootSettle
-mod RootValue
 pub mod BytesLaws
 pub mod BytesParts
 pub mod FloatBytes
@@ -21,5 +13,3 @@ pub mod NarrowBits
 pub mod NarrowLaws
 pub mod NarrowLow
 pub mod NarrowNormal
-pub mod RootLaws
-pub mod RootWhole

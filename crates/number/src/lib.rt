@@ -6,5 +6,4 @@ pub mod magnitude;
 pub mod narrow;
 pub mod pattern;
 pub mod power;
-pub mod root;
 pub mod wrapping;

@@ -9,7 +9,7 @@ use lib.Dec.{T, eqb, ltb, lit≤}
 use lib.ListN.{length}
 use lib.Ieee.{binary64, ofBits}
 use borrow.Author.Tests.{eqb-true, eqb-false, ltb-false, not-false}
-use Rattle.probes.specs.Fitted.{wrongSize}
+use Rattle.number_probes.specs.Size.{wrongSize}
 use Rattle.probes.specs.Sampled.{wrongChannels, wrongPicture, wrongCodes, large, beyond, outside}
 use Rattle.sampler.specs.Cell.{reach, Reached}
 use Rattle.sampler.specs.Pixel.{Picture, Inside}

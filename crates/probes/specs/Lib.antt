@@ -1,6 +1,2 @@
--- What the probes answer, where it is more than a leaf's own definition.
-pub mod Fitted
-pub mod Placed
-pub mod Pointed
+-- What the probes answer.
 pub mod Sampled
-pub mod Sized

@@ -8,7 +8,7 @@ use lib.Ieee.{Float, binary32, binary64, ofBits, le}
 use Rattle.exact.specs.Loop.{upTo}
 use Rattle.number.specs.Bytes.{sampleAt, putF32}
 use Rattle.number.specs.Magnitude.{within}
-use Rattle.probes.specs.Fitted.{wrongSize}
+use Rattle.number_probes.specs.Size.{wrongSize}
 use Rattle.sampler.specs.Cell.{reach}
 use Rattle.sampler.specs.Colour.{zero, half, one}
 use Rattle.sampler.specs.Cubic.{cubicWeights}

@@ -6,9 +6,9 @@ use crate::corners::affine_edges;
 use crate::corners::any_lost;
 use crate::corners::perspective_edges;
 use crate::edges::Edges;
-use fit::invert::invert_affine;
-use fit::invert::invert3;
 use fit::mapping;
+use solve::invert::invert_affine;
+use solve::invert::invert3;
 
 pub enum Found {
     Box(Edges),

@@ -171,3 +171,40 @@ fn source_points() {
         );
     }
 }
+
+/// Many points by one fit are the points one by one; lengths that do not fit are refused by 12, and nothing is written.
+#[test]
+fn many_points() {
+    for index in 0..2_000 {
+        let job = generate::job(SEED + 2, index, &|_| None);
+        let mut random = Random::nth(SEED + 3, index);
+        let asked: Vec<_> = SORTS.iter().map(|sort| sort(&mut random, &job)).collect();
+        let points: Vec<u8> = asked
+            .iter()
+            .flat_map(|(x, y)| [x.to_le_bytes(), y.to_le_bytes()].concat())
+            .collect();
+        let args = job.args_bytes();
+        for (from, to) in [(0, 0), (1, 0), (0, 1), (8, 0), (0, 24)] {
+            let mut out = vec![probes::UNTOUCHED; 24 * asked.len() - to];
+            let lent = &points[..points.len() - from];
+            let answer = probes::points(job.method, &args, job.width, job.height, lent, &mut out);
+            let mut expected = vec![probes::UNTOUCHED; 24 * asked.len() - to];
+            let ones: Result<Vec<_>, u64> = asked
+                .iter()
+                .map(|at| probes::inverse(job.method, &args, job.width, job.height, *at))
+                .collect();
+            let number = match ones {
+                Err(number) => number,
+                Ok(_) if from + to > 0 => 12,
+                Ok(ones) => {
+                    let parts = ones
+                        .iter()
+                        .map(|p| [p.u, p.v, f64::from_bits(p.usable.into())]);
+                    expected = parts.flatten().flat_map(f64::to_le_bytes).collect();
+                    0
+                }
+            };
+            assert_eq!((answer, out), (number, expected), "job {index}: {job}");
+        }
+    }
+}

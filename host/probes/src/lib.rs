@@ -1,4 +1,4 @@
-//! Safe names for the functions of libprobes.a: single leaves of the product, handed out for comparison. Floats go
+//! Safe names for the functions of the archives of probes: single leaves of the product, handed out for comparison. Floats go
 //! in and come out as their bits; a NaN that comes out is 0x7fc00000 or 0x7ff8000000000000.
 
 mod ffi {
@@ -39,6 +39,17 @@ mod ffi {
             x: u64,
             y: u64,
             out: *mut [u8; 24],
+        ) -> u64;
+        pub unsafe fn probe_points(
+            method: u64,
+            arguments: *const u8,
+            length: usize,
+            width: u64,
+            height: u64,
+            points: *const u8,
+            points_length: usize,
+            out: *mut u8,
+            out_length: usize,
         ) -> u64;
         pub unsafe fn probe_window(
             method: u64,
@@ -214,6 +225,32 @@ pub fn inverse(
         v: f64::from_le_bytes(words[1]),
         usable: usable == 1,
     })
+}
+
+/// Many source points by one fit: `points` holds x and y, 16 bytes each, and `out` gets u, v and usable as 0 or 1, 24 bytes
+/// each. The answer is 0, the refusal's number, or 12 for lengths that do not fit.
+pub fn points(
+    method: u64,
+    arguments: &[u8],
+    width: u64,
+    height: u64,
+    points: &[u8],
+    out: &mut [u8],
+) -> u64 {
+    // SAFETY: each pointer and the length after it are one slice's.
+    unsafe {
+        ffi::probe_points(
+            method,
+            arguments.as_ptr(),
+            arguments.len(),
+            width,
+            height,
+            points.as_ptr(),
+            points.len(),
+            out.as_mut_ptr(),
+            out.len(),
+        )
+    }
 }
 
 /// A window of the output: width, height, x and y.

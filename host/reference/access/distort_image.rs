@@ -77,6 +77,26 @@ pub(crate) mod access {
             self.0.inverse(x, y)
         }
 
+        /// `inverse` over many points, where the compiler sees it as it does in `distort`: `points` holds x and y, 16 bytes
+        /// each, and `out` gets u and v, a NaN by one pattern, and whether both are at most `limit` in magnitude, 24 bytes
+        /// each.
+        pub fn inverses(&self, points: &[u8], out: &mut [u8], limit: f64) {
+            let (points, _) = points.as_chunks::<16>();
+            let (out, _) = out.as_chunks_mut::<24>();
+            let half = |point: &[u8; 16], from: usize| {
+                f64::from_le_bytes(std::array::from_fn(|k| point[from + k]))
+            };
+            let pattern = |x: f64| if x.is_nan() { f64::NAN } else { x }.to_le_bytes();
+            for (point, answer) in points.iter().zip(out) {
+                let found = self.0.inverse(half(point, 0), half(point, 8));
+                let (u, v) = found.unwrap_or_default();
+                let usable = found.is_some() && u.abs() <= limit && v.abs() <= limit;
+                answer[..8].copy_from_slice(&pattern(u));
+                answer[8..16].copy_from_slice(&pattern(v));
+                answer[16..].copy_from_slice(&u64::from(usable).to_le_bytes());
+            }
+        }
+
         pub fn bestfit(&self, w: f64, h: f64) -> Option<(u32, u32, i64, i64)> {
             self.0.bestfit(w, h)
         }

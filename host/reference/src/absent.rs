@@ -74,6 +74,10 @@ impl Mapping {
         match self.0 {}
     }
 
+    pub fn inverses(&self, _: &[u8], _: &mut [u8], _: f64) {
+        match self.0 {}
+    }
+
     pub fn bestfit(&self, _: f64, _: f64) -> Option<Window> {
         match self.0 {}
     }

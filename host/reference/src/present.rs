@@ -107,6 +107,12 @@ impl Mapping {
         self.0.inverse(x, y)
     }
 
+    /// The source points of many output points: x and y in 16 bytes; u, v and whether both are at most `limit` in
+    /// magnitude out in 24.
+    pub fn inverses(&self, points: &[u8], out: &mut [u8], limit: f64) {
+        self.0.inverses(points, out, limit)
+    }
+
     /// The window of the distorted picture. It has no limit of its own.
     pub fn bestfit(&self, w: f64, h: f64) -> Option<Window> {
         self.0.bestfit(w, h)

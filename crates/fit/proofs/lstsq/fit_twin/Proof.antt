@@ -1,10 +1,10 @@
 -- `fit::lstsq::fit_twin` meets its contract. The loop's invariant: the equations are the definition's after two rows for each of
 -- j pairs. Assumes nothing.
 use Rattle.fit.proofs.FitLaws.{two-added}
-use Rattle.fit.proofs.NormalLaws.{normal-none, normal-last, normal-solved}
+use Rattle.solve.proofs.NormalLaws.{normal-none, normal-last, normal-solved}
 use Rattle.fit.specs.Rows.{firstRow, secondRow}
 use Rattle.fit.specs.Fit.{firstRows, secondRows, allU, allV}
-use Rattle.fit.specs.Normal.{normal, inTurn}
+use Rattle.solve.specs.Normal.{normal, inTurn}
 use mathlib.Core.Path.{_≡_, ap, _∙_}
 use Prim.Native.Nat.{_-_, _*_, _≤_}
 use borrow.Author.Needs.{needs}

@@ -1,0 +1,11 @@
+-- How long `orient`'s answer is, whichever case of the definition holds. Assumes nothing.
+use mathlib.Core.Path.{_≡_, refl}
+use lib.ListN.{length}
+use lib.Ieee.{Float, lt}
+use Rattle.solve.specs.Matrix.{Vector, nought}
+use Rattle.solve.proofs.InvertLaws.{either}
+use Rattle.fit.specs.Orient.{denominator, orient}
+
+pub orient-length : (m : Vector) (x y : Float) → length m ≡ 9 → length (orient m x y) ≡ 9
+unfolding orient
+orient-length m x y e = either length 9 (lt (denominator m x y) nought) _ _ refl e

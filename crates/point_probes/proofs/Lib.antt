@@ -1,0 +1,2 @@
+-- The laws of the probes.
+pub mod PointsLaws

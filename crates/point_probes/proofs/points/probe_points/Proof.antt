@@ -1,0 +1,28 @@
+-- `point_probes::points::probe_points` meets its contract: each way out is the case of the definition that its tests took. Assumes nothing.
+use mathlib.Core.Path.{sym, _∙_}
+use Prim.Native.Nat.{_-_}
+use native.Mathlib.Omega.{arith}
+use Rattle.point_probes.specs.Points.{pointsOf, probePoints}
+use Rattle.point_probes.proofs.PointsLaws.{lengths-fit}
+use borrow.Author.Tests.{eq-eqb, ne-eqb}
+use borrow.Author.Needs.{needs}
+use Rattle.point_probes.proofs.points.probe_points.Statement.{statement}
+use Rattle.point_probes.proofs.points.probe_points.Tie as tie
+
+returns : tie.Need-returns
+unfolding probePoints pointsOf
+returns c = rw (← c .before .sized-fit .ensures, ne-eqb _ _ (c .if1 .taken))
+
+returns-2 : tie.Need-returns-2
+unfolding probePoints pointsOf
+returns-2 c = rw (← c .before .before .before .sized-fit .ensures, eq-eqb _ _ (c .before .before .if1 .left), ← c .before .wrong-lengths .ensures, c .if2 .taken)
+
+put-points-requires : tie.Need-put-points-requires
+put-points-requires c κs = lengths-fit _ _ (sym (c .before .before .before .before .before .wrong-lengths .ensures) ∙ c .before .before .before .before .if2 .left)
+
+returns-3 : tie.Need-returns-3
+unfolding probePoints pointsOf
+returns-3 c = rw (← c .before .before .before .before .before .before .before .before .before .before .sized-fit .ensures, eq-eqb _ _ (c .before .before .before .before .before .before .before .before .before .if1 .left), ← c .before .before .before .before .before .before .before .before .wrong-lengths .ensures, c .before .before .before .before .before .before .before .if2 .left, c .before .before .put-points .ensures)
+
+pub probe-points-spec : {M : Type 1} → statement M
+probe-points-spec = tie.close (tie.spec (λ c κs. search needs) returns (λ c κs. search needs) returns-2 put-points-requires (λ c. search needs) returns-3)

@@ -1,0 +1,30 @@
+-- A source point handed out: the refusal's number, or 0 with the bits of u and v and then usable as 0 or 1 in the bytes lent. A refusal
+-- writes nothing. Assumes nothing.
+use Prim.Native.Nat.{ℕ, _+_}
+use mathlib.Core.Bool.{Bool, cond}
+use mathlib.Core.List.{List}
+use lib.Dec.{eqb}
+use lib.Ieee.{Float, binary64, ofBits}
+use Rattle.number.specs.Bytes.{putU64, putF64}
+use Rattle.fit.specs.declared.mapping.Fitted.{Fitted}
+use Rattle.fit.specs.declared.mapping.Mapping.{Mapping}
+use Rattle.inverse.specs.Inverse.{inverse}
+use Rattle.inverse.specs.declared.point.Point.{Point}
+use Rattle.point_probes.specs.Sized.{sizedFit}
+
+abbrev pub flag : Bool → ℕ
+flag b = cond b 1 0
+
+abbrev pub putPoint : List ℕ → ℕ → Point → List ℕ
+putPoint out at p = putU64 (putF64 (putF64 out at (p .u)) (at + 8) (p .v)) (at + 16) (flag (p .usable))
+
+abbrev pub pointOf : Mapping → Float → Float → Point
+pointOf m x y = inverse (m .kind) (m .order) (m .count) (m .coef) x y
+
+unfoldable pub pointed : Fitted → Float → Float → List ℕ → ℕ × List ℕ
+pointed f x y out = cond (eqb (f .refusal) 0) (0, putPoint out 0 (pointOf (f .mapping) x y)) (f .refusal, out)
+
+-- x and y are the bits of the output point
+unfoldable pub probeInverse : ℕ → List ℕ → ℕ → ℕ → ℕ → ℕ → List ℕ → ℕ × List ℕ
+probeInverse method bytes width height x y out =
+    pointed (sizedFit method bytes width height) (ofBits binary64 x) (ofBits binary64 y) out

@@ -1,0 +1,11 @@
+-- The laws of the square root. Other crates cite `RootLaws`.
+mod RootCases
+mod RootDigits
+mod RootNear
+mod RootNumbers
+mod RootPositive
+mod RootScale
+mod RootSettle
+mod RootValue
+pub mod RootLaws
+pub mod RootWhole

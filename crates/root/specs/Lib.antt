@@ -1,0 +1,2 @@
+-- The definition of the square root.
+pub mod Root

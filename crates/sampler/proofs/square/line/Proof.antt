@@ -1,4 +1,4 @@
--- `sampler::interpolate::line` meets its contract. The loop's invariant: the sums are the definition's over the taps of the row passed. Assumes nothing.
+-- `sampler::square::line` meets its contract. The loop's invariant: the sums are the definition's over the taps of the row passed. Assumes nothing.
 use mathlib.Core.Path.{_≡_, _∙_}
 use Prim.Native.Nat.{_+_, _-_, _*_, _≤_}
 use native.Mathlib.Omega.{arith}
@@ -10,8 +10,8 @@ use Rattle.sampler.specs.At.{at}
 use Rattle.sampler.proofs.SignedCode.{small}
 use Rattle.sampler.proofs.TapsLaws.{number-small, step, started, grown, row-done}
 use borrow.Author.Needs.{needs}
-use Rattle.sampler.proofs.interpolate.line.Statement.{statement}
-use Rattle.sampler.proofs.interpolate.line.Tie as tie
+use Rattle.sampler.proofs.square.line.Statement.{statement}
+use Rattle.sampler.proofs.square.line.Tie as tie
 
 abbrev Inv-loop : tie.InvT-loop
 Inv-loop picture width height channels policy background column row n j weight sums₀ i₀ sums i =

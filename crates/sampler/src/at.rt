@@ -9,7 +9,8 @@ use crate::named::Tap;
 use crate::named::named;
 use crate::pixel::pixel;
 
-fn samples(picture: &[u8], width: u64, channels: u64, background: Rgba, t: Tap) -> Rgba
+// What was named, as a colour.
+pub fn samples(picture: &[u8], width: u64, channels: u64, background: Rgba, t: Tap) -> Rgba
     requires { ⌜ Held (now picture) width channels t ⌝ }
     ensures { λ r. ⌜ r ≡ At.samples (now (picture .entry)) width channels background t ⌝ }
 {

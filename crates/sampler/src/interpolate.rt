@@ -57,7 +57,7 @@ pub fn interpolate(
     ensures { λ r. ⌜ r ≡ Interpolate.interpolate (now (picture .entry)) width height channels policy code background x y ⌝ }
 {
     match code {
-        0 => single(
+        0 | 1 => single(
             picture,
             width,
             height,
@@ -68,40 +68,7 @@ pub fn interpolate(
             x,
             y,
         ),
-        1 => single(
-            picture,
-            width,
-            height,
-            channels,
-            policy,
-            code,
-            background,
-            x,
-            y,
-        ),
-        2 => several(
-            picture,
-            width,
-            height,
-            channels,
-            policy,
-            code,
-            background,
-            x,
-            y,
-        ),
-        3 => several(
-            picture,
-            width,
-            height,
-            channels,
-            policy,
-            code,
-            background,
-            x,
-            y,
-        ),
-        4 => several(
+        2 | 3 | 4 | 6 | 7 => several(
             picture,
             width,
             height,
@@ -113,28 +80,6 @@ pub fn interpolate(
             y,
         ),
         5 => bilinear(picture, width, height, channels, policy, background, x, y),
-        6 => several(
-            picture,
-            width,
-            height,
-            channels,
-            policy,
-            code,
-            background,
-            x,
-            y,
-        ),
-        7 => several(
-            picture,
-            width,
-            height,
-            channels,
-            policy,
-            code,
-            background,
-            x,
-            y,
-        ),
         _ => background,
     }
 }

@@ -8,8 +8,9 @@ ghost use Rattle.sampler.specs.At.{at};
 ghost use Rattle.sampler.specs.Interpolation.{interpolation};
 ghost use Rattle.sampler.specs.Pixel.{Picture};
 ghost use Rattle.sampler.specs.Taps.{side};
-use crate::at::at;
+use crate::at::samples;
 use crate::colour::Rgba;
+use crate::named::named;
 
 // How many taps stand side by side.
 pub fn side(code: u64) -> usize
@@ -36,7 +37,7 @@ pub fn moved(v: i64, k: usize) -> i64
     v + k as i64
 }
 
-// The tap i columns and j rows from the cell.
+// The tap i columns and j rows from the cell. It is `at` written out, so that the compiler keeps a tap's components in registers.
 pub fn tap(
     picture: &[u8],
     width: u64,
@@ -54,14 +55,11 @@ pub fn tap(
     requires { ⌜ (i ≤ 4) × (j ≤ 4) ⌝ }
     ensures { λ r. ⌜ r ≡ at (now (picture .entry)) width height channels policy background (column +ℤ pos i) (row +ℤ pos j) ⌝ }
 {
-    at(
+    samples(
         picture,
         width,
-        height,
         channels,
-        policy,
         background,
-        moved(column, i),
-        moved(row, j),
+        named(policy, width, height, moved(column, i), moved(row, j)),
     )
 }

@@ -54,13 +54,13 @@ fn large(s: &[u8], n: usize) -> bool
     found
 }
 
-fn beyond(x: u64) -> bool
+pub fn beyond(x: u64) -> bool
     ensures { λ r. ⌜ r ≡ beyond x ⌝ }
 {
     !f64_bits_within(x, 0x41d0_0000_0040_0000)
 }
 
-fn outside(
+pub fn outside(
     picture: &[u8],
     width: u64,
     height: u64,

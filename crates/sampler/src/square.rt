@@ -13,8 +13,8 @@ ghost use Rattle.sampler.specs.Weighted.{lined, weighted};
 use crate::cell::first;
 use crate::cell::fraction;
 use crate::colour::Rgba;
+use crate::taps::nearby;
 use crate::taps::side;
-use crate::taps::tap;
 use crate::weighted::Sums;
 use crate::weighted::added;
 use crate::weighted::mean;
@@ -44,7 +44,7 @@ fn line(
     let mut sums = s;
     for i in 0..n {
         sums = added(
-            tap(
+            nearby(
                 picture,
                 width,
                 height,

@@ -7,8 +7,8 @@ use std::hint::black_box;
 use std::time::Instant;
 
 const SIDE: u64 = 64;
-const POINTS: usize = 2_048;
-const ROUNDS: usize = 200;
+const POINTS: usize = 16_384;
+const ROUNDS: usize = 40;
 const BACKGROUND: [f32; 4] = [0.25, 0.5, 0.75, 1.0];
 const KINDS: [&str; 9] = [
     "Integer",
@@ -57,13 +57,20 @@ fn table(original: reference::Reference, channels: usize) {
     let inside = points(|r| r.real(1.0, SIDE as f64 - 3.0));
     let outside = points(|r| {
         let far = r.real(4.0, SIDE as f64);
-        if r.once_in(2) { -far } else { SIDE as f64 + far }
+        if r.once_in(2) {
+            -far
+        } else {
+            SIDE as f64 + far
+        }
     });
     for (kind, name) in KINDS.iter().enumerate() {
         print!("{name:<16}");
         print!("{:<22}", pair(original, picture, 0, kind as u8, &inside));
         for (_, policy) in POLICIES {
-            print!("{:<22}", pair(original, picture, policy, kind as u8, &outside));
+            print!(
+                "{:<22}",
+                pair(original, picture, policy, kind as u8, &outside)
+            );
         }
         println!();
     }
@@ -97,22 +104,35 @@ fn pair(
         height: SIDE,
         channels: picture.channels as u64,
     };
-    let lent: Vec<u8> = points.iter().flatten().flat_map(|x| x.to_le_bytes()).collect();
+    let lent: Vec<u8> = points
+        .iter()
+        .flatten()
+        .flat_map(|x| x.to_le_bytes())
+        .collect();
     let mut out = vec![0u8; lent.len()];
     let mut colours = vec![[0f32; 4]; points.len()];
     let (mut product, mut rust) = (f64::INFINITY, f64::INFINITY);
     for _ in 0..ROUNDS {
         product = product.min(nanoseconds(|| {
             let (policy, kind) = (policy.into(), kind.into());
-            assert!(probes::samples(&ours, policy, kind, BACKGROUND, &lent, &mut out));
+            assert!(probes::samples(
+                &ours, policy, kind, BACKGROUND, &lent, &mut out
+            ));
         }));
         rust = rust.min(nanoseconds(|| {
             sampler.interpolate_all(points, kind, &mut colours).unwrap();
         }));
         black_box((&out, &colours));
     }
-    let expected: Vec<u8> = colours.iter().flatten().flat_map(|x| x.to_le_bytes()).collect();
-    assert!(out == expected, "kind {kind}, policy {policy}: another colour");
+    let expected: Vec<u8> = colours
+        .iter()
+        .flatten()
+        .flat_map(|x| x.to_le_bytes())
+        .collect();
+    assert!(
+        out == expected,
+        "kind {kind}, policy {policy}: another colour"
+    );
     format!("{product:5.1} /{rust:6.1} = {:.2}", product / rust)
 }
 

@@ -88,12 +88,7 @@ impl Sampler {
         match self.0 {}
     }
 
-    pub fn interpolate_all(
-        &self,
-        _: &[[f64; 2]],
-        _: u8,
-        _: &mut [[f32; 4]],
-    ) -> Result<(), String> {
+    pub fn interpolate_all(&self, _: &[[f64; 2]], _: u8, _: &mut [[f32; 4]]) -> Result<(), String> {
         match self.0 {}
     }
 }

@@ -4,13 +4,10 @@ use mathlib.Core.Bool.{not, cond, _||_}
 use mathlib.Core.List.{List}
 use lib.Dec.{eqb}
 use lib.ListN.{length}
-use lib.Ieee.{binary64, ofBits}
 use Rattle.exact.specs.Loop.{upTo}
 use Rattle.number.specs.Bytes.{u64At}
-use Rattle.probes.specs.Sampled.{beyond, outside}
-use Rattle.sampler.specs.Interpolate.{interpolate}
+use Rattle.probes.specs.Sampled.{beyond, outside, putColour}
 use Rattle.sampler.specs.Pixel.{pixelAt}
-use Rattle.sampler.specs.Store.{putPixel}
 use Rattle.sampler.specs.declared.colour.Rgba.{Rgba}
 
 -- the bits of the coordinates of the point numbered k
@@ -24,7 +21,7 @@ yOf points k = u64At points (16 * k + 8)
 unfoldable pub putSampled : List ℕ → ℕ → ℕ → ℕ → ℕ → ℕ → Rgba → List ℕ → ℕ → List ℕ → List ℕ
 putSampled bytes width height channels policy code background points k out =
     cond (beyond (xOf points k) || beyond (yOf points k)) out
-    (putPixel out 4 k (interpolate bytes width height channels policy code background (ofBits binary64 (xOf points k)) (ofBits binary64 (yOf points k))))
+    (putColour bytes width height channels policy code background (xOf points k) (yOf points k) out k)
 
 -- all points that are whole
 abbrev pub putSamples : List ℕ → ℕ → ℕ → ℕ → ℕ → ℕ → Rgba → List ℕ → List ℕ → List ℕ

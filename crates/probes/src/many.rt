@@ -7,12 +7,10 @@ ghost use Rattle.probes.specs.Many.{putSampled, putSamples, probeSamples
 ghost use Rattle.sampler.specs.Pixel.{Picture};
 use crate::sampled::beyond;
 use crate::sampled::outside;
+use crate::sampled::put_colour;
 use number::bytes::u64_at;
-use number::pattern::f64_of_bits;
 use sampler::colour::Rgba;
-use sampler::interpolate::interpolate;
 use sampler::pixel::pixel;
-use sampler::store::put_pixel;
 
 // The colour at the point numbered k, as the pixel numbered k. A point beyond the domain is passed over.
 fn put_sampled(
@@ -40,7 +38,7 @@ fn put_sampled(
     if beyond(y) {
         return;
     }
-    let c = interpolate(
+    put_colour(
         picture,
         width,
         height,
@@ -48,10 +46,11 @@ fn put_sampled(
         policy,
         code,
         background,
-        f64_of_bits(x),
-        f64_of_bits(y),
+        x,
+        y,
+        out,
+        k as u64,
     );
-    put_pixel(out, 4, k as u64, c);
 }
 
 fn put_samples(

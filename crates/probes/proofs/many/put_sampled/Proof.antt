@@ -14,18 +14,12 @@ returns-2 : tie.Need-returns-2
 unfolding putSampled
 returns-2 c = rw (← c .before .before .before .before .before .u64-at .ensures, ← c .before .before .before .before .u64-at2 .ensures, ← c .before .before .before .beyond .ensures, c .before .before .if1 .left, ← c .before .beyond2 .ensures, c .if2 .taken)
 
-interpolate-requires : tie.Need-interpolate-requires
-interpolate-requires c κs = (
-  search needs,
-  (
-    rw (c .before .f64-of-bits .ensures) (reached _ (sym (c .before .before .before .before .before .beyond .ensures) ∙ c .before .before .before .before .if1 .left)),
-    rw (c .f64-of-bits2 .ensures) (reached _ (sym (c .before .before .before .beyond2 .ensures) ∙ c .before .before .if2 .left)),
-  ),
-)
+put-colour-requires : tie.Need-put-colour-requires
+put-colour-requires c κs = (search needs, ((reached _ (sym (c .before .before .before .before .beyond .ensures) ∙ c .before .before .before .if1 .left), reached _ (sym (c .before .before .beyond2 .ensures) ∙ c .before .if2 .left)), search needs))
 
 returns-3 : tie.Need-returns-3
 unfolding putSampled
-returns-3 c = rw (← c .before .before .before .before .before .before .before .before .before .before .before .before .u64-at .ensures, ← c .before .before .before .before .before .before .before .before .before .before .before .u64-at2 .ensures, ← c .before .before .before .before .before .before .before .before .before .before .beyond .ensures, c .before .before .before .before .before .before .before .before .before .if1 .left, ← c .before .before .before .before .before .before .before .before .beyond2 .ensures, c .before .before .before .before .before .before .before .if2 .left, c .before .before .put-pixel .ensures, c .before .before .before .before .interpolate .ensures, c .before .before .before .before .before .f64-of-bits2 .ensures, c .before .before .before .before .before .before .f64-of-bits .ensures)
+returns-3 c = rw (← c .before .before .before .before .before .before .before .before .before .u64-at .ensures, ← c .before .before .before .before .before .before .before .before .u64-at2 .ensures, ← c .before .before .before .before .before .before .before .beyond .ensures, c .before .before .before .before .before .before .if1 .left, ← c .before .before .before .before .before .beyond2 .ensures, c .before .before .before .before .if2 .left, c .before .before .put-colour .ensures)
 
 pub put-sampled-spec : {M : Type 1} → statement M
 put-sampled-spec =
@@ -40,9 +34,6 @@ put-sampled-spec =
     returns
     (λ c κs. search needs)
     returns-2
-    (λ c κs. search needs)
-    (λ c κs. search needs)
-    interpolate-requires
-    (λ c κs. search needs)
+    put-colour-requires
     (λ c. search needs)
     returns-3)

@@ -1,2 +1,3 @@
 -- What the probes answer.
+pub mod Many
 pub mod Sampled

@@ -16,6 +16,7 @@ use Rattle.sampler.specs.Interpolate.{interpolate}
 use Rattle.sampler.specs.Pixel.{pixelAt}
 use Rattle.sampler.specs.Store.{putPixel}
 use Rattle.sampler.specs.Weighted.{weightAt}
+use Rattle.sampler.specs.declared.colour.Rgba.{Rgba}
 
 -- ---- what is outside the domain
 -- neither 1, 3 nor 4
@@ -43,10 +44,15 @@ outside bytes width height channels policy code background x y =
     || (wrongCodes policy code || (large bytes (width * height * channels) || (large background 4 || (beyond x || beyond y))))
 
 -- ---- the answers
+-- the colour at a point, by the bits of its coordinates, as the pixel numbered k
+abbrev pub putColour : List ℕ → ℕ → ℕ → ℕ → ℕ → ℕ → Rgba → ℕ → ℕ → List ℕ → ℕ → List ℕ
+putColour bytes width height channels policy code background x y out k =
+    putPixel out 4 k (interpolate bytes width height channels policy code background (ofBits binary64 x) (ofBits binary64 y))
+
 unfoldable pub probeInterpolate : List ℕ → ℕ → ℕ → ℕ → ℕ → ℕ → List ℕ → ℕ → ℕ → List ℕ → ℕ × List ℕ
 probeInterpolate bytes width height channels policy code background x y out =
     cond (outside bytes width height channels policy code background x y) (1, out)
-    (0, putPixel out 4 0 (interpolate bytes width height channels policy code (pixelAt background 1 4 0 0) (ofBits binary64 x) (ofBits binary64 y)))
+    (0, putColour bytes width height channels policy code (pixelAt background 1 4 0 0) x y out 0)
 
 abbrev pub putWeights : List ℕ → List Float → List ℕ
 putWeights out w = putF32 (putF32 (putF32 (putF32 out 0 (weightAt w 0)) 4 (weightAt w 1)) 8 (weightAt w 2)) 12 (weightAt w 3)

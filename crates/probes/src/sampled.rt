@@ -1,15 +1,19 @@
 // The sampler in bytes: a colour, or the cubic weights. Assumes nothing.
 ghost use mathlib.Core.Path.{_≡_};
 ghost use mathlib.Core.Bool.{not};
-ghost use Prim.Native.Nat.{_*_, _≤_};
+ghost use Prim.Native.Nat.{_+_, _*_, _≤_};
 ghost use lib.ListN.{length};
-ghost use Rattle.probes.specs.Sampled.{wrongChannels, wrongPicture, wrongCodes, large, beyond, outside, noFraction, putWeights, probeInterpolate, probeCubic};
+ghost use lib.Ieee.{binary64, ofBits};
+ghost use Rattle.probes.specs.Sampled.{wrongChannels, wrongPicture, wrongCodes, large, beyond, outside, noFraction, putColour, putWeights, probeInterpolate, probeCubic};
+ghost use Rattle.sampler.specs.Cell.{Reached};
+ghost use Rattle.sampler.specs.Pixel.{Picture};
 use number::bytes::f32_within;
 use number::bytes::put_f32;
 use number::pattern::f32_of_bits;
 use number::pattern::f64_bits_within;
 use number::pattern::f64_of_bits;
 use number_probes::size::wrong_size;
+use sampler::colour::Rgba;
 use sampler::cubic::cubic_weights;
 use sampler::interpolate::interpolate;
 use sampler::pixel::pixel;
@@ -54,13 +58,13 @@ fn large(s: &[u8], n: usize) -> bool
     found
 }
 
-fn beyond(x: u64) -> bool
+pub fn beyond(x: u64) -> bool
     ensures { λ r. ⌜ r ≡ beyond x ⌝ }
 {
     !f64_bits_within(x, 0x41d0_0000_0040_0000)
 }
 
-fn outside(
+pub fn outside(
     picture: &[u8],
     width: u64,
     height: u64,
@@ -92,6 +96,40 @@ fn outside(
     beyond(y)
 }
 
+// The colour at a point of the domain, as the pixel numbered k.
+pub fn put_colour(
+    picture: &[u8],
+    width: u64,
+    height: u64,
+    channels: u64,
+    policy: u64,
+    code: u64,
+    background: Rgba,
+    x: u64,
+    y: u64,
+    out: &mut [u8],
+    k: u64,
+)
+    requires { ⌜ Picture (now picture) width height channels ⌝ }
+    requires { ⌜ Reached (ofBits binary64 x) × Reached (ofBits binary64 y) ⌝ }
+    requires { ⌜ (k * 4 + 4) * 4 ≤ length (now out) ⌝ }
+    ensures { λ _.
+        ⌜ now (out .exit) ≡ putColour (now (picture .entry)) width height channels policy code background x y (now (out .entry)) k ⌝ }
+{
+    let c = interpolate(
+        picture,
+        width,
+        height,
+        channels,
+        policy,
+        code,
+        background,
+        f64_of_bits(x),
+        f64_of_bits(y),
+    );
+    put_pixel(out, 4, k, c);
+}
+
 #[no_mangle]
 pub extern "C" fn probe_interpolate(
     picture: &[u8],
@@ -121,7 +159,7 @@ pub extern "C" fn probe_interpolate(
     ) {
         return 1;
     }
-    let c = interpolate(
+    put_colour(
         picture,
         width,
         height,
@@ -129,10 +167,11 @@ pub extern "C" fn probe_interpolate(
         policy,
         interpolation,
         pixel(background, 1, 4, 0, 0),
-        f64_of_bits(x),
-        f64_of_bits(y),
+        x,
+        y,
+        out,
+        0,
     );
-    put_pixel(out, 4, 0, c);
     0
 }
 

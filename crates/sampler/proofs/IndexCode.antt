@@ -5,7 +5,8 @@ use mathlib.Core.Bool.{Bool, true, false, cond}
 use Prim.Native.Nat.{ℕ, suc, _-_, _^_, _≤_, _<_}
 use native.Mathlib.Omega.{arith}
 use lib.Dec.{ltb}
-use lib.IntN.{ℤ, pos, negsuc}
+use lib.IntN.{ℤ, pos, negsuc, _+ℤ_}
+use lib.Signed.{mag}
 use mir.Syntax.{w64}
 use mir.Val.{SFits, ofZ, toZ}
 use mir.Facts.{toZ-ofZ}
@@ -51,6 +52,10 @@ bits-signed b h = go (ltb b (2 ^ 63)) refl
 pub argument : {v : ℤ} {b : ℕ} → SFits w64 v → b ≡ twosComplement (toZ w64 (ofZ w64 v)) → signed b ≡ v
 argument {v} {b} f e = ap signed (e ∙ ap twosComplement (toZ-ofZ f)) ∙ signed-bits v f
 
+-- those of an argument that was moved on
+pub moved-bits : {v : ℤ} {b : ℕ} → SFits w64 v → (r : ℤ) (k : ℕ) → mag r < 2 ^ 63 → r ≡ toZ w64 (ofZ w64 v) +ℤ pos k → b ≡ twosComplement (toZ w64 (ofZ w64 r)) → signed b ≡ v +ℤ pos k
+moved-bits {v} {b} f r k g h e = argument {v = r} (record { sfits = g }) e ∙ h ∙ ap (λ (z : ℤ). z +ℤ pos k) (toZ-ofZ f)
+
 -- ---- inside
 
 pub signed-inside : (b n : ℕ) → b < n → n ≤ 4096 → signed b ≡ pos b
@@ -71,3 +76,7 @@ within-no b n h = go (ltb b (2 ^ 63))
 -- bits below a size less one are an index whose next is inside too
 pub bits-before : {v : ℤ} {b n : ℕ} → signed b ≡ v → b < n - 1 → n ≤ 4096 → v ≡ pos b
 bits-before {v} {b} {n} e h g = sym e ∙ signed-from b (omega arith)
+
+-- bits below a size are an index inside
+pub bits-inside : {v : ℤ} {b n : ℕ} → signed b ≡ v → b < n → n ≤ 4096 → v ≡ pos b
+bits-inside {v} {b} {n} e h g = sym e ∙ signed-inside b n h g

@@ -1,12 +1,16 @@
 -- The codes of the interpolations one by one: what holds of the nine, and of every larger number, holds of each. So a code that is
 -- none of some names one of the others. Assumes nothing.
 use mathlib.Core.Path.{_≡_, refl}
-use Prim.Native.Nat.{ℕ, zero, suc}
+use Prim.Native.Nat.{ℕ, zero, suc, _≤_, _<_}
+use native.Mathlib.Omega.{arith}
 use lib.Ieee.{Float}
 use Rattle.number.specs.Floor.{floorI64}
-use Rattle.sampler.specs.Cell.{first}
+use Rattle.sampler.specs.Cell.{cell, first}
+use Rattle.sampler.specs.Interpolate.{single, several, interpolated}
 use Rattle.sampler.specs.Interpolation.{interpolation, Background}
+use Rattle.sampler.specs.Taps.{Plane}
 use Rattle.sampler.specs.Weights.{alike, weights}
+use Rattle.sampler.specs.declared.colour.Rgba.{Rgba}
 
 pub each-code : (P : ℕ → Type 0) → P 0 → P 1 → P 2 → P 3 → P 4 → P 5 → P 6 → P 7 → P 8 → ((n : ℕ) → P (suc (suc (suc (suc (suc (suc (suc (suc (suc n)))))))))) → (n : ℕ) → P n
 each-code P a b c d e f g h i r zero = a
@@ -20,12 +24,36 @@ each-code P a b c d e f g h i r (suc (suc (suc (suc (suc (suc (suc zero))))))) =
 each-code P a b c d e f g h i r (suc (suc (suc (suc (suc (suc (suc (suc zero)))))))) = i
 each-code P a b c d e f g h i r (suc (suc (suc (suc (suc (suc (suc (suc (suc n))))))))) = r n
 
+-- ---- which way each code goes
+module _ (plane : Plane) (background : Rgba) (x y : Float) where
+  pub single-code : (code : ℕ) → code < 2 → interpolated (interpolation code) plane background x y ≡ single plane (cell (interpolation code) x y)
+  unfolding interpolation
+  single-code zero h = refl
+  single-code (suc zero) h = refl
+  single-code (suc (suc n)) h = absurd (omega arith)
+
+  pub several-code : (code : ℕ) → 2 ≤ code → code < 8 → interpolated (interpolation code) plane background x y ≡ several (interpolation code) plane x y
+  unfolding interpolation
+  several-code =
+      each-code
+      (λ n. 2 ≤ n → n < 8 → interpolated (interpolation n) plane background x y ≡ several (interpolation n) plane x y)
+      (λ g h. absurd (omega arith)) (λ g h. absurd (omega arith)) (λ g h. refl) (λ g h. refl) (λ g h. refl) (λ g h. refl) (λ g h. refl) (λ g h. refl)
+      (λ g h. absurd (omega arith)) (λ n g h. absurd (omega arith))
+
+pub background-code : (code : ℕ) → 8 ≤ code → interpolation code ≡ Background
+unfolding interpolation
+background-code =
+    each-code
+    (λ n. 8 ≤ n → interpolation n ≡ Background)
+    (λ h. absurd (omega arith)) (λ h. absurd (omega arith)) (λ h. absurd (omega arith)) (λ h. absurd (omega arith))
+    (λ h. absurd (omega arith)) (λ h. absurd (omega arith)) (λ h. absurd (omega arith)) (λ h. absurd (omega arith)) (λ h. refl) (λ n h. refl)
+
 -- a code that is none of the others' is that of the background
-pub background-code : (code : ℕ)
+pub no-other : (code : ℕ)
     → ((((((((Unit {0} × (code ≡ 0 → ⊥)) × (code ≡ 1 → ⊥)) × (code ≡ 2 → ⊥)) × (code ≡ 3 → ⊥)) × (code ≡ 4 → ⊥)) × (code ≡ 5 → ⊥)) × (code ≡ 6 → ⊥)) × (code ≡ 7 → ⊥))
     → interpolation code ≡ Background
 unfolding interpolation
-background-code =
+no-other =
     each-code
     (λ n.
     ((((((((Unit {0} × (n ≡ 0 → ⊥)) × (n ≡ 1 → ⊥)) × (n ≡ 2 → ⊥)) × (n ≡ 3 → ⊥)) × (n ≡ 4 → ⊥)) × (n ≡ 5 → ⊥)) × (n ≡ 6 → ⊥)) × (n ≡ 7 → ⊥)) → interpolation n ≡ Background)

@@ -8,8 +8,10 @@ use crate::colour::grey;
 use crate::named::Tap;
 use crate::named::named;
 use crate::pixel::pixel;
+use number::pattern::bits_of_i64;
 
-fn samples(picture: &[u8], width: u64, channels: u64, background: Rgba, t: Tap) -> Rgba
+// What was named, as a colour.
+pub fn samples(picture: &[u8], width: u64, channels: u64, background: Rgba, t: Tap) -> Rgba
     requires { ⌜ Held (now picture) width channels t ⌝ }
     ensures { λ r. ⌜ r ≡ At.samples (now (picture .entry)) width channels background t ⌝ }
 {
@@ -23,6 +25,7 @@ fn samples(picture: &[u8], width: u64, channels: u64, background: Rgba, t: Tap) 
     }
 }
 
+// An index inside asks no policy.
 pub fn at(
     picture: &[u8],
     width: u64,
@@ -36,6 +39,11 @@ pub fn at(
     requires { ⌜ Picture (now picture) width height channels ⌝ }
     ensures { λ r. ⌜ r ≡ At.at (now (picture .entry)) width height channels policy background x y ⌝ }
 {
+    let i = bits_of_i64(x);
+    let j = bits_of_i64(y);
+    if i < width && j < height {
+        return pixel(picture, width, channels, i, j);
+    }
     samples(
         picture,
         width,

@@ -1,7 +1,7 @@
 // The cubic kernels' weights. Assumes nothing.
 ghost use mathlib.Core.Path.{_≡_};
 ghost use Rattle.sampler.specs.Cubic as Cubic;
-ghost use Rattle.sampler.specs.Cubic.{nearPiece, farPiece, kernel, cubicWeights};
+ghost use Rattle.sampler.specs.Cubic.{catrom, spline, nearPiece, farPiece, kernel, cubicWeights};
 use number::magnitude::abs_f32;
 
 // Below 1 in magnitude.
@@ -51,5 +51,28 @@ pub fn cubic_weights(t: f32, b: f32, c: f32) -> [f32; 4]
         weight(b, c, t),
         weight(b, c, t - 1.0),
         weight(b, c, t - 2.0),
+    ]
+}
+
+// The two kernels with B and C in place, so that their coefficients are worked out by the compiler.
+pub fn catrom(t: f32) -> [f32; 4]
+    ensures { λ r. ⌜ r ≡ catrom t ⌝ }
+{
+    [
+        weight(0.0, 0.5, t + 1.0),
+        weight(0.0, 0.5, t),
+        weight(0.0, 0.5, t - 1.0),
+        weight(0.0, 0.5, t - 2.0),
+    ]
+}
+
+pub fn spline(t: f32) -> [f32; 4]
+    ensures { λ r. ⌜ r ≡ spline t ⌝ }
+{
+    [
+        weight(1.0, 0.0, t + 1.0),
+        weight(1.0, 0.0, t),
+        weight(1.0, 0.0, t - 1.0),
+        weight(1.0, 0.0, t - 2.0),
     ]
 }

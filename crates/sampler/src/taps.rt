@@ -8,8 +8,11 @@ ghost use Rattle.sampler.specs.At.{at};
 ghost use Rattle.sampler.specs.Interpolation.{interpolation};
 ghost use Rattle.sampler.specs.Pixel.{Picture};
 ghost use Rattle.sampler.specs.Taps.{side};
-use crate::at::at;
+use crate::at::samples;
 use crate::colour::Rgba;
+use crate::named::named;
+use crate::pixel::pixel;
+use number::pattern::bits_of_i64;
 
 // How many taps stand side by side.
 pub fn side(code: u64) -> usize
@@ -36,7 +39,7 @@ pub fn moved(v: i64, k: usize) -> i64
     v + k as i64
 }
 
-// The tap i columns and j rows from the cell.
+// The tap i columns and j rows from the cell. It is `at` written out, so that the compiler keeps a tap's components in registers.
 pub fn tap(
     picture: &[u8],
     width: u64,
@@ -54,14 +57,45 @@ pub fn tap(
     requires { ⌜ (i ≤ 4) × (j ≤ 4) ⌝ }
     ensures { λ r. ⌜ r ≡ at (now (picture .entry)) width height channels policy background (column +ℤ pos i) (row +ℤ pos j) ⌝ }
 {
-    at(
+    samples(
         picture,
         width,
-        height,
         channels,
-        policy,
         background,
-        moved(column, i),
-        moved(row, j),
+        named(policy, width, height, moved(column, i), moved(row, j)),
+    )
+}
+
+// The same for a square, most of whose taps lie inside: there no policy is asked.
+pub fn nearby(
+    picture: &[u8],
+    width: u64,
+    height: u64,
+    channels: u64,
+    policy: u64,
+    background: Rgba,
+    column: i64,
+    row: i64,
+    i: usize,
+    j: usize,
+) -> Rgba
+    requires { ⌜ Picture (now picture) width height channels ⌝ }
+    requires { ⌜ (mag column ≤ 2147483649) × (mag row ≤ 2147483649) ⌝ }
+    requires { ⌜ (i ≤ 4) × (j ≤ 4) ⌝ }
+    ensures { λ r. ⌜ r ≡ at (now (picture .entry)) width height channels policy background (column +ℤ pos i) (row +ℤ pos j) ⌝ }
+{
+    let x = moved(column, i);
+    let y = moved(row, j);
+    let p = bits_of_i64(x);
+    let q = bits_of_i64(y);
+    if p < width && q < height {
+        return pixel(picture, width, channels, p, q);
+    }
+    samples(
+        picture,
+        width,
+        channels,
+        background,
+        named(policy, width, height, x, y),
     )
 }

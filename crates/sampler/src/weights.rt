@@ -1,9 +1,9 @@
 // The weights of an interpolation's taps, in the taps' order. Assumes nothing.
 ghost use mathlib.Core.Path.{_≡_};
-ghost use Rattle.sampler.specs.Cubic.{cubicWeights};
 ghost use Rattle.sampler.specs.Interpolation.{Bilinear, interpolation};
 ghost use Rattle.sampler.specs.Weights.{products, weights};
-use crate::cubic::cubic_weights;
+use crate::cubic::catrom;
+use crate::cubic::spline;
 
 // Those of the columns times those of the rows.
 fn products(wx: [f32; 4], wy: [f32; 4]) -> [f32; 16]
@@ -27,12 +27,6 @@ fn products(wx: [f32; 4], wy: [f32; 4]) -> [f32; 16]
         wx[2] * wy[3],
         wx[3] * wy[3],
     ]
-}
-
-fn cubic(tx: f32, ty: f32, b: f32, c: f32) -> [f32; 16]
-    ensures { λ r. ⌜ r ≡ products (cubicWeights tx b c) (cubicWeights ty b c) ⌝ }
-{
-    products(cubic_weights(tx, b, c), cubic_weights(ty, b, c))
 }
 
 fn bilinear(tx: f32, ty: f32) -> [f32; 16]
@@ -63,8 +57,8 @@ pub fn weights(code: u64, tx: f32, ty: f32) -> [f32; 16]
 {
     match code {
         5 => bilinear(tx, ty),
-        6 => cubic(tx, ty, 0.0, 0.5),
-        7 => cubic(tx, ty, 1.0, 0.0),
+        6 => products(catrom(tx), catrom(ty)),
+        7 => products(spline(tx), spline(ty)),
         _ => [1.0; 16],
     }
 }

@@ -29,6 +29,20 @@ mod ffi {
             y: u64,
             out: *mut [u8; 16],
         ) -> u64;
+        pub unsafe fn probe_samples(
+            picture: *const u8,
+            length: usize,
+            width: u64,
+            height: u64,
+            channels: u64,
+            policy: u64,
+            interpolation: u64,
+            background: *const [u8; 16],
+            points: *const u8,
+            points_length: usize,
+            out: *mut u8,
+            out_length: usize,
+        ) -> u64;
         pub unsafe fn probe_cubic(interpolation: u64, t: u32, out: *mut [u8; 16]) -> u64;
         pub unsafe fn probe_inverse(
             method: u64,
@@ -140,6 +154,15 @@ fn colour(answer: u64, out: [u8; 16]) -> Option<[f32; 4]> {
     Some(std::array::from_fn(|k| f32::from_le_bytes(words[k])))
 }
 
+/// A colour as 16 bytes.
+fn lent(colour: [f32; 4]) -> [u8; 16] {
+    let mut lent = [0; 16];
+    for (k, component) in colour.iter().enumerate() {
+        lent[4 * k..4 * k + 4].copy_from_slice(&component.to_le_bytes());
+    }
+    lent
+}
+
 /// A picture for `interpolate`: samples as bytes.
 pub struct Picture<'a> {
     pub bytes: &'a [u8],
@@ -158,10 +181,7 @@ pub fn interpolate(
     y: f64,
 ) -> Option<[f32; 4]> {
     let mut out = [UNTOUCHED; 16];
-    let mut lent = [0; 16];
-    for (k, component) in background.iter().enumerate() {
-        lent[4 * k..4 * k + 4].copy_from_slice(&component.to_le_bytes());
-    }
+    let lent = lent(background);
     // SAFETY: each pointer is to a slice or an array of the length that the callee is told or knows.
     let answer = unsafe {
         ffi::probe_interpolate(
@@ -179,6 +199,37 @@ pub fn interpolate(
         )
     };
     colour(answer, out)
+}
+
+/// The colours at many points in index space, in one call: x and y of each as f64, little-endian, and its colour in as many
+/// bytes of `out`. False outside the domain, where nothing is written; a point outside it is passed over.
+pub fn samples(
+    picture: &Picture,
+    policy: u64,
+    interpolation: u64,
+    background: [f32; 4],
+    points: &[u8],
+    out: &mut [u8],
+) -> bool {
+    let lent = lent(background);
+    // SAFETY: each pointer is to a slice or an array of the length that the callee is told or knows.
+    let answer = unsafe {
+        ffi::probe_samples(
+            picture.bytes.as_ptr(),
+            picture.bytes.len(),
+            picture.width,
+            picture.height,
+            picture.channels,
+            policy,
+            interpolation,
+            &lent,
+            points.as_ptr(),
+            points.len(),
+            out.as_mut_ptr(),
+            out.len(),
+        )
+    };
+    answer == 0
 }
 
 /// The four weights of Catrom (6) or Spline (7) at a fraction.

@@ -131,6 +131,18 @@ pub(crate) mod access {
         pub fn interpolate(&self, x: f64, y: f64, interp: PixelInterpolate) -> [f32; 4] {
             self.sampler().interpolate(x, y, interp)
         }
+
+        pub fn interpolate_all(
+            &self,
+            points: &[[f64; 2]],
+            interp: PixelInterpolate,
+            out: &mut [[f32; 4]],
+        ) {
+            let sampler = self.sampler();
+            for (&[x, y], colour) in points.iter().zip(out) {
+                *colour = sampler.interpolate(x, y, interp);
+            }
+        }
     }
 
     pub fn weighted(taps: &[([f32; 4], f32)]) -> [f32; 4] {

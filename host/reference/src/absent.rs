@@ -91,4 +91,8 @@ impl Sampler {
     pub fn interpolate(&self, _: f64, _: f64, _: u8) -> Result<[f32; 4], String> {
         match self.0 {}
     }
+
+    pub fn interpolate_all(&self, _: &[[f64; 2]], _: u8, _: &mut [[f32; 4]]) -> Result<(), String> {
+        match self.0 {}
+    }
 }

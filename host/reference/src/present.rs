@@ -130,6 +130,18 @@ impl Sampler {
         let interpolation = named("interpolation", &INTERPOLATIONS, interpolation)?;
         Ok(self.0.interpolate(x, y, interpolation))
     }
+
+    /// The picture read at many points, as `distort` does: one colour for each, as far as both slices go.
+    pub fn interpolate_all(
+        &self,
+        points: &[[f64; 2]],
+        interpolation: u8,
+        out: &mut [[f32; 4]],
+    ) -> Result<(), String> {
+        let interpolation = named("interpolation", &INTERPOLATIONS, interpolation)?;
+        self.0.interpolate_all(points, interpolation, out);
+        Ok(())
+    }
 }
 
 fn named<T: Copy>(what: &str, all: &[T], code: u8) -> Result<T, String> {

@@ -17,33 +17,13 @@ returns c = rw (← c .before .outside .ensures, c .if1 .taken)
 pixel-requires : tie.Need-pixel-requires
 pixel-requires c κs = one-pixel _ (search needs)
 
-f64-of-bits-requires : tie.Need-f64-of-bits-requires
-f64-of-bits-requires c κs = search needs
-
-f64-of-bits-requires-2 : tie.Need-f64-of-bits-requires-2
-f64-of-bits-requires-2 c κs = search needs
-
-interpolate-requires : tie.Need-interpolate-requires
-interpolate-requires c κs =
-    let f = outside-fit _ _ _ _ _ _ _ _ _ (sym (c .before .before .before .before .before .outside .ensures) ∙ c .before .before .before .before .if1 .left) in
-    (f .0, (rw (c .before .f64-of-bits .ensures) (f .1 .0), rw (c .f64-of-bits2 .ensures) (f .1 .1)))
-
-put-pixel-requires : tie.Need-put-pixel-requires
-put-pixel-requires c κs = search needs
+put-colour-requires : tie.Need-put-colour-requires
+put-colour-requires c κs = let f = outside-fit _ _ _ _ _ _ _ _ _ (sym (c .before .before .before .before .outside .ensures) ∙ c .before .before .before .if1 .left) in (f .0, (f .1, search needs))
 
 returns-2 : tie.Need-returns-2
 unfolding probeInterpolate
-returns-2 c = rw (← c .before .before .before .before .before .before .before .before .outside .ensures, c .before .before .before .before .before .before .before .if1 .left, c .put-pixel .ensures, c .before .before .interpolate .ensures, c .before .before .before .f64-of-bits2 .ensures, c .before .before .before .before .f64-of-bits .ensures, c .before .before .before .before .before .pixel .ensures)
+returns-2 c = rw (← c .before .before .before .before .before .outside .ensures, c .before .before .before .before .if1 .left, c .put-colour .ensures, c .before .before .pixel .ensures)
 
 pub probe-interpolate-spec : {M : Type 1} → statement M
 probe-interpolate-spec =
-    tie.close
-    (tie.spec
-    outside-requires
-    returns
-    pixel-requires
-    f64-of-bits-requires
-    f64-of-bits-requires-2
-    interpolate-requires
-    put-pixel-requires
-    returns-2)
+    tie.close (tie.spec outside-requires returns pixel-requires put-colour-requires returns-2)

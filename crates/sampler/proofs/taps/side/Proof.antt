@@ -1,6 +1,6 @@
 -- `sampler::taps::side` meets its contract: a number for each code. Assumes nothing.
 use Rattle.sampler.specs.Interpolation.{interpolation}
-use Rattle.sampler.proofs.InterpolationCode.{background-code}
+use Rattle.sampler.proofs.InterpolationCode.{no-other}
 use Rattle.sampler.proofs.taps.side.Statement.{statement}
 use Rattle.sampler.proofs.taps.side.Tie as tie
 
@@ -37,7 +37,7 @@ unfolding interpolation
 returns-8 c = rw (c .match .keys8)
 
 returns-9 : tie.Need-returns-9
-returns-9 c = rw (background-code _ (c .match .rest))
+returns-9 c = rw (no-other _ (c .match .rest))
 
 pub side-spec : {M : Type 1} → statement M
 side-spec =

@@ -1,8 +1,8 @@
--- `sampler::interpolate::inside` meets its contract: the four pixels lie inside. Assumes nothing.
+-- `sampler::bilinear::inside` meets its contract: the four pixels lie inside. Assumes nothing.
 use native.Mathlib.Omega.{arith}
 use borrow.Author.Needs.{needs}
-use Rattle.sampler.proofs.interpolate.inside.Statement.{statement}
-use Rattle.sampler.proofs.interpolate.inside.Tie as tie
+use Rattle.sampler.proofs.bilinear.inside.Statement.{statement}
+use Rattle.sampler.proofs.bilinear.inside.Tie as tie
 
 pixel-requires : tie.Need-pixel-requires
 pixel-requires c κs = let a = c .before in record { height = a .args .height; picture = search needs; column = omega arith; row = omega arith }

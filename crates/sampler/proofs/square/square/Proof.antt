@@ -1,4 +1,4 @@
--- `sampler::interpolate::square` meets its contract. The loop's invariant: the sums are the definition's over the rows passed. Assumes nothing.
+-- `sampler::square::square` meets its contract. The loop's invariant: the sums are the definition's over the rows passed. Assumes nothing.
 use mathlib.Core.Path.{_≡_, _∙_}
 use Prim.Native.Nat.{_-_, _*_, _≤_}
 use mir.Syntax.{w64}
@@ -10,8 +10,8 @@ use Rattle.sampler.specs.Weighted.{summed}
 use Rattle.sampler.proofs.SignedCode.{small}
 use Rattle.sampler.proofs.TapsLaws.{none-lined, lined-next, finished}
 use borrow.Author.Needs.{needs}
-use Rattle.sampler.proofs.interpolate.square.Statement.{statement}
-use Rattle.sampler.proofs.interpolate.square.Tie as tie
+use Rattle.sampler.proofs.square.square.Statement.{statement}
+use Rattle.sampler.proofs.square.square.Tie as tie
 
 abbrev Inv-loop : tie.InvT-loop
 Inv-loop picture width height channels policy background column row n weight s₀ j₀ s j =

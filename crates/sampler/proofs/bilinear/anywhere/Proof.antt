@@ -1,10 +1,10 @@
--- `sampler::interpolate::anywhere` meets its contract: the four taps are those of the list. Assumes nothing.
+-- `sampler::bilinear::anywhere` meets its contract: the four taps are those of the list. Assumes nothing.
 use mir.Facts.{toZ-ofZ}
 use Rattle.sampler.proofs.SignedCode.{small}
 use Rattle.sampler.proofs.TapsLaws.{four-corners}
 use borrow.Author.Needs.{needs}
-use Rattle.sampler.proofs.interpolate.anywhere.Statement.{statement}
-use Rattle.sampler.proofs.interpolate.anywhere.Tie as tie
+use Rattle.sampler.proofs.bilinear.anywhere.Statement.{statement}
+use Rattle.sampler.proofs.bilinear.anywhere.Tie as tie
 
 tap-requires : tie.Need-tap-requires
 tap-requires c κs = let a = c .before in (search needs, ((small 2147483649 _ (a .fits .column) (search needs), small 2147483649 _ (a .fits .row) (search needs)), search needs))

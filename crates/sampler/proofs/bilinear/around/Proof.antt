@@ -1,4 +1,4 @@
--- `sampler::interpolate::around` meets its contract: where the bits of both indexes are below the sizes less one, the cell lies inside. Assumes nothing.
+-- `sampler::bilinear::around` meets its contract: where the bits of both indexes are below the sizes less one, the cell lies inside. Assumes nothing.
 use mathlib.Core.Path.{_∙_}
 use native.Mathlib.Omega.{arith}
 use mir.Facts.{toZ-ofZ}
@@ -8,8 +8,8 @@ use Rattle.sampler.proofs.IndexCode.{argument, bits-before}
 use Rattle.sampler.proofs.SignedCode.{small}
 use Rattle.sampler.proofs.TapsLaws.{inside-corners}
 use borrow.Author.Needs.{needs}
-use Rattle.sampler.proofs.interpolate.around.Statement.{statement}
-use Rattle.sampler.proofs.interpolate.around.Tie as tie
+use Rattle.sampler.proofs.bilinear.around.Statement.{statement}
+use Rattle.sampler.proofs.bilinear.around.Tie as tie
 
 next : (i n : ℕ) → i < n - 1 → i + 1 < n
 next i n h = omega arith

@@ -1,4 +1,4 @@
--- `sampler::interpolate::several` meets its contract: the cell, the taps and the weights are the definition's, one call after the other. Assumes nothing.
+-- `sampler::square::several` meets its contract: the cell, the taps and the weights are the definition's, one call after the other. Assumes nothing.
 use mathlib.Core.Path.{sym, _∙_, subst}
 use Prim.Native.Nat.{ℕ, _≤_}
 use Rattle.sampler.specs.Interpolation.{interpolation}
@@ -6,8 +6,8 @@ use Rattle.sampler.proofs.CellLaws.{first-small}
 use Rattle.sampler.proofs.SignedCode.{again, asked}
 use Rattle.sampler.proofs.TapsLaws.{side-small}
 use borrow.Author.Needs.{needs}
-use Rattle.sampler.proofs.interpolate.several.Statement.{statement}
-use Rattle.sampler.proofs.interpolate.several.Tie as tie
+use Rattle.sampler.proofs.square.several.Statement.{statement}
+use Rattle.sampler.proofs.square.several.Tie as tie
 
 fraction-requires : tie.Need-fraction-requires
 fraction-requires c κs = search needs

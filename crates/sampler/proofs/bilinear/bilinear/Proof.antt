@@ -1,11 +1,11 @@
--- `sampler::interpolate::bilinear` meets its contract: the cell and the fractions of the point. Assumes nothing.
+-- `sampler::bilinear::bilinear` meets its contract: the cell and the fractions of the point. Assumes nothing.
 use mathlib.Core.Path.{_∙_}
 use Rattle.sampler.specs.Interpolation.{interpolation}
 use Rattle.sampler.proofs.CellLaws.{first-small}
 use Rattle.sampler.proofs.SignedCode.{again, asked}
 use borrow.Author.Needs.{needs}
-use Rattle.sampler.proofs.interpolate.bilinear.Statement.{statement}
-use Rattle.sampler.proofs.interpolate.bilinear.Tie as tie
+use Rattle.sampler.proofs.bilinear.bilinear.Statement.{statement}
+use Rattle.sampler.proofs.bilinear.bilinear.Tie as tie
 
 first-requires : tie.Need-first-requires
 first-requires c κs = search needs

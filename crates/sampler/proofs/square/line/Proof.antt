@@ -1,4 +1,4 @@
--- `sampler::interpolate::line` meets its contract. The loop's invariant: the sums are the definition's over the taps of the row passed. Assumes nothing.
+-- `sampler::square::line` meets its contract. The loop's invariant: the sums are the definition's over the taps of the row passed. Assumes nothing.
 use mathlib.Core.Path.{_≡_, _∙_}
 use Prim.Native.Nat.{_+_, _-_, _*_, _≤_}
 use native.Mathlib.Omega.{arith}
@@ -10,8 +10,8 @@ use Rattle.sampler.specs.At.{at}
 use Rattle.sampler.proofs.SignedCode.{small}
 use Rattle.sampler.proofs.TapsLaws.{number-small, step, started, grown, row-done}
 use borrow.Author.Needs.{needs}
-use Rattle.sampler.proofs.interpolate.line.Statement.{statement}
-use Rattle.sampler.proofs.interpolate.line.Tie as tie
+use Rattle.sampler.proofs.square.line.Statement.{statement}
+use Rattle.sampler.proofs.square.line.Tie as tie
 
 abbrev Inv-loop : tie.InvT-loop
 Inv-loop picture width height channels policy background column row n j weight sums₀ i₀ sums i =
@@ -23,8 +23,8 @@ abbrev μ-loop : tie.MeasureT-loop
 loop-holds : tie.Need-loop-holds Inv-loop μ-loop
 loop-holds c = let a = c .before .args in (started (at (a .picture .now) (a .width) (a .height) (a .channels) (a .policy) (a .background)) _ (a .n) (a .weight .now) (a .j) (a .s), search needs)
 
-tap-requires : tie.Need-tap-requires Inv-loop μ-loop
-tap-requires c κs =
+nearby-requires : tie.Need-nearby-requires Inv-loop μ-loop
+nearby-requires c κs =
     let a = c .before .before .before in
     (search needs, ((small 2147483649 _ (a .fits .column) (search needs), small 2147483649 _ (a .fits .row) (search needs)), (omega (arith, c .loop-test .taken), omega arith)))
 
@@ -52,8 +52,8 @@ loop-less c = search needs
 loop-again : tie.Need-loop-again Inv-loop μ-loop
 loop-again c =
     let a = c .before .before .before .before .before .before .args in (
-      grown (at (a .picture .now) (a .width) (a .height) (a .channels) (a .policy) (a .background)) _ (a .n) (a .weight .now) (a .j) (c .before .before .before .before .loop .i) (a .s) (c .before .before .tap .result) (c .before .before .before .before .loop .sums) (c .added .result)
-          (search needs) (search needs) (search needs) (c .before .before .tap .ensures) (c .before .before .before .before .loop .inv .0) (c .added .ensures),
+      grown (at (a .picture .now) (a .width) (a .height) (a .channels) (a .policy) (a .background)) _ (a .n) (a .weight .now) (a .j) (c .before .before .before .before .loop .i) (a .s) (c .before .before .nearby .result) (c .before .before .before .before .loop .sums) (c .added .result)
+          (search needs) (search needs) (search needs) (c .before .before .nearby .ensures) (c .before .before .before .before .loop .inv .0) (c .added .ensures),
       search needs,
     )
 
@@ -70,7 +70,7 @@ line-spec =
     Inv-loop
     μ-loop
     loop-holds
-    tap-requires
+    nearby-requires
     mul-added
     add-added
     mul-added-2

@@ -82,7 +82,8 @@ fn size_card(width: u64, number: u64) -> bool {
         &arguments,
         0,
         &mut out,
-    ) == number
+    )
+        == number
 }
 
 // 5: the argument 1,048,576 passes, the next f64 does not.
@@ -90,15 +91,7 @@ fn number_card(bits: u64, number: u64) -> bool {
     let picture = [0u8; 4];
     let mut out = [0u8; 48];
     let arguments = projection(bits);
-    ask(
-        &picture,
-        1,
-        1,
-        AFFINE_PROJECTION,
-        &arguments,
-        0,
-        &mut out,
-    ) == number
+    ask(&picture, 1, 1, AFFINE_PROJECTION, &arguments, 0, &mut out) == number
 }
 
 // 4: 64 pairs pass, 65 do not.
@@ -117,7 +110,8 @@ fn pairs_card(pairs: usize, number: u64) -> bool {
         &arguments[..32 * pairs],
         0,
         &mut out,
-    ) == number
+    )
+        == number
 }
 
 // 8: `AffineProjection` 1, 2, 2, 4, 0, 0.
@@ -129,15 +123,7 @@ fn singular_card() -> bool {
     put_u64(&mut arguments, 8, 0x4000_0000_0000_0000);
     put_u64(&mut arguments, 16, 0x4000_0000_0000_0000);
     put_u64(&mut arguments, 24, 0x4010_0000_0000_0000);
-    ask(
-        &picture,
-        1,
-        1,
-        AFFINE_PROJECTION,
-        &arguments,
-        0,
-        &mut out,
-    ) == 8
+    ask(&picture, 1, 1, AFFINE_PROJECTION, &arguments, 0, &mut out) == 8
 }
 
 // 7: order 2.5 with nine pairs.
@@ -154,15 +140,7 @@ fn bestfit_card() -> bool {
     let picture = [0u8; 48];
     let mut out = [0u8; 48];
     let arguments = projection(0);
-    if ask(
-        &picture,
-        4,
-        3,
-        AFFINE_PROJECTION,
-        &arguments,
-        1,
-        &mut out,
-    ) != 0 {
+    if ask(&picture, 4, 3, AFFINE_PROJECTION, &arguments, 1, &mut out) != 0 {
         return false;
     }
     if u64_at(&out, 0) != 6 {
@@ -182,7 +160,12 @@ fn right(held: bool) -> u64 {
 }
 
 fn main() {
-    let limits = right(size_card(4096, 0)) + right(size_card(4097, 1)) + right(number_card(0x4130_0000_0000_0000, 0)) + right(number_card(0x4130_0000_0000_0001, 5)) + right(pairs_card(64, 0)) + right(pairs_card(65, 4));
+    let limits = right(size_card(4096, 0))
+        + right(size_card(4097, 1))
+        + right(number_card(0x4130_0000_0000_0000, 0))
+        + right(number_card(0x4130_0000_0000_0001, 5))
+        + right(pairs_card(64, 0))
+        + right(pairs_card(65, 4));
     let others = right(singular_card()) + right(order_card()) + right(bestfit_card());
     let passed = limits + others;
     io::write_all(STDOUT_FILENO, b"cards: ");

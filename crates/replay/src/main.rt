@@ -95,7 +95,12 @@ fn answers(
 }
 
 // The rest of a job after its numbers.
-fn replay(head: &[u8; 144], picture_length: usize, arguments_length: usize, band_length: usize) -> Outcome
+fn replay(
+    head: &[u8; 144],
+    picture_length: usize,
+    arguments_length: usize,
+    band_length: usize,
+) -> Outcome
     requires { ⌜ (picture_length ≤ 4096) × ((arguments_length ≤ 4096) × (band_length ≤ 4096)) ⌝ }
 {
     let mut background = [0u8; 16];

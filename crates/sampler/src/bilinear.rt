@@ -167,6 +167,7 @@ fn around(
     )
 }
 
+// The cell and the fraction of a coordinate one after the other, so that the compiler works out one floor for both.
 pub fn bilinear(
     picture: &[u8],
     width: u64,
@@ -182,6 +183,10 @@ pub fn bilinear(
     ensures { λ r.
         ⌜ r ≡ Interpolate.several Bilinear (at (now (picture .entry)) width height channels policy background) x y ⌝ }
 {
+    let column = first(5, x);
+    let tx = fraction(x);
+    let row = first(5, y);
+    let ty = fraction(y);
     around(
         picture,
         width,
@@ -189,9 +194,9 @@ pub fn bilinear(
         channels,
         policy,
         background,
-        first(5, x),
-        first(5, y),
-        fraction(x),
-        fraction(y),
+        column,
+        row,
+        tx,
+        ty,
     )
 }

@@ -13,6 +13,7 @@ use Rattle.chain.specs.Memory.{read, written, callIn, Event, Calls, Writ
 use Rattle.chain.specs.Memory.{size, InBuffer, LentHome, KeptCall, AllKept}
 use Rattle.chain.specs.Warps.{Warp, State, accepted, allRows, step, run}
 use Rattle.chain.proofs.Chain.{each-last}
+use Rattle.chain.proofs.LengthLaws.{keeps-length}
 use Rattle.chain.proofs.ReadLaws.{read-length, written-elsewhere}
 use Rattle.chain.proofs.SameLaws.{both-hold}
 use Rattle.chain.proofs.Scenes.{placed, behind, said, scenes, end, found}
@@ -55,7 +56,7 @@ module _ {w : World} {es : List Event} {s : State} {n : ℕ} where
   lies-goes f e g = record { kept = (e, g .kept); chain = g .chain; free = g .free }
 
 -- ---- a call that finds c, with its band behind the picture
-module _ (keeps-length : (c : Call) → length (left c) ≡ length (c .band)) (v : World) (f : ℕ) (c : Call) (is : callIn (v .memory) (placed f c) ≡ c)
+module _ (v : World) (f : ℕ) (c : Call) (is : callIn (v .memory) (placed f c) ≡ c)
     (free : Free v (f + length (c .image .bytes))) (lent : accepted c ≡ true → allRows c ≡ true → LentHome v (placed f c)) where
   abbrev d : Call
   d = callIn (v .memory) (placed f c)
@@ -122,52 +123,51 @@ whole-lent : (s : State) (c : Call) → accepted c ≡ true → allRows c ≡ tr
 whole-lent s c e f h = each-last Lent (s .warps) _ (subst (λ (t : State). Each Lent (t .warps)) (whole-makes s c e f .chain) h) .1
 
 -- ---- one call's events, then the list's
-module _ (keeps-length : (c : Call) → length (left c) ≡ length (c .band)) where
-  module _ (w : World) (f : ℕ) (c : Call) (es : List Event) (s : State) (n : ℕ) (free : Free w f) (lent : Each Lent (step (w .chain) c .warps))
-      (more : (u : World) → u .chain ≡ step (w .chain) c → Free u (behind f c) → Goes u es s n) where
-    abbrev v : World
-    v = happens w (Writes f (c .image .bytes ++ c .band))
+module _ (w : World) (f : ℕ) (c : Call) (es : List Event) (s : State) (n : ℕ) (free : Free w f) (lent : Each Lent (step (w .chain) c .warps))
+    (more : (u : World) → u .chain ≡ step (w .chain) c → Free u (behind f c) → Goes u es s n) where
+  abbrev v : World
+  v = happens w (Writes f (c .image .bytes ++ c .band))
 
-    -- a whole warp, where it is said
-    whole-goes : accepted c ≡ true → allRows c ≡ true → Goes v (Lies f ∷ (Calls (placed f c) ∷ es)) s n
-    unfolding happens
-    whole-goes e h =
-        let same : c .image ≡ w .chain .image = whole-lent (w .chain) c e h lent in
-        let long : size w ≡ length (c .image .bytes) = ap (λ (p : Image). length (p .bytes)) (sym same) in
-        let there : read (v .memory) f (size w) ≡ w .chain .image .bytes =
-        ap (read (v .memory) f) long ∙ ap (λ (d : Call). d .image .bytes) (found (w .memory) f c) ∙ ap (λ (p : Image). p .bytes) same in
-        let u : World = happens v (Lies f) in
-        let before : Free u (f + length (c .image .bytes)) = λ from q. let z : f ≡ from = cc in omega arith in
-        let at : LentHome u (placed f c) = record {
-          place = refl;
-          bytes = sym long;
-          width = ap (λ (p : Image). p .width) same;
-          height = ap (λ (p : Image). p .height) same;
-          channels = ap (λ (p : Image). p .channels) same;
-        } in
-        lies-goes f there
-        (call-goes keeps-length u f c (found (w .memory) f c) before (λ e h. at)
-        (more _ (call-chain keeps-length u f c (found (w .memory) f c) before (λ e h. at)) (call-free keeps-length u f c (found (w .memory) f c) before (λ e h. at))))
+  -- a whole warp, where it is said
+  whole-goes : accepted c ≡ true → allRows c ≡ true → Goes v (Lies f ∷ (Calls (placed f c) ∷ es)) s n
+  unfolding happens
+  whole-goes e h =
+      let same : c .image ≡ w .chain .image = whole-lent (w .chain) c e h lent in
+      let long : size w ≡ length (c .image .bytes) = ap (λ (p : Image). length (p .bytes)) (sym same) in
+      let there : read (v .memory) f (size w) ≡ w .chain .image .bytes =
+      ap (read (v .memory) f) long ∙ ap (λ (d : Call). d .image .bytes) (found (w .memory) f c) ∙ ap (λ (p : Image). p .bytes) same in
+      let u : World = happens v (Lies f) in
+      let before : Free u (f + length (c .image .bytes)) = λ from q. let z : f ≡ from = cc in omega arith in
+      let at : LentHome u (placed f c) = record {
+        place = refl;
+        bytes = sym long;
+        width = ap (λ (p : Image). p .width) same;
+        height = ap (λ (p : Image). p .height) same;
+        channels = ap (λ (p : Image). p .channels) same;
+      } in
+      lies-goes f there
+      (call-goes u f c (found (w .memory) f c) before (λ e h. at)
+      (more _ (call-chain u f c (found (w .memory) f c) before (λ e h. at)) (call-free u f c (found (w .memory) f c) before (λ e h. at))))
 
-    other-goes : (accepted c ≡ true → allRows c ≡ true → ⊥) → Goes v (Calls (placed f c) ∷ es) s n
-    unfolding happens
-    other-goes not =
-        let before : Free v (f + length (c .image .bytes)) = λ from q. omega (arith, free from q) in
-        let at : accepted c ≡ true → allRows c ≡ true → LentHome v (placed f c) = λ e h. absurd (not e h) in
-        call-goes keeps-length v f c (found (w .memory) f c) before at
-        (more _ (call-chain keeps-length v f c (found (w .memory) f c) before at) (call-free keeps-length v f c (found (w .memory) f c) before at))
+  other-goes : (accepted c ≡ true → allRows c ≡ true → ⊥) → Goes v (Calls (placed f c) ∷ es) s n
+  unfolding happens
+  other-goes not =
+      let before : Free v (f + length (c .image .bytes)) = λ from q. omega (arith, free from q) in
+      let at : accepted c ≡ true → allRows c ≡ true → LentHome v (placed f c) = λ e h. absurd (not e h) in
+      call-goes v f c (found (w .memory) f c) before at
+      (more _ (call-chain v f c (found (w .memory) f c) before at) (call-free v f c (found (w .memory) f c) before at))
 
-    one-goes : Goes w (Writes f (c .image .bytes ++ c .band) ∷ said (accepted c && allRows c) f (Calls (placed f c) ∷ es)) s n
-    one-goes = write-goes f (c .image .bytes ++ c .band) free (by (accepted c && allRows c) refl)
-      where
-        by : (t : Bool) → (accepted c && allRows c) ≡ t → Goes v (said t f (Calls (placed f c) ∷ es)) s n
-        by true e = let b = both-hold (accepted c) (allRows c) e in whole-goes (b .0) (b .1)
-        by false e = other-goes (λ a r. true≢false (sym (ap₂ _&&_ a r) ∙ e))
+  one-goes : Goes w (Writes f (c .image .bytes ++ c .band) ∷ said (accepted c && allRows c) f (Calls (placed f c) ∷ es)) s n
+  one-goes = write-goes f (c .image .bytes ++ c .band) free (by (accepted c && allRows c) refl)
+    where
+      by : (t : Bool) → (accepted c && allRows c) ≡ t → Goes v (said t f (Calls (placed f c) ∷ es)) s n
+      by true e = let b = both-hold (accepted c) (allRows c) e in whole-goes (b .0) (b .1)
+      by false e = other-goes (λ a r. true≢false (sym (ap₂ _&&_ a r) ∙ e))
 
-  pub all-goes : (cs : List Call) (w : World) (f : ℕ) → Free w f → Each Lent (run (w .chain) cs .warps) → Goes w (scenes f cs) (run (w .chain) cs) (end f cs)
-  unfolding scenes end run lived AllKept
-  all-goes [] w f free lent = record { kept = tt; chain = refl; free = free }
-  all-goes (c ∷ cs) w f free lent =
-      one-goes w f c (scenes (behind f c) cs) (run (step (w .chain) c) cs) (end (behind f c) cs) free (run-each Lent (step (w .chain) c) cs lent)
-      (λ u e before. subst (λ (s : State). Goes u (scenes (behind f c) cs) (run s cs) (end (behind f c) cs)) e
-      (all-goes cs u (behind f c) before (subst (λ (s : State). Each Lent (run s cs .warps)) (sym e) lent)))
+pub all-goes : (cs : List Call) (w : World) (f : ℕ) → Free w f → Each Lent (run (w .chain) cs .warps) → Goes w (scenes f cs) (run (w .chain) cs) (end f cs)
+unfolding scenes end run lived AllKept
+all-goes [] w f free lent = record { kept = tt; chain = refl; free = free }
+all-goes (c ∷ cs) w f free lent =
+    one-goes w f c (scenes (behind f c) cs) (run (step (w .chain) c) cs) (end (behind f c) cs) free (run-each Lent (step (w .chain) c) cs lent)
+    (λ u e before. subst (λ (s : State). Goes u (scenes (behind f c) cs) (run s cs) (end (behind f c) cs)) e
+    (all-goes cs u (behind f c) before (subst (λ (s : State). Each Lent (run s cs .warps)) (sym e) lent)))

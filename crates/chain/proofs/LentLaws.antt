@@ -3,8 +3,7 @@ use mathlib.Core.Path.{_≡_, sym, ap, _∙_, subst}
 use mathlib.Core.Bool.{true}
 use mathlib.Core.List.{List, [], _∷_, _++_}
 use Prim.Native.Nat.{ℕ}
-use lib.ListN.{length}
-use Rattle.distort.specs.Call.{answer, left}
+use Rattle.distort.specs.Call.{answer}
 use Rattle.distort.specs.Job.{Call}
 use Rattle.chain.specs.Warps.{Warp, State, sameImage, everyRow, heightIn, group, completes, step}
 use Rattle.chain.specs.Demand.{Lent, Each}
@@ -51,14 +50,13 @@ call-lent w a kept home lent = by (turn (w .chain) c)
     by (is-joined e f k) = made k (more _ (joined-lent (w .chain) c f))
     by (is-alone e k) = made k lent
 
-module _ (keeps-length : (c : Call) → length (left c) ≡ length (c .band)) where
-  kept-lent : (w : World) (e : Event) → Kept w e → AtHome w → Each Lent (w .chain .warps) → Each Lent (happens w e .chain .warps)
-  unfolding happens
-  kept-lent w (Calls a) kept home lent = call-lent w a kept home lent
-  kept-lent w (Writes from bytes) kept home lent = lent
-  kept-lent w (Lies from) kept home lent = lent
+kept-lent : (w : World) (e : Event) → Kept w e → AtHome w → Each Lent (w .chain .warps) → Each Lent (happens w e .chain .warps)
+unfolding happens
+kept-lent w (Calls a) kept home lent = call-lent w a kept home lent
+kept-lent w (Writes from bytes) kept home lent = lent
+kept-lent w (Lies from) kept home lent = lent
 
-  pub all-lent : (w : World) (events : List Event) → AllKept w events → AtHome w → Each Lent (w .chain .warps) → Each Lent (lived w events .chain .warps)
-  unfolding AllKept lived
-  all-lent w [] kept home lent = lent
-  all-lent w (e ∷ es) kept home lent = all-lent (happens w e) es (kept .1) (kept-home keeps-length w e (kept .0) home) (kept-lent w e (kept .0) home lent)
+pub all-lent : (w : World) (events : List Event) → AllKept w events → AtHome w → Each Lent (w .chain .warps) → Each Lent (lived w events .chain .warps)
+unfolding AllKept lived
+all-lent w [] kept home lent = lent
+all-lent w (e ∷ es) kept home lent = all-lent (happens w e) es (kept .1) (kept-home w e (kept .0) home) (kept-lent w e (kept .0) home lent)

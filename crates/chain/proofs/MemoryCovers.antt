@@ -5,7 +5,6 @@ use mathlib.Core.List.{List, [], _∷_, _++_}
 use Prim.Native.Nat.{ℕ, _+_}
 use native.Mathlib.Omega.{arith}
 use lib.ListN.{length}
-use Rattle.distort.specs.Call.{left}
 use Rattle.distort.specs.Job.{Image, Call}
 use Rattle.chain.specs.Demand.{First, Lent, Conditions, Each, ThirdDemand}
 use Rattle.chain.specs.Memory.{Memory, written, Event, Writes, Lies, At, World, happens, lived, AllKept, born, MemoryDemand}
@@ -42,7 +41,7 @@ module _ (w : World) (f : ℕ) (free : Free w f) where
   unfolding lived happens
   shown-home = refl
 
-module _ (keeps-length : (c : Call) → length (left c) ≡ length (c .band)) (demand : MemoryDemand) (first : Image) (calls : List Call) where
+module _ (demand : MemoryDemand) (first : Image) (calls : List Call) where
   abbrev m : Memory
   m = written (λ (a : ℕ). 0) 0 (first .bytes)
 
@@ -60,7 +59,7 @@ module _ (keeps-length : (c : Call) → length (left c) ≡ length (c .band)) (d
 
   module _ (lent : Each Lent (after first calls .warps)) where
     goes : Goes (born m first 0) (scenes n calls) (after first calls) (end n calls)
-    goes = all-goes keeps-length calls (born m first 0) n (λ from e. let z : 0 ≡ from = cc in omega arith) lent
+    goes = all-goes calls (born m first 0) n (λ from e. let z : 0 ≡ from = cc in omega arith) lent
 
     last : Goes w (shown w (end n calls)) (w .chain) (end n calls + length (w .chain .image .bytes))
     last = shown-goes w (end n calls) (goes .free)
@@ -75,7 +74,7 @@ module _ (keeps-length : (c : Call) → length (left c) ≡ length (c .band)) (d
     home = ap (λ (v : World). v .home) (lived-on (born m first 0) (scenes n calls) (shown w (end n calls))) ∙ shown-home w (end n calls) (goes .free)
 
     holds : AtHome u
-    holds = all-home keeps-length (born m first 0) events kept (born-home m first 0 (read-back (λ (a : ℕ). 0) 0 (first .bytes)))
+    holds = all-home (born m first 0) events kept (born-home m first 0 (read-back (λ (a : ℕ). 0) 0 (first .bytes)))
 
     covers : First first → Each Conditions (after first calls .warps) → Claimed first (after first calls) (after first calls .image)
     covers is conditions =
@@ -83,5 +82,5 @@ module _ (keeps-length : (c : Call) → length (left c) ≡ length (c .band)) (d
         (subst (Claimed first (u .chain)) (lying-is u (end n calls) holds home)
         (demand m first 0 events (read-back (λ (a : ℕ). 0) 0 (first .bytes)) is kept (subst (λ (s : State). Each Conditions (s .warps)) (sym chain) conditions) (end n calls) home))
 
-pub memory-covers : ((c : Call) → length (left c) ≡ length (c .band)) → MemoryDemand → ThirdDemand
-memory-covers keeps-length demand first calls is lent conditions = covers keeps-length demand first calls lent is conditions
+pub memory-covers : MemoryDemand → ThirdDemand
+memory-covers demand first calls is lent conditions = covers demand first calls lent is conditions

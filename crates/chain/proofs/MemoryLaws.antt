@@ -4,7 +4,6 @@ use mathlib.Core.Path.{_≡_, refl, sym, ap, _∙_, subst}
 use mathlib.Core.List.{List, [], _∷_}
 use Prim.Native.Nat.{ℕ}
 use lib.ListN.{length}
-use Rattle.distort.specs.Call.{left}
 use Rattle.distort.specs.Job.{Image, Call}
 use Rattle.chain.specs.Demand.{First, Lent, Conditions, Each, Near, ThirdDemand, NoWarps}
 use Rattle.chain.specs.Exact.{exactly, exactChain}
@@ -35,7 +34,7 @@ lying-is w to home e = λ i. record { bytes = home to e i; width = w .chain .ima
 abbrev pub Claimed : Image → State → Image → Type 0
 Claimed first s p = Near p (exactChain (exactly first) (s .warps)) (length (s .warps))
 
-module _ (keeps-length : (c : Call) → length (left c) ≡ length (c .band)) (third : ThirdDemand) where
+module _ (third : ThirdDemand) where
   module _ (m : Memory) (first : Image) (from : ℕ) (events : List Event) where
     abbrev w : World
     w = lived (born m first from) events
@@ -54,16 +53,16 @@ module _ (keeps-length : (c : Call) → length (left c) ≡ length (c .band)) (t
         same = lived-run (born m first from) events
 
         lent : Each Lent (w .chain .warps)
-        lent = all-lent keeps-length (born m first from) events kept (born-home m first from there) tt
+        lent = all-lent (born m first from) events kept (born-home m first from there) tt
 
   pub memory-demand : MemoryDemand
   memory-demand m first from events there is kept conditions to e =
       let w = lived (born m first from) events in
-      let home : AtHome w = all-home keeps-length (born m first from) events kept (born-home m first from there) in
+      let home : AtHome w = all-home (born m first from) events kept (born-home m first from there) in
       subst (Claimed first (w .chain)) (sym (lying-is w to home e)) (chain-near m first from events there is kept conditions)
 
 -- with no warps the first picture lies there, byte for byte
-module _ (keeps-length : (c : Call) → length (left c) ≡ length (c .band)) (none : NoWarps) where
+module _ (none : NoWarps) where
   pub memory-no-warps : (m : Memory) (first : Image) (from : ℕ) (events : List Event) → read m from (length (first .bytes)) ≡ first .bytes
       → AllKept (born m first from) events → lived (born m first from) events .chain .warps ≡ []
       → (to : ℕ) → lived (born m first from) events .home ≡ At to → lying (lived (born m first from) events) to ≡ first
@@ -71,5 +70,5 @@ module _ (keeps-length : (c : Call) → length (left c) ≡ length (c .band)) (n
       let w = lived (born m first from) events in
       let calls : List Call = callsOf (born m first from) events in
       let same : w .chain ≡ after first calls = lived-run (born m first from) events in
-      let home : AtHome w = all-home keeps-length (born m first from) events kept (born-home m first from there) in
+      let home : AtHome w = all-home (born m first from) events kept (born-home m first from there) in
       lying-is w to home e ∙ ap (λ (s : State). s .image) same ∙ none first calls (sym (ap (λ (s : State). s .warps) same) ∙ empty)

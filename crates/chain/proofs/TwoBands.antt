@@ -12,6 +12,7 @@ use Rattle.distort.specs.Job.{Image, Given, Call}
 use Rattle.chain.specs.Memory.{Memory, read, written, Asked, callIn, Event, Calls, Writes, Lies, Home, Nowhere, At, World, happens, lived, size, InBuffer, KeptCall, Kept, AllKept, born}
 use Rattle.chain.specs.Warps.{State, start, accepted, allRows, completes, group, together, warped, waits}
 use Rattle.chain.proofs.ApartLaws.{asking, apart-by, write-by}
+use Rattle.chain.proofs.LengthLaws.{keeps-length}
 use Rattle.chain.proofs.ReadLaws.{read-length, read-on, read-back, read-apart}
 use Rattle.chain.proofs.TurnLaws.{Makes, joined-makes, alone-makes}
 
@@ -56,7 +57,7 @@ module _ (m : Memory) (first : Image) (A B P n k r q : ℕ) (g : Given) where
     pub top-fits : B + n ≤ P
     pub bottom-fits : B + k ≤ P
 
-  module _ (keeps-length : (c : Call) → length (left c) ≡ length (c .band)) (t : TwoBands) where
+  module _ (t : TwoBands) where
     makes-top : Makes (start first) c (waits (start first) c) (λ band home. home)
     makes-top = alone-makes (start first) c (t .top-accepted) (t .top-some) (t .top-waits)
 

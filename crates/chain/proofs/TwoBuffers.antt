@@ -11,6 +11,7 @@ use Rattle.distort.specs.Job.{Image, Given, Call}
 use Rattle.chain.specs.Memory.{Memory, Asked, callIn, Event, Calls, Writes, At, World, happens, lived, size, KeptCall, Kept, AllKept, born}
 use Rattle.chain.specs.Warps.{State, start, pictured, accepted, allRows, warped}
 use Rattle.chain.proofs.ApartLaws.{asking, apart-by, write-by}
+use Rattle.chain.proofs.LengthLaws.{keeps-length}
 use Rattle.chain.proofs.ReadLaws.{read-length}
 use Rattle.chain.proofs.TurnLaws.{Makes, whole-makes}
 
@@ -44,7 +45,7 @@ module _ (m : Memory) (first : Image) (A B n k r q : ℕ) (g h : Given) (bytes :
     pub bytes-fit : A + length bytes ≤ B
     pub band-fits : A + k ≤ B
 
-  module _ (keeps-length : (c : Call) → length (left c) ≡ length (c .band)) (t : TwoWarps) where
+  module _ (t : TwoWarps) where
     makes : Makes (start first) c (warped (start first) c (left c)) (λ band home. At band)
     makes = whole-makes (start first) c (t .first-accepted) (t .first-whole)
 

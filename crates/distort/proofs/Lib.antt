@@ -11,3 +11,4 @@ pub mod PlacedLaws
 pub mod ReachLaws
 pub mod RowLaws
 pub mod SizeLaws
+pub mod Witness

@@ -35,46 +35,55 @@ above : (n : ℕ) → (n ≡ 0 → ⊥) → 0 < n
 above n h = omega arith
 
 module _ (c : Call) where
+  abbrev p : Image
+  p = c .image
+
+  abbrev g : Given
+  g = c .given
+
+  abbrev m : Mapping
+  m = fitOf (c .image) (c .given) .mapping
+
   abbrev Done : Answer → List ℕ → Type 0
   Done r out = (r ≡ answer c) × (out ≡ left c)
 
   -- both at once
   parts : {r : Answer} {out : List ℕ} → _≡_ {A = Answer × List ℕ} (r, out) (done c) → Done r out
-  parts e = (ap (λ (p : Answer × List ℕ). p .0) e, ap (λ (p : Answer × List ℕ). p .1) e)
+  parts e = (ap (λ (q : Answer × List ℕ). q .0) e, ap (λ (q : Answer × List ℕ). q .1) e)
 
-  refused-by : (n : ℕ) → 0 < n → jobRefusal (c .image) (c .given) ≡ n → Done (Refused n) (c .band)
+  refused-by : (n : ℕ) → 0 < n → jobRefusal p g ≡ n → Done (Refused n) (c .band)
   refused-by n h e = parts (refused-answer c n h (job-call c n h e))
 
   -- what the code's first tests read
   abbrev plain : Given
-  plain = plainly (c .given .method) (c .given .arguments) (c .given .policy) (c .given .interpolation) (c .given .background) (c .given .matte)
+  plain = plainly (g .method) (g .arguments) (g .policy) (g .interpolation) (g .background) (g .matte)
 
-  same-tests : unfit (c .image) plain ≡ unfit (c .image) (c .given)
+  same-tests : unfit p plain ≡ unfit p g
   unfolding unfit
   same-tests = refl
 
-  module _ {number : ℕ} (tests : number ≡ unfit (c .image) plain) where
+  module _ {number : ℕ} (tests : number ≡ unfit p plain) where
     -- ---- 1 to 7
     pub by-tests : (number ≡ 0 → ⊥) → Done (Refused number) (c .band)
-    by-tests h = refused-by number (above number h) (unfit-job (c .image) (c .given) number (above number h) (sym (tests ∙ same-tests)))
+    by-tests h = refused-by number (above number h) (unfit-job p g number (above number h) (sym (tests ∙ same-tests)))
 
     module _ (none : number ≡ 0) where
-      passes : unfit (c .image) (c .given) ≡ 0
+      passes : unfit p g ≡ 0
       passes = sym (tests ∙ same-tests) ∙ none
 
-      passed : Passed (c .image) (c .given)
-      passed = unfit-passed (c .image) (c .given) passes
+      passed : Passed p g
+      passed = unfit-passed p g passes
 
-      pub picture-known : Picture (c .image .bytes) (c .image .width) (c .image .height) (c .image .channels)
-      picture-known = picture-fit (c .image) (passed .size) (passed .stock)
+      pub picture-known : Picture (p .bytes) (p .width) (p .height) (p .channels)
+      picture-known = picture-fit p (passed .size) (passed .stock)
 
-      pub channels-known : {n : ℕ} (background : Rgba) → n ≡ widest (c .image .channels) (c .given .policy) background → OneThreeFour n
+      pub channels-known : {n : ℕ} (background : Rgba) → n ≡ widest (p .channels) (g .policy) background → OneThreeFour n
       channels-known background e =
           subst⁻¹ OneThreeFour e
-          (widest-known (c .image .channels) (c .given .policy) background (size-fit (c .image .width) (c .image .height) (c .image .channels) (passed .size) .channels-known))
+          (widest-known (p .channels) (g .policy) background (size-fit (p .width) (p .height) (p .channels) (passed .size) .channels-known))
 
-      module _ {f : Fitted} (fits : f ≡ build (c .given .method) (c .given .arguments) (c .image .width) (c .image .height)) where
-        fitted : f ≡ fitOf (c .image) (c .given)
+      module _ {f : Fitted} (fits : f ≡ build (g .method) (g .arguments) (p .width) (p .height)) where
+        fitted : f ≡ fitOf p g
         unfolding fitOf
         fitted = fits
 
@@ -83,43 +92,43 @@ module _ (c : Call) where
         unfolding degenerate
         by-fit h =
             let e = ap (λ (x : Fitted). x .refusal) fitted in
-            let eight : fitOf (c .image) (c .given) .refusal ≡ 8 = ⊎-elim (λ q. absurd (h (e ∙ q))) (λ q. q) (fit-8 (c .image) (c .given) passed) in
+            let eight : fitOf p g .refusal ≡ 8 = ⊎-elim (λ q. absurd (h (e ∙ q))) (λ q. q) (fit-8 p g passed) in
             subst⁻¹ (λ (n : ℕ). Done (Refused n) (c .band)) (e ∙ eight)
-            (refused-by 8 (lit≤ tt) (fit-job (c .image) (c .given) passes ∙ sym (row-holds 8 _ _ (eq-eqb _ _ eight))))
+            (refused-by 8 (lit≤ tt) (fit-job p g passes ∙ sym (row-holds 8 _ _ (eq-eqb _ _ eight))))
 
         module _ (maps : f .refusal ≡ 0) where
           -- past 8, what is left of the job's table is 9
-          window-left : jobRefusal (c .image) (c .given) ≡ firstOf ((9, badWindow (c .image) (c .given)) ∷ [])
+          window-left : jobRefusal p g ≡ firstOf ((9, badWindow p g) ∷ [])
           unfolding degenerate
           window-left =
-              fit-job (c .image) (c .given) passes
+              fit-job p g passes
               ∙ sym (row-passed 8 _ _ (ne-eqb _ _ (λ q. eight (sym (ap (λ (x : Fitted). x .refusal) fitted) ∙ maps) q)) refl)
             where
               eight : {n : ℕ} → n ≡ 0 → n ≡ 8 → ⊥
               eight a b = omega arith
 
           -- ---- 9, and the window
-          at-window : windowed (windowOf (c .image) (c .given)) (sourceOf (c .image) (c .given)) (fitOf (c .image) (c .given) .mapping .kind) (fitOf (c .image) (c .given) .mapping .order) (fitOf (c .image) (c .given) .mapping .count) (fitOf (c .image) (c .given) .mapping .coef) (channelsOf (c .image) (c .given)) (c .first) (c .rows) (c .band) ≡ done c
+          at-window : windowed (windowOf p g) (sourceOf p g) (m .kind) (m .order) (m .count) (m .coef) (channelsOf p g) (c .first) (c .rows) (c .band) ≡ done c
           unfolding windowed badWindow
-          at-window = go (windowOf (c .image) (c .given)) refl
+          at-window = go (windowOf p g) refl
             where
-              go : (w : Placed) → windowOf (c .image) (c .given) ≡ w → windowed w (sourceOf (c .image) (c .given)) (fitOf (c .image) (c .given) .mapping .kind) (fitOf (c .image) (c .given) .mapping .order) (fitOf (c .image) (c .given) .mapping .count) (fitOf (c .image) (c .given) .mapping .coef) (channelsOf (c .image) (c .given)) (c .first) (c .rows) (c .band) ≡ done c
+              go : (w : Placed) → windowOf p g ≡ w → windowed w (sourceOf p g) (m .kind) (m .order) (m .count) (m .coef) (channelsOf p g) (c .first) (c .rows) (c .band) ≡ done c
               go (Window w h x y) e =
-                  (λ i. inWindow (sourceOf (c .image) (c .given)) (record { kind = fitOf (c .image) (c .given) .mapping .kind; order = fitOf (c .image) (c .given) .mapping .order; count = fitOf (c .image) (c .given) .mapping .count; coef = fitOf (c .image) (c .given) .mapping .coef; x = xOf (sym e i); y = yOf (sym e i) }) (channelsOf (c .image) (c .given)) (widthOf (sym e i)) (heightOf (sym e i)) (c .first) (c .rows) (c .band))
-                  ∙ placed-answer c (window-left ∙ sym (row-passed 9 _ _ (ap (λ (p : Placed). eqb (refusalOf p) 9) e) no-rows))
+                  (λ i. inWindow (sourceOf p g) (record { kind = m .kind; order = m .order; count = m .count; coef = m .coef; x = xOf (sym e i); y = yOf (sym e i) }) (channelsOf p g) (widthOf (sym e i)) (heightOf (sym e i)) (c .first) (c .rows) (c .band))
+                  ∙ placed-answer c (window-left ∙ sym (row-passed 9 _ _ (ap (λ (q : Placed). eqb (refusalOf q) 9) e) no-rows))
               go Placed.Refused e =
-                  refused-answer c 9 (lit≤ tt) (job-call c 9 (lit≤ tt) (window-left ∙ sym (row-holds 9 _ _ (ap (λ (p : Placed). eqb (refusalOf p) 9) e))))
+                  refused-answer c 9 (lit≤ tt) (job-call c 9 (lit≤ tt) (window-left ∙ sym (row-holds 9 _ _ (ap (λ (q : Placed). eqb (refusalOf q) 9) e))))
 
           pub by-window : {best viewport : Bool} {width height : ℕ} {x y : ℤ} {background matte : Rgba} {channels : ℕ} {r : Answer} {out : List ℕ}
-              → best ≡ yes (c .given .bestfit) → viewport ≡ yes (c .given .viewport) → (viewport ≡ true → Viewed c width height x y)
-              → background ≡ colourOf (c .given .background) → matte ≡ colourOf (c .given .matte) → channels ≡ widest (c .image .channels) (c .given .policy) background
-              → _≡_ {A = Answer × List ℕ} (r, out) (windowed (window (f .mapping .kind) (f .mapping .coef) (c .image .width) (c .image .height) best viewport width height x y) (record { image = c .image; policy = c .given .policy; interpolation = c .given .interpolation; background = background; matte = matte }) (f .mapping .kind) (f .mapping .order) (f .mapping .count) (f .mapping .coef) channels (c .first) (c .rows) (c .band))
+              → best ≡ yes (g .bestfit) → viewport ≡ yes (g .viewport) → (viewport ≡ true → Viewed c width height x y)
+              → background ≡ colourOf (g .background) → matte ≡ colourOf (g .matte) → channels ≡ widest (p .channels) (g .policy) background
+              → _≡_ {A = Answer × List ℕ} (r, out) (windowed (window (f .mapping .kind) (f .mapping .coef) (p .width) (p .height) best viewport width height x y) (record { image = p; policy = g .policy; interpolation = g .interpolation; background = background; matte = matte }) (f .mapping .kind) (f .mapping .order) (f .mapping .count) (f .mapping .coef) channels (c .first) (c .rows) (c .band))
               → Done r out
           unfolding windowOf
           by-window {best} {viewport} {width} {height} {x} {y} {background} {matte} {channels} eb ev seen eg em ec e =
-              let wide = ec ∙ ap (widest (c .image .channels) (c .given .policy)) eg in
+              let wide = ec ∙ ap (widest (p .channels) (g .policy)) eg in
               parts
               (e
-              ∙ ap (λ (p : Placed). windowed p (record { image = c .image; policy = c .given .policy; interpolation = c .given .interpolation; background = background; matte = matte }) (f .mapping .kind) (f .mapping .order) (f .mapping .count) (f .mapping .coef) channels (c .first) (c .rows) (c .band)) (view-read c (f .mapping .kind) (f .mapping .coef) best viewport width height x y seen)
-              ∙ (λ i. windowed (window (fitted i .mapping .kind) (fitted i .mapping .coef) (c .image .width) (c .image .height) (eb i) (ev i) (c .given .viewWidth) (c .given .viewHeight) (c .given .viewX) (c .given .viewY)) (record { image = c .image; policy = c .given .policy; interpolation = c .given .interpolation; background = eg i; matte = em i }) (fitted i .mapping .kind) (fitted i .mapping .order) (fitted i .mapping .count) (fitted i .mapping .coef) (wide i) (c .first) (c .rows) (c .band))
+              ∙ ap (λ (q : Placed). windowed q (record { image = p; policy = g .policy; interpolation = g .interpolation; background = background; matte = matte }) (f .mapping .kind) (f .mapping .order) (f .mapping .count) (f .mapping .coef) channels (c .first) (c .rows) (c .band)) (view-read c (f .mapping .kind) (f .mapping .coef) best viewport width height x y seen)
+              ∙ (λ i. windowed (window (fitted i .mapping .kind) (fitted i .mapping .coef) (p .width) (p .height) (eb i) (ev i) (g .viewWidth) (g .viewHeight) (g .viewX) (g .viewY)) (record { image = p; policy = g .policy; interpolation = g .interpolation; background = eg i; matte = em i }) (fitted i .mapping .kind) (fitted i .mapping .order) (fitted i .mapping .count) (fitted i .mapping .coef) (wide i) (c .first) (c .rows) (c .band))
               ∙ at-window)

@@ -15,3 +15,4 @@ pub mod RowLaws
 pub mod SampleLaws
 pub mod SizeLaws
 pub mod ViewLaws
+pub mod Witness

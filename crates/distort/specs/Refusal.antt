@@ -1,6 +1,6 @@
 -- Document 01's refusal table: each test by itself, then the table. A test stands on its own and may be asked out of turn; the table's order says which
 -- number a caller gets. Assumes nothing.
-use Prim.Native.Nat.{ℕ, _+_, _*_, _/_}
+use Prim.Native.Nat.{ℕ, _+_, _*_}
 use mathlib.Core.Bool.{Bool, false, not, _||_, cond}
 use mathlib.Core.List.{List, [], _∷_}
 use lib.Dec.{eqb, ltb}

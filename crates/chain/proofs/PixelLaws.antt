@@ -38,13 +38,14 @@ use Rattle.window.specs.Window.{widthOf, heightOf, xOf, yOf}
 use Rattle.distort.specs.Band.{pointAt, shown, colourAt}
 use Rattle.distort.specs.Call.{outWidth, outHeight, frameOf, sourceOf}
 use Rattle.distort.specs.Job.{Image, Given, colourOf}
-use Rattle.distort.specs.Refusal.{transparent, fitOf, windowOf, channelsOf}
+use Rattle.distort.specs.Refusal.{transparent, fitOf, windowOf, widest, channelsOf}
+use Rattle.distort.proofs.SampleLaws.{part as component}
 use Rattle.distort.specs.declared.answer.Answer.{Answer}
 use Rattle.distort.specs.declared.answer.Answer.the-variants.{Accepted}
 use Rattle.chain.specs.Demand.{InUnit, OpaqueColour, bilinear}
 use Rattle.chain.specs.Exact.{ExactImage, plane, mappingOf, source, warpedSample}
 use Rattle.chain.proofs.Faithful.{Faithful, error-nonneg}
-use Rattle.chain.proofs.PlaneLaws.{component, opaque-place, exact, plane-units, plane-near, plane-unit, plane-alpha}
+use Rattle.chain.proofs.PlaneLaws.{opaque-place, exact, plane-units, plane-near, plane-unit, plane-alpha}
 
 -- ---- a warp of the chain keeps the channels
 closed : lt one one ≡ false
@@ -55,7 +56,7 @@ not-below : (x : Float) → x ≡ one → lt x one ≡ false
 not-below x e = subst (λ (z : Float). lt z one ≡ false) (sym e) closed
 
 pub channels-kept : (p : Image) (g : Given) → (p .channels ≡ 3) ⊎ (p .channels ≡ 4) → (g .policy ≡ transparent → ⊥) → OpaqueColour (colourOf (g .background)) → channelsOf p g ≡ p .channels
-unfolding channelsOf
+unfolding widest
 channels-kept p g s f o = ⊎-elim (λ (e : p .channels ≡ 3). along 3 e refl) (λ (e : p .channels ≡ 4). along 4 e refl) s
   where
     tests : (eqb (g .policy) transparent || lt (colourOf (g .background) .a) one) ≡ false

@@ -1,6 +1,8 @@
 -- The laws of the distort call.
 pub mod AcceptedLaws
 pub mod BandLaws
+pub mod BandSamples
+pub mod ByteLaws
 pub mod CallLaws
 pub mod JobLaws
 pub mod JoinedLaws
@@ -8,4 +10,5 @@ pub mod LargeLaws
 pub mod PixelLaws
 pub mod ReachLaws
 pub mod RowLaws
+pub mod SampleLaws
 pub mod SizeLaws

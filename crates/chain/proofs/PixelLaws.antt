@@ -39,12 +39,13 @@ use Rattle.distort.specs.Band.{pointAt, shown, colourAt}
 use Rattle.distort.specs.Call.{outWidth, outHeight, frameOf, sourceOf}
 use Rattle.distort.specs.Job.{Image, Given, colourOf}
 use Rattle.distort.specs.Refusal.{transparent, fitOf, windowOf, widest, channelsOf}
+use Rattle.distort.proofs.SampleLaws.{part as component}
 use Rattle.distort.specs.declared.answer.Answer.{Answer}
 use Rattle.distort.specs.declared.answer.Answer.the-variants.{Accepted}
 use Rattle.chain.specs.Demand.{InUnit, OpaqueColour, bilinear}
 use Rattle.chain.specs.Exact.{ExactImage, plane, mappingOf, source, warpedSample}
 use Rattle.chain.proofs.Faithful.{Faithful, error-nonneg}
-use Rattle.chain.proofs.PlaneLaws.{component, opaque-place, exact, plane-units, plane-near, plane-unit, plane-alpha}
+use Rattle.chain.proofs.PlaneLaws.{opaque-place, exact, plane-units, plane-near, plane-unit, plane-alpha}
 
 -- ---- a warp of the chain keeps the channels
 closed : lt one one ≡ false

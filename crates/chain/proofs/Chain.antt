@@ -113,4 +113,5 @@ pub third-demand : ThirdDemand
 third-demand first calls F L C = after-sound first calls .faithful F L C .near
 
 pub no-warps : NoWarps
-no-warps first calls e = after-sound first calls .none e
+unfolding exactChain
+no-warps first calls e = (after-sound first calls .none e, ap (exactChain (exactly first)) e)

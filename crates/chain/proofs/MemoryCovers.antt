@@ -7,11 +7,11 @@ use native.Mathlib.Omega.{arith}
 use lib.ListN.{length}
 use Rattle.distort.specs.Job.{Image, Call}
 use Rattle.chain.specs.Demand.{First, Lent, Conditions, Each, ThirdDemand}
-use Rattle.chain.specs.Memory.{Memory, written, Event, Writes, Lies, At, World, happens, lived, AllKept, born, MemoryDemand}
+use Rattle.chain.specs.Memory.{Memory, written, Event, Writes, Lies, At, World, happens, lived, AllKept, born, Claimed, MemoryDemand}
 use Rattle.chain.specs.Warps.{State, after}
 use Rattle.chain.proofs.EveryList.{Free, Goes, write-goes, lies-goes, all-goes}
 use Rattle.chain.proofs.HomeLaws.{AtHome, all-home, born-home}
-use Rattle.chain.proofs.MemoryLaws.{Claimed, lying-is}
+use Rattle.chain.proofs.MemoryLaws.{lying-is}
 use Rattle.chain.proofs.ReadLaws.{read-back}
 use Rattle.chain.proofs.Scenes.{scenes, end}
 
@@ -80,7 +80,7 @@ module _ (demand : MemoryDemand) (first : Image) (calls : List Call) where
     covers is conditions =
         subst (λ (s : State). Claimed first s (s .image)) chain
         (subst (Claimed first (u .chain)) (lying-is u (end n calls) holds home)
-        (demand m first 0 events (read-back (λ (a : ℕ). 0) 0 (first .bytes)) is kept (subst (λ (s : State). Each Conditions (s .warps)) (sym chain) conditions) (end n calls) home))
+        (demand m first 0 events (read-back (λ (a : ℕ). 0) 0 (first .bytes)) is kept (subst (λ (s : State). Each Conditions (s .warps)) (sym chain) conditions) .1 (end n calls) home))
 
 pub memory-covers : MemoryDemand → ThirdDemand
 memory-covers demand first calls is lent conditions = covers demand first calls lent is conditions

@@ -237,6 +237,7 @@ lived-near : MemoryDemand → Claim (lived w0 events)
 lived-near demand =
     demand m0 p0 0 events (read-back (λ (a : ℕ). 0) 0 (p0 .bytes)) first (went .kept)
     (subst⁻¹ (λ (w : World). Each Conditions (w .chain .warps)) (went .is) conditions)
+    .1
     0
     (ap (λ (w : World). w .home) (went .is))
 

@@ -7,7 +7,7 @@ use lib.ListN.{length}
 use Rattle.distort.specs.Job.{Image, Call}
 use Rattle.chain.specs.Demand.{First, Lent, Conditions, Each, Near, ThirdDemand, NoWarps}
 use Rattle.chain.specs.Exact.{exactly, exactChain}
-use Rattle.chain.specs.Memory.{Memory, read, callIn, Event, Calls, Writes, Lies, At, World, happens, lived, AllKept, born, lying, MemoryDemand}
+use Rattle.chain.specs.Memory.{Memory, read, callIn, Event, Calls, Writes, Lies, At, World, happens, lived, AllKept, born, lying, Claimed, MemoryDemand}
 use Rattle.chain.specs.Warps.{State, run, after}
 use Rattle.chain.proofs.HomeLaws.{AtHome, all-home, born-home}
 use Rattle.chain.proofs.LentLaws.{all-lent}
@@ -31,9 +31,6 @@ pub lying-is : (w : World) (to : ℕ) → AtHome w → w .home ≡ At to → lyi
 lying-is w to home e = λ i. record { bytes = home to e i; width = w .chain .image .width; height = w .chain .image .height; channels = w .chain .image .channels }
 
 -- ---- the demand
-abbrev pub Claimed : Image → State → Image → Type 0
-Claimed first s p = Near p (exactChain (exactly first) (s .warps)) (length (s .warps))
-
 module _ (third : ThirdDemand) where
   module _ (m : Memory) (first : Image) (from : ℕ) (events : List Event) where
     abbrev w : World
@@ -56,10 +53,11 @@ module _ (third : ThirdDemand) where
         lent = all-lent (born m first from) events kept (born-home m first from there) tt
 
   pub memory-demand : MemoryDemand
-  memory-demand m first from events there is kept conditions to e =
+  memory-demand m first from events there is kept conditions =
       let w = lived (born m first from) events in
       let home : AtHome w = all-home (born m first from) events kept (born-home m first from there) in
-      subst (Claimed first (w .chain)) (sym (lying-is w to home e)) (chain-near m first from events there is kept conditions)
+      let near = chain-near m first from events there is kept conditions in
+      (near, λ to e. subst (Claimed first (w .chain)) (sym (lying-is w to home e)) near)
 
 -- with no warps the first picture lies there, byte for byte
 module _ (none : NoWarps) where
@@ -71,4 +69,4 @@ module _ (none : NoWarps) where
       let calls : List Call = callsOf (born m first from) events in
       let same : w .chain ≡ after first calls = lived-run (born m first from) events in
       let home : AtHome w = all-home (born m first from) events kept (born-home m first from there) in
-      lying-is w to home e ∙ ap (λ (s : State). s .image) same ∙ none first calls (sym (ap (λ (s : State). s .warps) same) ∙ empty)
+      lying-is w to home e ∙ ap (λ (s : State). s .image) same ∙ none first calls (sym (ap (λ (s : State). s .warps) same) ∙ empty) .0

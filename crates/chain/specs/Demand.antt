@@ -103,4 +103,6 @@ ThirdDemand =
 
 -- with no warps both pictures are equal
 abbrev pub NoWarps : Type 0
-NoWarps = (first : Image) (calls : List Call) → warpsOf first calls ≡ [] → after first calls .image ≡ first
+NoWarps =
+    (first : Image) (calls : List Call) → warpsOf first calls ≡ []
+    → (after first calls .image ≡ first) × (exactChain (exactly first) (warpsOf first calls) ≡ exactly first)

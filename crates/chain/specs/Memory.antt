@@ -1,5 +1,5 @@
 -- The third demand of memory: calls read and write ranges of one memory of bytes, and the host writes between them, under document 01's words on sharing. Calls come
--- one after the other, and a call has read all that it is lent before it writes. Assumes nothing.
+-- one after the other, and a call has read all that it is lent before it writes. What else is lent to a call, the answer's bytes among it, counts as written by the host. Assumes nothing.
 use Prim.Native.Nat.{ℕ, zero, suc, _+_, _-_, _≤_, _<_}
 use mathlib.Core.Path.{_≡_}
 use mathlib.Core.Bool.{Bool, true, _&&_, cond}
@@ -139,9 +139,14 @@ lying w from = record {
   channels = w .chain .image .channels;
 }
 
+-- what is claimed of a picture after all that happened
+abbrev pub Claimed : Image → State → Image → Type 0
+Claimed first s p = Near p (exactChain (exactly first) (s .warps)) (length (s .warps))
+
+-- of the chain's picture, wherever its rows are, and of what lies where it lies whole
 abbrev pub MemoryDemand : Type 0
 MemoryDemand =
     (m : Memory) (first : Image) (from : ℕ) (events : List Event) → read m from (length (first .bytes)) ≡ first .bytes → First first
     → AllKept (born m first from) events → Each Conditions (lived (born m first from) events .chain .warps)
-    → (to : ℕ) → lived (born m first from) events .home ≡ At to
-    → Near (lying (lived (born m first from) events) to) (exactChain (exactly first) (lived (born m first from) events .chain .warps)) (length (lived (born m first from) events .chain .warps))
+    → Claimed first (lived (born m first from) events .chain) (lived (born m first from) events .chain .image)
+    × ((to : ℕ) → lived (born m first from) events .home ≡ At to → Claimed first (lived (born m first from) events .chain) (lying (lived (born m first from) events) to))

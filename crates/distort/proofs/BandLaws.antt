@@ -1,17 +1,23 @@
--- The laws of a band's rows: their length, and how many pixels can be matte. Assumes nothing.
-use mathlib.Core.Path.{_≡_, _∙_, subst}
-use mathlib.Core.Bool.{Bool, true, false, cond}
-use mathlib.Core.List.{List}
+-- The laws of a band: its length, a part of its rows, rows in two parts, and how many pixels are matte. A band for some rows of a job holds those rows of
+-- the job's whole output, byte for byte, and its matte pixels add up with the others'. Assumes nothing.
+use mathlib.Core.Path.{_≡_, sym, ap, _∙_, subst}
+use mathlib.Core.Bool.{cond}
+use mathlib.Core.List.{List, _++_}
 use Prim.Native.Nat.{ℕ, _+_, _*_, _≤_}
-use native.Mathlib.Nat.{mul-one}
+use native.Mathlib.Nat.{add-assoc, zero-add, mul-one}
 use native.Mathlib.Omega.{arith}
-use lib.ListN.{length}
-use Rattle.distort.specs.Band.{Frame, Source, pointAt, colourAt, matteAt, pixelBytes, rowBytes, rowMatte}
+use lib.Dec.{eqb}
+use lib.ListN.{length, take, drop}
+use Rattle.distort.specs.Band.{Frame, Source, pointAt, colourAt, matteAt, pixelBytes, rowBytes, rowsBytes, rowMatte, rowsMatte}
+use Rattle.distort.specs.Call.{outWidth, frameOf, sourceOf, rowsOf, matteOf, left}
+use Rattle.distort.specs.Job.{Image, Given, Call}
 use Rattle.distort.specs.Joined.{joined, totalled}
-use Rattle.distort.proofs.JoinedLaws.{joined-length, totalled-most}
+use Rattle.distort.specs.Refusal.{channelsOf, refusal}
+use Rattle.distort.proofs.JoinedLaws.{joined-length, joined-part, joined-cut, joined-same, totalled-cut, totalled-same, totalled-most}
 use Rattle.distort.proofs.PixelLaws.{pixel-length}
 use Rattle.distort.proofs.RowLaws.{bit-most}
 
+-- ---- of a source and a frame
 pub row-length : (s : Source) (f : Frame) (channels width j : ℕ) → length (rowBytes s f channels width j) ≡ width * channels * 4
 unfolding rowBytes
 row-length s f channels width j =
@@ -24,3 +30,77 @@ pub row-matte-most : (f : Frame) (width j : ℕ) → rowMatte f width j ≤ widt
 unfolding rowMatte
 row-matte-most f width j =
     subst (λ (n : ℕ). totalled (λ (i : ℕ). matteAt f i j) width ≤ n) (mul-one width) (totalled-most (λ (i : ℕ). matteAt f i j) 1 (λ i. bit-most (pointAt f i j .usable)) width)
+
+module _ (s : Source) (f : Frame) (channels width : ℕ) where
+  bytes-length : (first rows : ℕ) → length (rowsBytes s f channels width first rows) ≡ rows * width * channels * 4
+  unfolding rowsBytes
+  bytes-length first rows =
+      joined-length (λ (r : ℕ). rowBytes s f channels width (first + r)) (width * channels * 4) (λ r. row-length s f channels width (first + r)) rows ∙ grouped rows width channels
+    where
+      grouped : (r w c : ℕ) → r * (w * c * 4) ≡ r * w * c * 4
+      grouped r w c = omega arith
+
+  -- the rows from first + m on are the rows m and on from `first`
+  moved : (first m n : ℕ) → joined (λ (r : ℕ). rowBytes s f channels width (first + (m + r))) n ≡ rowsBytes s f channels width (first + m) n
+  unfolding rowsBytes
+  moved first m n =
+      joined-same (λ (r : ℕ). rowBytes s f channels width (first + (m + r))) (λ (r : ℕ). rowBytes s f channels width (first + m + r)) n
+      (λ k h. ap (rowBytes s f channels width) (sym (add-assoc first m k)))
+
+  bytes-part : (first m n t : ℕ) → m + n ≤ t
+      → take (n * (width * channels * 4)) (drop (m * (width * channels * 4)) (rowsBytes s f channels width first t)) ≡ rowsBytes s f channels width (first + m) n
+  unfolding rowsBytes
+  bytes-part first m n t h =
+      joined-part (λ (r : ℕ). rowBytes s f channels width (first + r)) (width * channels * 4) (λ r. row-length s f channels width (first + r)) m n t h ∙ moved first m n
+
+  bytes-join : (first m n : ℕ) → rowsBytes s f channels width first (m + n) ≡ rowsBytes s f channels width first m ++ rowsBytes s f channels width (first + m) n
+  unfolding rowsBytes
+  bytes-join first m n =
+      joined-cut (λ (r : ℕ). rowBytes s f channels width (first + r)) m n ∙ ap (λ (x : List ℕ). rowsBytes s f channels width first m ++ x) (moved first m n)
+
+  matte-join : (first m n : ℕ) → rowsMatte f width first (m + n) ≡ rowsMatte f width first m + rowsMatte f width (first + m) n
+  unfolding rowsMatte
+  matte-join first m n =
+      totalled-cut (λ (r : ℕ). rowMatte f width (first + r)) m n
+      ∙ ap (λ (z : ℕ). rowsMatte f width first m + z)
+      (totalled-same (λ (r : ℕ). rowMatte f width (first + (m + r))) (λ (r : ℕ). rowMatte f width (first + m + r)) n (λ k h. ap (rowMatte f width) (sym (add-assoc first m k))))
+
+-- ---- of a job
+module _ (p : Image) (g : Given) where
+  -- the bytes of a row
+  abbrev pub rowLength : ℕ
+  rowLength = outWidth p g * channelsOf p g * 4
+
+  pub rows-length : (first rows : ℕ) → length (rowsOf p g first rows) ≡ rows * outWidth p g * channelsOf p g * 4
+  unfolding rowsOf
+  rows-length first rows = bytes-length (sourceOf p g) (frameOf p g) (channelsOf p g) (outWidth p g) first rows
+
+  -- rows r to r + k of the warp
+  pub rows-part : (r k n : ℕ) → r + k ≤ n → take (k * rowLength) (drop (r * rowLength) (rowsOf p g 0 n)) ≡ rowsOf p g r k
+  unfolding rowsOf
+  rows-part r k n h =
+      bytes-part (sourceOf p g) (frameOf p g) (channelsOf p g) (outWidth p g) 0 r k n h
+      ∙ ap (λ (m : ℕ). rowsBytes (sourceOf p g) (frameOf p g) (channelsOf p g) (outWidth p g) m k) (zero-add r)
+
+  -- rows in two parts
+  pub rows-join : (r k l : ℕ) → rowsOf p g r (k + l) ≡ rowsOf p g r k ++ rowsOf p g (r + k) l
+  unfolding rowsOf
+  rows-join r k l = bytes-join (sourceOf p g) (frameOf p g) (channelsOf p g) (outWidth p g) r k l
+
+  pub mattes-add : (r k l : ℕ) → matteOf p g r (k + l) ≡ matteOf p g r k + matteOf p g (r + k) l
+  unfolding matteOf
+  mattes-add r k l = matte-join (sourceOf p g) (frameOf p g) (channelsOf p g) (outWidth p g) r k l
+
+-- ---- of calls: what an accepted call for some rows leaves are those rows of what the accepted call for all of them, from row 0 on, leaves
+accepted-left : (c : Call) → refusal c ≡ 0 → left c ≡ rowsOf (c .image) (c .given) (c .first) (c .rows)
+unfolding left
+accepted-left c e = ap (λ (n : ℕ). cond (eqb n 0) (rowsOf (c .image) (c .given) (c .first) (c .rows)) (c .band)) e
+
+pub left-part : (c warp : Call) → c .image ≡ warp .image → c .given ≡ warp .given → refusal c ≡ 0 → refusal warp ≡ 0 → warp .first ≡ 0 → c .first + c .rows ≤ warp .rows
+    → left c ≡ take (c .rows * rowLength (warp .image) (warp .given)) (drop (c .first * rowLength (warp .image) (warp .given)) (left warp))
+left-part c warp ei eg a b f h =
+    accepted-left c a
+    ∙ (λ t. rowsOf (ei t) (eg t) (c .first) (c .rows))
+    ∙ sym (rows-part (warp .image) (warp .given) (c .first) (c .rows) (warp .rows) h)
+    ∙ ap (λ (x : List ℕ). take (c .rows * rowLength (warp .image) (warp .given)) (drop (c .first * rowLength (warp .image) (warp .given)) x))
+    (sym (accepted-left warp b ∙ ap (λ (n : ℕ). rowsOf (warp .image) (warp .given) n (warp .rows)) f))

@@ -84,7 +84,7 @@ put-paste k s at n h =
     ∙ ap (λ (j : ℕ). take at s ++ digits k n ++ drop (at + j) s) (digits-length k n)
 
 -- ---- one sample
-abbrev sampleBytes : Float → List ℕ
+abbrev pub sampleBytes : Float → List ℕ
 sampleBytes v = digits 4 (toBits binary32 v)
 
 sample-next : {b now done : List ℕ} {n : ℕ} → SoFar b now done n → (k : ℕ) (v : Float) → n ≡ 4 * k → n + 4 ≤ length b
@@ -101,7 +101,7 @@ sample-next {b} {now} {done} {n} F k v e h =
     less n l h = omega arith
 
 -- ---- one colour, by the channels
-rgbBytes : Rgba → List ℕ
+unfoldable pub rgbBytes : Rgba → List ℕ
 rgbBytes c = sampleBytes (c .r) ++ sampleBytes (c .g) ++ sampleBytes (c .b)
 
 module _ {b now done : List ℕ} {n : ℕ} (F : SoFar b now done n) (k : ℕ) (c : Rgba) (e : n ≡ 4 * k) where
@@ -142,15 +142,15 @@ module _ {b now done : List ℕ} {n : ℕ} (F : SoFar b now done n) (k : ℕ) (c
 pub pixel-length : (channels : ℕ) (c : Rgba) → length (pixelBytes channels c) ≡ channels * 4
 pixel-length channels c = put-pixel-length (replicate (channels * 4) 0) channels 0 c ∙ length-replicate (channels * 4) 0
 
-bytes-one : (c : Rgba) → pixelBytes 1 c ≡ sampleBytes (luma c)
+pub bytes-one : (c : Rgba) → pixelBytes 1 c ≡ sampleBytes (luma c)
 unfolding putPixel narrowed
 bytes-one c = one-next (so-far-none (replicate 4 0)) 0 c refl (omega arith) .is ∙ append-nil (sampleBytes (luma c))
 
-bytes-three : (c : Rgba) → pixelBytes 3 c ≡ rgbBytes c
+pub bytes-three : (c : Rgba) → pixelBytes 3 c ≡ rgbBytes c
 unfolding putPixel narrowed
 bytes-three c = three-next (so-far-none (replicate 12 0)) 0 c refl (omega arith) .is ∙ append-nil (rgbBytes c)
 
-bytes-four : (c : Rgba) → pixelBytes 4 c ≡ rgbBytes c ++ sampleBytes (c .a)
+pub bytes-four : (c : Rgba) → pixelBytes 4 c ≡ rgbBytes c ++ sampleBytes (c .a)
 unfolding putPixel narrowed
 bytes-four c = four-next (so-far-none (replicate 16 0)) 0 c refl (omega arith) .is ∙ append-nil (rgbBytes c ++ sampleBytes (c .a))
 

@@ -2,7 +2,7 @@
 -- its length keeps within the band's. Assumes nothing.
 use mathlib.Core.Path.{_≡_, refl, sym, ap, _∙_, subst, subst⁻¹}
 use mathlib.Core.Bool.{Bool, true, false, cond}
-use mathlib.Core.List.{List, [], _++_, append-assoc, append-nil}
+use mathlib.Core.List.{List, _++_, append-assoc, append-nil}
 use Prim.Native.Nat.{ℕ, _+_, _*_, _≤_, _<_, zero-le}
 use native.Mathlib.Nat.{le-refl, le-trans, mul-one, mul-le-mul-left, mul-le-mul-right}
 use native.Mathlib.Omega.{arith}
@@ -12,7 +12,7 @@ use Rattle.sampler.specs.declared.colour.Rgba.{Rgba}
 use Rattle.distort.specs.Band.{pixelBytes}
 use Rattle.distort.specs.Joined.{joined, totalled}
 use Rattle.distort.proofs.JoinedLaws.{joined-none, joined-next, totalled-none, totalled-next}
-use Rattle.distort.proofs.PixelLaws.{Channels, channels-most, SoFar, so-far-from, so-far-none, so-far-next, so-far-length, pixel-next, pixel-length}
+use Rattle.distort.proofs.PixelLaws.{Channels, SoFar, so-far-from, so-far-next, so-far-length, pixel-next}
 
 -- ---- counting
 pub total-next : (f : ℕ → ℕ) (n : ℕ) {m r : ℕ} → m ≡ totalled f n → r ≡ f n → m + r ≡ totalled f (n + 1)

@@ -1,9 +1,8 @@
 -- `distort::pixel::put_one` meets its contract: one call after the other, and the mark of the source point says what `shown` asks. Assumes nothing.
-use mathlib.Core.Path.{_≡_, _∙_, subst⁻¹}
+use mathlib.Core.Path.{_∙_, subst⁻¹}
 use borrow.Author.Needs.{needs}
 use mir.Syntax.{w64}
 use mir.ValLaws.{toZ-ofZ}
-use Rattle.inverse.specs.declared.point.Point.{Point}
 use Rattle.inverse.proofs.MarkLaws.{Marked, inverse-marked}
 use Rattle.distort.proofs.pixel.put_one.Statement.{statement}
 use Rattle.distort.proofs.pixel.put_one.Tie as tie

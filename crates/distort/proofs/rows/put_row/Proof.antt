@@ -1,7 +1,7 @@
 -- `distort::rows::put_row` meets its contract. The loop's invariant: the row's pixels passed are in the band, and the matte ones among them are
 -- counted. Assumes nothing.
-use mathlib.Core.Path.{_≡_, sym, _∙_, subst, subst⁻¹}
-use Prim.Native.Nat.{ℕ, _-_, _≤_}
+use mathlib.Core.Path.{_∙_}
+use Prim.Native.Nat.{ℕ, _-_}
 use native.Mathlib.Nat.{le-antisymm}
 use native.Mathlib.Omega.{arith}
 use borrow.Author.Needs.{needs}
@@ -9,7 +9,6 @@ use mir.Syntax.{w64}
 use mir.Val.{toZ, ofZ}
 use mir.ValLaws.{toZ-ofZ}
 use Rattle.distort.specs.Band.{Frame, Source, pointAt, colourAt, matteAt, rowBytes, rowMatte}
-use Rattle.distort.specs.Joined.{totalled}
 use Rattle.distort.proofs.PixelLaws.{channels-pos}
 use Rattle.distort.proofs.RowLaws.{RowHolds, row-start, row-room, row-one, row-next, row-done, row-same, bit-most, place-small}
 use Rattle.distort.proofs.rows.put_row.Statement.{statement}

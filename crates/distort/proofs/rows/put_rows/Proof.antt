@@ -1,12 +1,12 @@
 -- `distort::rows::put_rows` meets its contract. The loop's invariant: the rows passed are in the band, one after another, and their matte pixels are
 -- counted. Assumes nothing.
-use mathlib.Core.Path.{_≡_, _∙_}
-use Prim.Native.Nat.{ℕ, _+_, _-_, _≤_}
+use mathlib.Core.Path.{_∙_}
+use Prim.Native.Nat.{ℕ, _+_, _-_}
 use native.Mathlib.Nat.{le-antisymm}
 use native.Mathlib.Omega.{arith}
 use borrow.Author.Needs.{needs}
 use mir.Syntax.{w64}
-use mir.Val.{toZ, ofZ}
+use mir.Val.{toZ}
 use mir.ValLaws.{toZ-ofZ}
 use Rattle.distort.specs.Band.{Frame, Source, rowBytes, rowMatte, rowsBytes, rowsMatte}
 use Rattle.distort.proofs.BandLaws.{row-length, row-matte-most}

@@ -99,14 +99,14 @@ ofJob p g more =
 abbrev pub refusals : Call → List (ℕ × Bool)
 refusals c = ofJob (c .image) (c .given) ((10, badRows c) ∷ ((11, badTray c) ∷ []))
 
--- of rows 1 to 7, which ask for no fit and no window
-unfoldable pub unfit : Image → Given → ℕ
-unfit p g = firstOf (take 7 (ofJob p g []))
-
--- of rows 1 to 9, which ask nothing of rows and band
-unfoldable pub jobRefusal : Image → Given → ℕ
-jobRefusal p g = firstOf (ofJob p g [])
-
 -- the first number that applies, 0 where none does
 unfoldable pub refusal : Call → ℕ
 refusal c = firstOf (refusals c)
+
+-- the same of rows 1 to 9, which ask nothing of rows and band
+unfoldable pub jobRefusal : Image → Given → ℕ
+jobRefusal p g = firstOf (ofJob p g [])
+
+-- and of rows 1 to 7, which ask for no fit and no window
+unfoldable pub unfit : Image → Given → ℕ
+unfit p g = firstOf (take 7 (ofJob p g []))

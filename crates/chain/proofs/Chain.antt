@@ -1,6 +1,6 @@
 -- The third demand, by induction over the list of calls: whatever comes, the calls that wait are accepted ones, and the chain's picture is faithful to the exact chain of the
 -- warps found so far. A refused call changes nothing; a call that waits changes no picture; a warp, whole or joined, is one faithful picture more.
--- Provides: `third-demand`, `no-warps`. Assumes nothing.
+-- Provides: `each-last`, `exact-last` (of one warp more); `third-demand`, `no-warps`. Assumes nothing.
 use mathlib.Core.Path.{_≡_, refl, sym, ap, _∙_, subst, subst₂}
 use mathlib.Core.Bool.{Bool, true, false, not, cond}
 use mathlib.Core.List.{List, [], _∷_, _++_}

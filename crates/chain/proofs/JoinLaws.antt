@@ -1,41 +1,35 @@
 -- Calls for fewer rows that complete a warp leave, put together, what that warp leaves. Those that are alike to the last of them ask of one job; each that is accepted
 -- holds rows of that job's warp, and every row is held by one of them.
--- Provides: `answer-accepted`, `left-accepted`; `Every`, `every-append`; `together-is`. Assumes nothing.
+-- Provides: `answer-accepted`, `left-accepted`; `Every`, `every-append`, `IsAccepted`; `together-is`. Assumes nothing.
 use mathlib.Core.Path.{_≡_, refl, sym, ap, _∙_, subst}
 use mathlib.Core.Bool.{Bool, true, false, false≢true, cond, _&&_, _||_}
 use mathlib.Core.List.{List, [], _∷_, _++_}
 use Prim.Native.Nat.{ℕ, zero, suc, _+_, _-_, _*_, _≤_, _<_}
 use native.Mathlib.Nat.{zero-add, one-mul}
 use native.Mathlib.Omega.{arith}
-use lib.Dec.{eqb, leb, ltb}
+use lib.Dec.{leb, ltb}
 use lib.ListN.{take, drop}
-use borrow.Author.Tests.{eq-eqb, leb-true, leb-false, ltb-true}
+use borrow.Author.Tests.{leb-true, leb-false, ltb-true}
 use Rattle.exact.specs.Loop.{turns, upTo}
-use Rattle.window.specs.Window.{xOf, yOf}
 use Rattle.distort.specs.Band.{rowBytes, rowsBytes}
-use Rattle.distort.specs.Call.{outWidth, outHeight, frameOf, sourceOf, rowsOf, matteOf, answer, left}
+use Rattle.distort.specs.Call.{outWidth, outHeight, frameOf, sourceOf, rowsOf, answer, left}
 use Rattle.distort.specs.Job.{Image, Given, Call}
 use Rattle.distort.specs.Joined.{joined}
-use Rattle.distort.specs.Refusal.{windowOf, channelsOf, refusal}
+use Rattle.distort.specs.Refusal.{channelsOf, refusal}
 use Rattle.distort.specs.declared.answer.Answer.{Answer}
-use Rattle.distort.specs.declared.answer.Answer.the-variants.{Accepted, Refused}
 use Rattle.distort.proofs.BandLaws.{row-length, rowLength}
+use Rattle.distort.proofs.CallLaws.{size, accepted-answer}
 use Rattle.distort.proofs.JoinedLaws.{joined-none, joined-next, joined-same, joined-part}
 use Rattle.chain.specs.Warps.{alike, sameImage, heightIn, holds, anyHolds, everyRow, rowIn, alikeTo, rowSize, together, State, group, completes}
 use Rattle.chain.proofs.SameLaws.{both-hold, alike-same}
 
 -- ---- an accepted call
 module _ (c : Call) (e : refusal c ≡ 0) where
-  abbrev pub accepted-answer : Answer
-  accepted-answer = Accepted (outWidth (c .image) (c .given)) (outHeight (c .image) (c .given)) (xOf (windowOf (c .image) (c .given))) (yOf (windowOf (c .image) (c .given))) (channelsOf (c .image) (c .given)) (matteOf (c .image) (c .given) (c .first) (c .rows))
-
-  pub answer-accepted : answer c ≡ accepted-answer
-  unfolding answer
-  answer-accepted = ap (λ (t : Bool). cond t accepted-answer (Refused (refusal c))) (eq-eqb (refusal c) 0 e)
+  pub answer-accepted : answer c ≡ size c
+  answer-accepted = ap (λ (r : Answer × List ℕ). r .0) (sym (accepted-answer c e))
 
   pub left-accepted : left c ≡ rowsOf (c .image) (c .given) (c .first) (c .rows)
-  unfolding left
-  left-accepted = ap (λ (t : Bool). cond t (rowsOf (c .image) (c .given) (c .first) (c .rows)) (c .band)) (eq-eqb (refusal c) 0 e)
+  left-accepted = ap (λ (r : Answer × List ℕ). r .1) (sym (accepted-answer c e))
 
 -- ---- P of each call
 abbrev pub Every : (Call → Type 0) → List Call → Type 0
@@ -134,7 +128,7 @@ pub together-is : (s : State) (c : Call) → refusal c ≡ 0 → Every IsAccepte
     → together (answer c) (group s c) ≡ rowsOf (c .image) (c .given) 0 (outHeight (c .image) (c .given))
 unfolding completes together rowSize rowsOf rowsBytes
 together-is s c e w h =
-    let A : Answer = accepted-answer c e in
+    let A : Answer = size c in
     let rows : everyRow (heightIn A) (group s c) ≡ true = subst (λ (a : Answer). everyRow (heightIn a) (group s c) ≡ true) (answer-accepted c e) (both-hold (sameImage (c .image) (s .image)) (everyRow (heightIn (answer c)) (group s c)) h .1) in
     let kin : Every (Kin c) (group s c) = alike-kin c (s .waiting ++ (c ∷ [])) (every-append IsAccepted (s .waiting) (c ∷ []) w (e, tt)) in
     ap (λ (a : Answer). joined (λ (r : ℕ). rowIn (rowSize a) r (group s c)) (heightIn a)) (answer-accepted c e)

@@ -1,13 +1,12 @@
 -- One whole warp: each sample of the new picture is a component of a pixel that is near the new exact one, so a faithful picture is followed by a faithful one, with one
 -- warp more.
--- Provides: `warp-faithful`. Assumes nothing.
+-- Provides: `answerOf`, `warpOf`, `warp-faithful`. Assumes nothing.
 use mathlib.Core.Path.{_≡_, refl, sym, ap, _∙_, subst}
 use mathlib.Core.List.{List}
 use mathlib.Core.Logic.{_⊎_}
 use Prim.Native.Nat.{ℕ, _+_, _*_, _≤_, _<_}
 use native.Mathlib.Nat.{zero-add, mul-comm}
 use native.Mathlib.Omega.{arith}
-use lib.ListN.{length}
 use lib.Ieee.{Float}
 use Rattle.exact.specs.Fraction.{frac}
 use Rattle.exact.specs.Weighted.{Unit32, Sample}

@@ -7,7 +7,7 @@ use native.Mathlib.Omega.{arith}
 use lib.Dec.{lit<}
 use lib.IntN.{pos}
 use lib.ListN.{length}
-use Rattle.exact.specs.Fraction.{Fraction, frac, value, _<F_, _+F_, _-F_, _*F_, distance, Within}
+use Rattle.exact.specs.Fraction.{frac, value, _<F_, _+F_, _-F_, _*F_, distance, Within}
 use Rattle.exact.specs.Surface.{floorF, partF}
 use Rattle.exact.proofs.Products.{lt-le-trans}
 use Rattle.distort.specs.Job.{Image, Given, Call}

@@ -1,33 +1,26 @@
 -- The third demand, by induction over the list of calls: whatever comes, the calls that wait are accepted ones, and the chain's picture is faithful to the exact chain of the
 -- warps found so far. A refused call changes nothing; a call that waits changes no picture; a warp, whole or joined, is one faithful picture more.
--- Provides: `third-demand`, `no-warps`. Assumes nothing.
+-- Provides: `each-last`, `exact-last` (of one warp more); `third-demand`, `no-warps`. Assumes nothing.
 use mathlib.Core.Path.{_≡_, refl, sym, ap, _∙_, subst, subst₂}
 use mathlib.Core.Bool.{Bool, true, false, not, cond}
 use mathlib.Core.List.{List, [], _∷_, _++_}
-use Prim.Native.Nat.{ℕ, zero, suc, _+_, _-_, _*_, _≤_, _<_}
+use Prim.Native.Nat.{ℕ, _+_}
 use native.Mathlib.Omega.{arith}
-use lib.Dec.{T, eqb}
-use lib.IntN.{natAbs}
-use lib.ListN.{length, length-append, take, drop}
-use lib.Ieee.{binary32, fits}
-use borrow.Author.Tests.{eqb-true, not-false}
-use Rattle.number.specs.Bytes.{sampleAt}
-use Rattle.sampler.specs.Pixel.{Picture}
-use Rattle.window.specs.Window.{xOf, yOf}
-use Rattle.distort.specs.Band.{colourAt, rowBytes}
-use Rattle.distort.specs.Call.{outWidth, outHeight, frameOf, sourceOf, rowsOf, answer, left}
-use Rattle.distort.specs.Job.{Image, Given, Call}
-use Rattle.distort.specs.Joined.{joined}
-use Rattle.distort.specs.Refusal.{windowOf, channelsOf, refusal}
+use lib.Dec.{eqb}
+use lib.ListN.{length, length-append}
+use borrow.Author.Tests.{eqb-true}
+use Rattle.distort.specs.Call.{outHeight, rowsOf, matteOf, answer, left}
+use Rattle.distort.specs.Job.{Image, Call}
+use Rattle.distort.specs.Refusal.{refusal}
 use Rattle.distort.specs.declared.answer.Answer.{Answer}
-use Rattle.chain.specs.Demand.{First, Conditions, Lent, Each, Near, warpsOf, ThirdDemand, NoWarps}
-use Rattle.chain.specs.Exact.{ExactImage, place, exactly, exactWarp, exactChain}
+use Rattle.distort.proofs.AcceptedLaws.{accepted-call}
+use Rattle.chain.specs.Demand.{First, Conditions, Lent, Each, ThirdDemand, NoWarps}
+use Rattle.chain.specs.Exact.{ExactImage, exactly, exactWarp, exactChain}
 use Rattle.chain.specs.Warps.{heightIn, pictured, accepted, allRows, together, Warp, State, start, group, completes, warped, waits, step, run, after}
 use Rattle.chain.proofs.Faithful.{Faithful, first-faithful}
-use Rattle.chain.proofs.JoinLaws.{accepted-answer, answer-accepted, left-accepted, Every, every-append, IsAccepted, together-is}
-use Rattle.chain.proofs.PlaneLaws.{component}
+use Rattle.chain.proofs.JoinLaws.{answer-accepted, left-accepted, Every, every-append, IsAccepted, together-is}
 use Rattle.chain.proofs.SameLaws.{both-hold}
-use Rattle.chain.proofs.WarpLaws.{warp-faithful}
+use Rattle.chain.proofs.WarpLaws.{warpOf, warp-faithful}
 
 -- ---- the last warp of a list
 pub each-last : (P : Warp → Type 0) (ws : List Warp) (w : Warp) → Each P (ws ++ (w ∷ [])) → Each P ws × P w
@@ -45,97 +38,79 @@ never-none ws w e = absurd (go (length ws) (sym (length-append ws (w ∷ [])) �
     go : (n : ℕ) → n + 1 ≡ 0 → ⊥
     go n e = omega arith
 
-pub record Limits (p : Image) (g : Given) : Type 0 where
-  picture : Picture (p .bytes) (p .width) (p .height) (p .channels)
-  wide : outWidth p g ≤ 4096
-  high : outHeight p g ≤ 4096
-  near-x : natAbs (xOf (windowOf p g)) ≤ 1048576
-  near-y : natAbs (yOf (windowOf p g)) ≤ 1048576
+module _ (first : Image) where
+  record Sound (s : State) : Type 0 where
+    waiting : Every IsAccepted (s .waiting)
+    faithful : First first → Each Lent (s .warps) → Each Conditions (s .warps) → Faithful (s .image) (exactChain (exactly first) (s .warps)) (length (s .warps))
+    none : s .warps ≡ [] → s .image ≡ first
 
-module _ (limits : (c : Call) → refusal c ≡ 0 → Limits (c .image) (c .given))
-    (rows-long : (p : Image) (g : Given) → length (rowsOf p g 0 (outHeight p g)) ≡ outWidth p g * outHeight p g * channelsOf p g * 4)
-    (rows-sample : (p : Image) (g : Given) (i j k : ℕ) → i < outWidth p g → j < outHeight p g → k < channelsOf p g → T (fits binary32 (component (colourAt (sourceOf p g) (frameOf p g) i j) k)) → sampleAt (rowsOf p g 0 (outHeight p g)) (place (outWidth p g) (channelsOf p g) i j k) ≡ component (colourAt (sourceOf p g) (frameOf p g) i j) k)
-    (rows-at : (p : Image) (g : Given) (first rows r : ℕ) → first ≤ r → r < first + rows → take (outWidth p g * channelsOf p g * 4) (drop ((r - first) * (outWidth p g * channelsOf p g * 4)) (rowsOf p g first rows)) ≡ rowBytes (sourceOf p g) (frameOf p g) (channelsOf p g) (outWidth p g) r)
-    (joined-same : (f g : ℕ → List ℕ) (n : ℕ) → ((k : ℕ) → k < n → f k ≡ g k) → joined f n ≡ joined g n) where
-  module _ (first : Image) where
-    record Sound (s : State) : Type 0 where
-      waiting : Every IsAccepted (s .waiting)
-      faithful : First first → Each Lent (s .warps) → Each Conditions (s .warps) → Faithful (s .image) (exactChain (exactly first) (s .warps)) (length (s .warps))
-      none : s .warps ≡ [] → s .image ≡ first
+  -- ---- one warp more
+  module _ (s : State) (c : Call) (S : Sound s) (e : refusal c ≡ 0) where
+    abbrev made : Warp
+    made = record { given = c .given; answered = answer c; lent = c .image; chain = s .image }
 
-    -- ---- one warp more
-    module _ (s : State) (c : Call) (S : Sound s) (e : refusal c ≡ 0) where
-      abbrev made : Warp
-      made = record { given = c .given; answered = answer c; lent = c .image; chain = s .image }
+    abbrev whole : List ℕ
+    whole = rowsOf (c .image) (c .given) 0 (outHeight (c .image) (c .given))
 
-      -- its own answer, and its own picture
-      abbrev plain : Warp
-      plain = record { given = c .given; answered = accepted-answer c e; lent = c .image; chain = c .image }
+    abbrev count : ℕ
+    count = matteOf (c .image) (c .given) (c .first) (c .rows)
 
-      abbrev whole : List ℕ
-      whole = rowsOf (c .image) (c .given) 0 (outHeight (c .image) (c .given))
-
-      one-faithful : (q : ExactImage) (n : ℕ) → Faithful (c .image) q n → Conditions plain → Faithful (pictured (accepted-answer c e) whole) (exactWarp q (c .given) (accepted-answer c e)) (n + 1)
-      one-faithful q n F C =
-          let l = limits c e in
-          warp-faithful (c .image) q n F (l .picture) (c .given) (C .background) (C .policy) (C .interpolation) (l .wide) (l .high) (l .near-x) (l .near-y) (C .pixels) _ whole (rows-long (c .image) (c .given)) (rows-sample (c .image) (c .given))
-
-      warped-sound : (bytes : List ℕ) → bytes ≡ whole → Sound (warped s c bytes)
-      warped-sound bytes is = record {
-        waiting = tt;
-        faithful = λ F L C. go F (each-last Lent (s .warps) made L) (each-last Conditions (s .warps) made C);
-        none = λ z. absurd (never-none (s .warps) made z);
-      }
-        where
-          go : First first → (Each Lent (s .warps) × Lent made) → (Each Conditions (s .warps) × Conditions made) → Faithful (pictured (answer c) bytes) (exactChain (exactly first) (s .warps ++ (made ∷ []))) (length (s .warps ++ (made ∷ [])))
-          go G L C =
-              let Q : ExactImage = exactChain (exactly first) (s .warps) in
-              let F : Faithful (c .image) Q (length (s .warps)) = subst (λ (p : Image). Faithful p Q (length (s .warps))) (sym (L .1)) (S .faithful G (L .0) (C .0)) in
-              let K : Conditions plain = subst₂ (λ (a : Answer) (p : Image). Conditions (record { given = c .given; answered = a; lent = c .image; chain = p })) (answer-accepted c e) (sym (L .1)) (C .1) in
-              let R : Faithful (pictured (answer c) bytes) (exactWarp Q (c .given) (answer c)) (length (s .warps) + 1) = subst₂ (λ (a : Answer) (b : List ℕ). Faithful (pictured a b) (exactWarp Q (c .given) a) (length (s .warps) + 1)) (sym (answer-accepted c e)) (sym is) (one-faithful Q (length (s .warps)) F K) in
-              subst₂ (λ (q : ExactImage) (n : ℕ). Faithful (pictured (answer c) bytes) q n) (sym (exact-last (exactly first) (s .warps) made)) (sym (length-append (s .warps) (made ∷ []))) R
-
-      all-rows : allRows c ≡ true → left c ≡ whole
-      unfolding allRows
-      all-rows h =
-          let b = both-hold (eqb (c .first) 0) (eqb (c .rows) (heightIn (answer c))) h in
-          left-accepted c e
-          ∙ (λ i. rowsOf (c .image) (c .given) (eqb-true (c .first) 0 (b .0) i) ((eqb-true (c .rows) (heightIn (answer c)) (b .1) ∙ ap heightIn (answer-accepted c e)) i))
-
-      waits-sound : Sound (waits s c)
-      waits-sound = record { waiting = every-append IsAccepted (s .waiting) (c ∷ []) (S .waiting) (e, tt); faithful = S .faithful; none = S .none }
-
-      taken-sound : Sound (cond (allRows c) (warped s c (left c)) (cond (completes s c) (warped s c (together (answer c) (group s c))) (waits s c)))
-      taken-sound = go (allRows c) refl (completes s c) refl
-        where
-          go : (t : Bool) → allRows c ≡ t → (u : Bool) → completes s c ≡ u → Sound (cond t (warped s c (left c)) (cond u (warped s c (together (answer c) (group s c))) (waits s c)))
-          go true f u h = warped-sound (left c) (all-rows f)
-          go false f true h = warped-sound (together (answer c) (group s c)) (together-is rows-at joined-same s c e (S .waiting) h)
-          go false f false h = waits-sound
-
-    -- ---- a call, and a list
-    step-sound : (s : State) (c : Call) → Sound s → Sound (step s c)
-    unfolding step accepted
-    step-sound s c S = go (eqb (refusal c) 0) refl
+    warped-sound : (bytes : List ℕ) → bytes ≡ whole → Sound (warped s c bytes)
+    warped-sound bytes is = record {
+      waiting = tt;
+      faithful = λ F L C. go F (each-last Lent (s .warps) made L) (each-last Conditions (s .warps) made C);
+      none = λ z. absurd (never-none (s .warps) made z);
+    }
       where
-        go : (t : Bool) → eqb (refusal c) 0 ≡ t → Sound (cond (not t) s (cond (allRows c) (warped s c (left c)) (cond (completes s c) (warped s c (together (answer c) (group s c))) (waits s c))))
-        go true e = taken-sound s c S (eqb-true (refusal c) 0 e)
-        go false e = S
+        go : First first → (Each Lent (s .warps) × Lent made) → (Each Conditions (s .warps) × Conditions made) → Faithful (pictured (answer c) bytes) (exactChain (exactly first) (s .warps ++ (made ∷ []))) (length (s .warps ++ (made ∷ [])))
+        go G L C =
+            let Q : ExactImage = exactChain (exactly first) (s .warps) in
+            let F : Faithful (c .image) Q (length (s .warps)) = subst (λ (p : Image). Faithful p Q (length (s .warps))) (sym (L .1)) (S .faithful G (L .0) (C .0)) in
+            let K : Conditions (warpOf (c .image) (c .given) count) = subst₂ (λ (a : Answer) (p : Image). Conditions (record { given = c .given; answered = a; lent = c .image; chain = p })) (answer-accepted c e) (sym (L .1)) (C .1) in
+            let R : Faithful (pictured (answer c) bytes) (exactWarp Q (c .given) (answer c)) (length (s .warps) + 1) = subst₂ (λ (a : Answer) (b : List ℕ). Faithful (pictured a b) (exactWarp Q (c .given) a) (length (s .warps) + 1)) (sym (answer-accepted c e)) (sym is) (warp-faithful (c .image) (c .given) count (accepted-call c e .job) K Q (length (s .warps)) F) in
+            subst₂ (λ (q : ExactImage) (n : ℕ). Faithful (pictured (answer c) bytes) q n) (sym (exact-last (exactly first) (s .warps) made)) (sym (length-append (s .warps) (made ∷ []))) R
 
-    run-sound : (s : State) (calls : List Call) → Sound s → Sound (run s calls)
-    unfolding run
-    run-sound s [] S = S
-    run-sound s (c ∷ calls) S = run-sound (step s c) calls (step-sound s c S)
+    all-rows : allRows c ≡ true → left c ≡ whole
+    unfolding allRows
+    all-rows h =
+        let b = both-hold (eqb (c .first) 0) (eqb (c .rows) (heightIn (answer c))) h in
+        left-accepted c e
+        ∙ (λ i. rowsOf (c .image) (c .given) (eqb-true (c .first) 0 (b .0) i) ((eqb-true (c .rows) (heightIn (answer c)) (b .1) ∙ ap heightIn (answer-accepted c e)) i))
 
-    start-sound : Sound (start first)
-    unfolding exactChain
-    start-sound = record { waiting = tt; faithful = λ F L C. first-faithful first F; none = λ z. refl }
+    waits-sound : Sound (waits s c)
+    waits-sound = record { waiting = every-append IsAccepted (s .waiting) (c ∷ []) (S .waiting) (e, tt); faithful = S .faithful; none = S .none }
 
-    after-sound : (calls : List Call) → Sound (after first calls)
-    after-sound calls = run-sound (start first) calls start-sound
+    taken-sound : Sound (cond (allRows c) (warped s c (left c)) (cond (completes s c) (warped s c (together (answer c) (group s c))) (waits s c)))
+    taken-sound = go (allRows c) refl (completes s c) refl
+      where
+        go : (t : Bool) → allRows c ≡ t → (u : Bool) → completes s c ≡ u → Sound (cond t (warped s c (left c)) (cond u (warped s c (together (answer c) (group s c))) (waits s c)))
+        go true f u h = warped-sound (left c) (all-rows f)
+        go false f true h = warped-sound (together (answer c) (group s c)) (together-is s c e (S .waiting) h)
+        go false f false h = waits-sound
 
-  pub third-demand : ThirdDemand
-  third-demand first calls F L C = after-sound first calls .faithful F L C .near
+  -- ---- a call, and a list
+  step-sound : (s : State) (c : Call) → Sound s → Sound (step s c)
+  unfolding step accepted
+  step-sound s c S = go (eqb (refusal c) 0) refl
+    where
+      go : (t : Bool) → eqb (refusal c) 0 ≡ t → Sound (cond (not t) s (cond (allRows c) (warped s c (left c)) (cond (completes s c) (warped s c (together (answer c) (group s c))) (waits s c))))
+      go true e = taken-sound s c S (eqb-true (refusal c) 0 e)
+      go false e = S
 
-  pub no-warps : NoWarps
-  no-warps first calls e = after-sound first calls .none e
+  run-sound : (s : State) (calls : List Call) → Sound s → Sound (run s calls)
+  unfolding run
+  run-sound s [] S = S
+  run-sound s (c ∷ calls) S = run-sound (step s c) calls (step-sound s c S)
+
+  start-sound : Sound (start first)
+  unfolding exactChain
+  start-sound = record { waiting = tt; faithful = λ F L C. first-faithful first F; none = λ z. refl }
+
+  after-sound : (calls : List Call) → Sound (after first calls)
+  after-sound calls = run-sound (start first) calls start-sound
+
+pub third-demand : ThirdDemand
+third-demand first calls F L C = after-sound first calls .faithful F L C .near
+
+pub no-warps : NoWarps
+no-warps first calls e = after-sound first calls .none e

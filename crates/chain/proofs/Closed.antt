@@ -1,12 +1,10 @@
 -- Facts about closed numbers, by computing: each test here is a Boolean that stands for one of the demand's conditions, so that at numbers it is shown by `tt`.
 -- Provides: `below-every`, `closed`, `unit`, `linear`, `poly`. Assumes nothing.
-use mathlib.Core.Path.{_≡_, refl, subst}
-use mathlib.Core.Bool.{Bool, true, false, _&&_}
+use mathlib.Core.Path.{_≡_, subst}
+use mathlib.Core.Bool.{Bool, true, false, not, _&&_}
 use Prim.Native.Nat.{ℕ, zero, suc, _+_, _*_, _≤_, _<_}
-use native.Mathlib.Nat.{le-antisymm}
 use native.Mathlib.Omega.{arith}
 use lib.Dec.{T, leb, leb→le, nleb→lt}
-use mathlib.Core.Bool.{not}
 use lib.Ieee.{Float}
 use lib.Ieee.Scale.{finite}
 use Rattle.exact.specs.Fraction.{Fraction, over, frac, value, _≤F_, _*F_, absF}

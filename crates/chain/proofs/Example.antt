@@ -7,6 +7,7 @@ use mathlib.Core.List.{List, [], _∷_, _++_}
 use Prim.Native.Nat.{ℕ, zero, suc, _+_, _*_, _<_}
 use native.Mathlib.Omega.{arith}
 use lib.IntN.{ℤ, pos, negsuc}
+use lib.ListN.{length}
 use lib.Ieee as Ieee
 use Rattle.exact.specs.Fraction.{_+F_, _*F_, _/F_, absF}
 use Rattle.exact.specs.Sums.{askedF}
@@ -20,8 +21,10 @@ use Rattle.sampler.specs.Pixel as Pixel
 use Rattle.distort.specs.Job.{Image, Given, Call, colourOf}
 use Rattle.distort.specs.Refusal.{fitOf}
 use Rattle.distort.specs.declared.answer.Answer.the-variants.{Accepted}
-use Rattle.chain.specs.Demand.{InUnit, First, OpaqueColour, Conditions, by-affine, by-affine-projection, by-perspective-projection, by-bilinear-reverse, Lent, Each}
+use Rattle.chain.specs.Demand.{First, OpaqueColour, Conditions, by-affine, by-affine-projection, by-perspective-projection, by-bilinear-reverse, Lent, Each, Near}
+use Rattle.chain.specs.Exact.{exactly, exactChain}
 use Rattle.chain.specs.Warps.{sameBytes, sameWhole, sameImage, sameGiven, alike, accepted, allRows, holds, anyHolds, everyRow, rowIn, alikeTo, rowSize, together, completes, step, run, Warp, State, after}
+use Rattle.chain.proofs.Chain.{third-demand}
 use Rattle.chain.proofs.Closed.{below, below-every, leF, closed, unitly, unit, linearly, linear, termly, poly}
 use Rattle.chain.proofs.Opened.{opened}
 
@@ -233,3 +236,14 @@ conditions = (
 
 conditions-4 : Each Conditions one-warp
 conditions-4 = (record { method = by-affine; interpolation = refl; policy = λ e. omega arith; background = black; pixels = above-meets }, tt)
+
+-- ---- the demand, at these lists
+pub three-near : Near p3 (exactChain (exactly p0) warps) 3
+three-near =
+    subst (λ (s : State). Near (s .image) (exactChain (exactly p0) (s .warps)) (length (s .warps))) ends
+    (third-demand p0 calls first (subst (λ (s : State). Each Lent (s .warps)) (sym ends) lent) (subst (λ (s : State). Each Conditions (s .warps)) (sym ends) conditions))
+
+pub one-near : Near q1 (exactChain (exactly q0) one-warp) 1
+one-near =
+    subst (λ (s : State). Near (s .image) (exactChain (exactly q0) (s .warps)) (length (s .warps))) ends-alone
+    (third-demand q0 alone first-4 (subst (λ (s : State). Each Lent (s .warps)) (sym ends-alone) (refl, tt)) (subst (λ (s : State). Each Conditions (s .warps)) (sym ends-alone) conditions-4))

@@ -1,5 +1,5 @@
 -- What an induction over the warps carries: beside the claim, that the exact picture's own samples are from 0 to 1 and its alphas 1, so that the law of one warp applies again.
--- Provides: `Faithful`; `first-faithful` (a first picture and its own fractions, no warp made); `opaque-picture` (in the sampler's words). Assumes nothing.
+-- Provides: `Faithful`; `first-faithful` (a first picture and its own fractions, no warp made); `held-unit`, `opaque-picture` (in the sampler's words). Assumes nothing.
 use mathlib.Core.Path.{_≡_, refl, sym, ap, _∙_, subst}
 use mathlib.Core.Logic.{_⊎_}
 use mathlib.Core.List.{List}
@@ -8,7 +8,7 @@ use native.Mathlib.Nat.{div-lt-iff-lt-mul, div-add-mod', mod-lt}
 use native.Mathlib.Omega.{arith}
 use lib.Ieee.{Float, binary32}
 use lib.Ieee.Bits.{ofBits-fits}
-use Rattle.exact.specs.Fraction.{Fraction, frac, value, _≤F_, _≈_, Within, Unit01}
+use Rattle.exact.specs.Fraction.{frac, value, _≤F_, _≈_, Unit01}
 use Rattle.exact.specs.Weighted.{Unit32}
 use Rattle.exact.proofs.Near.{within-same}
 use Rattle.exact.proofs.Products.{eq-refl}
@@ -18,7 +18,7 @@ use Rattle.sampler.specs.Colour.{one}
 use Rattle.sampler.specs.Opaque.{OpaquePicture}
 use Rattle.sampler.specs.Pixel.{Picture}
 use Rattle.distort.specs.Job.{Image}
-use Rattle.chain.specs.Demand.{InUnit, First, NearSample, Near, sampleOf}
+use Rattle.chain.specs.Demand.{InUnit, First, Near, sampleOf}
 use Rattle.chain.specs.Exact.{ExactImage, place, exactly}
 use Rattle.chain.proofs.PlaceLaws.{pixel-lt, place-lt, placed, column-lt, row-lt, channel-lt}
 

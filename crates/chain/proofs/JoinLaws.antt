@@ -1,39 +1,35 @@
 -- Calls for fewer rows that complete a warp leave, put together, what that warp leaves. Those that are alike to the last of them ask of one job; each that is accepted
 -- holds rows of that job's warp, and every row is held by one of them.
--- Provides: `answer-accepted`, `left-accepted`; `Every`, `every-append`; `together-is`. Assumes nothing.
+-- Provides: `answer-accepted`, `left-accepted`; `Every`, `every-append`, `IsAccepted`; `together-is`. Assumes nothing.
 use mathlib.Core.Path.{_≡_, refl, sym, ap, _∙_, subst}
 use mathlib.Core.Bool.{Bool, true, false, false≢true, cond, _&&_, _||_}
 use mathlib.Core.List.{List, [], _∷_, _++_}
 use Prim.Native.Nat.{ℕ, zero, suc, _+_, _-_, _*_, _≤_, _<_}
-use native.Mathlib.Nat.{zero-add}
+use native.Mathlib.Nat.{zero-add, one-mul}
 use native.Mathlib.Omega.{arith}
-use lib.Dec.{eqb, leb, ltb}
+use lib.Dec.{leb, ltb}
 use lib.ListN.{take, drop}
-use borrow.Author.Tests.{eq-eqb, leb-true, leb-false, ltb-true}
+use borrow.Author.Tests.{leb-true, leb-false, ltb-true}
 use Rattle.exact.specs.Loop.{turns, upTo}
-use Rattle.window.specs.Window.{xOf, yOf}
 use Rattle.distort.specs.Band.{rowBytes, rowsBytes}
-use Rattle.distort.specs.Call.{outWidth, outHeight, frameOf, sourceOf, rowsOf, matteOf, answer, left}
+use Rattle.distort.specs.Call.{outWidth, outHeight, frameOf, sourceOf, rowsOf, answer, left}
 use Rattle.distort.specs.Job.{Image, Given, Call}
 use Rattle.distort.specs.Joined.{joined}
-use Rattle.distort.specs.Refusal.{windowOf, channelsOf, refusal}
+use Rattle.distort.specs.Refusal.{channelsOf, refusal}
 use Rattle.distort.specs.declared.answer.Answer.{Answer}
-use Rattle.distort.specs.declared.answer.Answer.the-variants.{Accepted, Refused}
+use Rattle.distort.proofs.BandLaws.{row-length, rowLength}
+use Rattle.distort.proofs.CallLaws.{size, accepted-answer}
+use Rattle.distort.proofs.JoinedLaws.{joined-none, joined-next, joined-same, joined-part}
 use Rattle.chain.specs.Warps.{alike, sameImage, heightIn, holds, anyHolds, everyRow, rowIn, alikeTo, rowSize, together, State, group, completes}
 use Rattle.chain.proofs.SameLaws.{both-hold, alike-same}
 
 -- ---- an accepted call
 module _ (c : Call) (e : refusal c ≡ 0) where
-  abbrev pub accepted-answer : Answer
-  accepted-answer = Accepted (outWidth (c .image) (c .given)) (outHeight (c .image) (c .given)) (xOf (windowOf (c .image) (c .given))) (yOf (windowOf (c .image) (c .given))) (channelsOf (c .image) (c .given)) (matteOf (c .image) (c .given) (c .first) (c .rows))
-
-  pub answer-accepted : answer c ≡ accepted-answer
-  unfolding answer
-  answer-accepted = ap (λ (t : Bool). cond t accepted-answer (Refused (refusal c))) (eq-eqb (refusal c) 0 e)
+  pub answer-accepted : answer c ≡ size c
+  answer-accepted = ap (λ (r : Answer × List ℕ). r .0) (sym (accepted-answer c e))
 
   pub left-accepted : left c ≡ rowsOf (c .image) (c .given) (c .first) (c .rows)
-  unfolding left
-  left-accepted = ap (λ (t : Bool). cond t (rowsOf (c .image) (c .given) (c .first) (c .rows)) (c .band)) (eq-eqb (refusal c) 0 e)
+  left-accepted = ap (λ (r : Answer × List ℕ). r .1) (sym (accepted-answer c e))
 
 -- ---- P of each call
 abbrev pub Every : (Call → Type 0) → List Call → Type 0
@@ -85,39 +81,56 @@ held n cs e = all-held (λ (r : ℕ). anyHolds r cs) n (subst (λ (m : ℕ). tur
     less-zero n = omega arith
 
 -- ---- the rows of a job
-module _ (rows-at : (p : Image) (g : Given) (first rows r : ℕ) → first ≤ r → r < first + rows → take (outWidth p g * channelsOf p g * 4) (drop ((r - first) * (outWidth p g * channelsOf p g * 4)) (rowsOf p g first rows)) ≡ rowBytes (sourceOf p g) (frameOf p g) (channelsOf p g) (outWidth p g) r)
-    (joined-same : (f g : ℕ → List ℕ) (n : ℕ) → ((k : ℕ) → k < n → f k ≡ g k) → joined f n ≡ joined g n) where
-  -- row r of the job that c asks of
-  abbrev rowOf : Call → ℕ → List ℕ
-  rowOf c r = rowBytes (sourceOf (c .image) (c .given)) (frameOf (c .image) (c .given)) (channelsOf (c .image) (c .given)) (outWidth (c .image) (c .given)) r
+abbrev rowAt : Image → Given → ℕ → List ℕ
+rowAt p g r = rowBytes (sourceOf p g) (frameOf p g) (channelsOf p g) (outWidth p g) r
 
-  abbrev sizeOf : Call → ℕ
-  sizeOf c = outWidth (c .image) (c .given) * channelsOf (c .image) (c .given) * 4
+-- row r out of some rows from `first` on
+rows-at : (p : Image) (g : Given) (first rows r : ℕ) → first ≤ r → r < first + rows → take (rowLength p g) (drop ((r - first) * rowLength p g) (rowsOf p g first rows)) ≡ rowAt p g r
+unfolding rowsOf rowsBytes
+rows-at p g first rows r h l =
+    ap (λ (n : ℕ). take n (drop ((r - first) * rowLength p g) (joined (λ (k : ℕ). rowAt p g (first + k)) rows))) (sym (one-mul (rowLength p g)))
+    ∙ joined-part (λ (k : ℕ). rowAt p g (first + k)) (rowLength p g) (λ (k : ℕ). row-length (sourceOf p g) (frameOf p g) (channelsOf p g) (outWidth p g) (first + k)) (r - first) 1 rows (inside first rows r h l)
+    ∙ joined-next (λ (k : ℕ). rowAt p g (first + (r - first + k))) 0
+    ∙ ap (λ (xs : List ℕ). xs ++ rowAt p g (first + (r - first + 0))) (joined-none (λ (k : ℕ). rowAt p g (first + (r - first + k))))
+    ∙ ap (rowAt p g) (back first r h)
+  where
+    inside : (first rows r : ℕ) → first ≤ r → r < first + rows → r - first + 1 ≤ rows
+    inside first rows r h l = omega arith
 
-  kin-row : (c d : Call) → Kin c d → (r : ℕ) → holds r d ≡ true → take (sizeOf c) (drop ((r - d .first) * sizeOf c) (left d)) ≡ rowOf c r
-  unfolding holds
-  kin-row c d k r e =
-      let b = both-hold (leb (d .first) r) (ltb r (d .first + d .rows)) e in
-      ap (λ (bytes : List ℕ). take (sizeOf c) (drop ((r - d .first) * sizeOf c) bytes)) (left-accepted d (k .accepted) ∙ (λ i. rowsOf (k .image i) (k .given i) (d .first) (d .rows)))
-      ∙ rows-at (c .image) (c .given) (d .first) (d .rows) r (leb-true _ _ (b .0)) (ltb-true _ _ (b .1))
+    back : (first r : ℕ) → first ≤ r → first + (r - first + 0) ≡ r
+    back first r h = omega arith
 
-  row-found : (c : Call) (r : ℕ) (cs : List Call) → Every (Kin c) cs → anyHolds r cs ≡ true → rowIn (sizeOf c) r cs ≡ rowOf c r
-  unfolding rowIn anyHolds
-  row-found c r [] k e = absurd (false≢true e)
-  row-found c r (d ∷ ds) k e = go (holds r d) refl e (row-found c r ds (k .1))
-    where
-      go : (t : Bool) → holds r d ≡ t → (t || anyHolds r ds) ≡ true → (anyHolds r ds ≡ true → rowIn (sizeOf c) r ds ≡ rowOf c r)
-          → cond t (take (sizeOf c) (drop ((r - d .first) * sizeOf c) (left d))) (rowIn (sizeOf c) r ds) ≡ rowOf c r
-      go true h e f = kin-row c d (k .0) r h
-      go false h e f = f e
+-- of the job that c asks of
+abbrev rowOf : Call → ℕ → List ℕ
+rowOf c r = rowAt (c .image) (c .given) r
 
-  pub together-is : (s : State) (c : Call) → refusal c ≡ 0 → Every IsAccepted (s .waiting) → completes s c ≡ true
-      → together (answer c) (group s c) ≡ rowsOf (c .image) (c .given) 0 (outHeight (c .image) (c .given))
-  unfolding completes together rowSize rowsOf rowsBytes
-  together-is s c e w h =
-      let A : Answer = accepted-answer c e in
-      let rows : everyRow (heightIn A) (group s c) ≡ true = subst (λ (a : Answer). everyRow (heightIn a) (group s c) ≡ true) (answer-accepted c e) (both-hold (sameImage (c .image) (s .image)) (everyRow (heightIn (answer c)) (group s c)) h .1) in
-      let kin : Every (Kin c) (group s c) = alike-kin c (s .waiting ++ (c ∷ [])) (every-append IsAccepted (s .waiting) (c ∷ []) w (e, tt)) in
-      ap (λ (a : Answer). joined (λ (r : ℕ). rowIn (rowSize a) r (group s c)) (heightIn a)) (answer-accepted c e)
-      ∙ joined-same (λ (r : ℕ). rowIn (sizeOf c) r (group s c)) (λ (r : ℕ). rowOf c (0 + r)) (outHeight (c .image) (c .given))
-      (λ (r : ℕ) l. row-found c r (group s c) kin (held (heightIn A) (group s c) rows r l) ∙ ap (rowOf c) (sym (zero-add r)))
+abbrev sizeOf : Call → ℕ
+sizeOf c = rowLength (c .image) (c .given)
+
+kin-row : (c d : Call) → Kin c d → (r : ℕ) → holds r d ≡ true → take (sizeOf c) (drop ((r - d .first) * sizeOf c) (left d)) ≡ rowOf c r
+unfolding holds
+kin-row c d k r e =
+    let b = both-hold (leb (d .first) r) (ltb r (d .first + d .rows)) e in
+    ap (λ (bytes : List ℕ). take (sizeOf c) (drop ((r - d .first) * sizeOf c) bytes)) (left-accepted d (k .accepted) ∙ (λ i. rowsOf (k .image i) (k .given i) (d .first) (d .rows)))
+    ∙ rows-at (c .image) (c .given) (d .first) (d .rows) r (leb-true _ _ (b .0)) (ltb-true _ _ (b .1))
+
+row-found : (c : Call) (r : ℕ) (cs : List Call) → Every (Kin c) cs → anyHolds r cs ≡ true → rowIn (sizeOf c) r cs ≡ rowOf c r
+unfolding rowIn anyHolds
+row-found c r [] k e = absurd (false≢true e)
+row-found c r (d ∷ ds) k e = go (holds r d) refl e (row-found c r ds (k .1))
+  where
+    go : (t : Bool) → holds r d ≡ t → (t || anyHolds r ds) ≡ true → (anyHolds r ds ≡ true → rowIn (sizeOf c) r ds ≡ rowOf c r)
+        → cond t (take (sizeOf c) (drop ((r - d .first) * sizeOf c) (left d))) (rowIn (sizeOf c) r ds) ≡ rowOf c r
+    go true h e f = kin-row c d (k .0) r h
+    go false h e f = f e
+
+pub together-is : (s : State) (c : Call) → refusal c ≡ 0 → Every IsAccepted (s .waiting) → completes s c ≡ true
+    → together (answer c) (group s c) ≡ rowsOf (c .image) (c .given) 0 (outHeight (c .image) (c .given))
+unfolding completes together rowSize rowsOf rowsBytes
+together-is s c e w h =
+    let A : Answer = size c in
+    let rows : everyRow (heightIn A) (group s c) ≡ true = subst (λ (a : Answer). everyRow (heightIn a) (group s c) ≡ true) (answer-accepted c e) (both-hold (sameImage (c .image) (s .image)) (everyRow (heightIn (answer c)) (group s c)) h .1) in
+    let kin : Every (Kin c) (group s c) = alike-kin c (s .waiting ++ (c ∷ [])) (every-append IsAccepted (s .waiting) (c ∷ []) w (e, tt)) in
+    ap (λ (a : Answer). joined (λ (r : ℕ). rowIn (rowSize a) r (group s c)) (heightIn a)) (answer-accepted c e)
+    ∙ joined-same (λ (r : ℕ). rowIn (sizeOf c) r (group s c)) (λ (r : ℕ). rowOf c (0 + r)) (outHeight (c .image) (c .given))
+    (λ (r : ℕ) l. row-found c r (group s c) kin (held (heightIn A) (group s c) rows r l) ∙ ap (rowOf c) (sym (zero-add r)))

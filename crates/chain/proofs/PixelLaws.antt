@@ -1,23 +1,22 @@
 -- One pixel of one warp: under the chain conditions its source point is usable and near the exact one, so it is the picture's colour there, and the sampler's law of an
 -- opaque place makes each of its components near the exact picture's new sample.
--- Provides: `channels-kept`, `pixel-near`, `exact-in`, `exact-alpha`. Assumes nothing.
-use mathlib.Core.Path.{_≡_, refl, sym, ap, _∙_, subst}
-use mathlib.Core.Bool.{Bool, true, false, cond, _||_}
-use mathlib.Core.List.{List}
+-- Provides: `channels-kept`; `exact-in`, `exact-alpha` (of the new exact sample); `pixel-near`, `pixel-alpha`. Assumes nothing.
+use mathlib.Core.Path.{_≡_, refl, sym, _∙_, subst}
+use mathlib.Core.Bool.{Bool, false, cond, _||_}
 use mathlib.Core.Logic.{_⊎_, ⊎-elim}
-use Prim.Native.Nat.{ℕ, zero, suc, _+_, _*_, _≤_, _<_}
+use Prim.Native.Nat.{ℕ, zero, suc, _+_, _≤_, _<_}
 use native.Mathlib.Omega.{arith}
 use lib.Dec.{eqb, lit≤, lit<}
 use lib.IntN.{ℤ, natAbs}
-use lib.Ieee.{Float, binary32, ofBits, fits, lt}
+use lib.Ieee.{Float, ofBits, fits, lt}
 use borrow.Author.Tests.{ne-eqb}
-use Rattle.exact.specs.Fraction.{Fraction, frac, value, _≈_, _+F_, _-F_, Within, Unit01}
+use Rattle.exact.specs.Fraction.{Fraction, frac, value, _≈_, _+F_, _-F_, Unit01}
 use Rattle.exact.specs.Sums.{askedF}
 use Rattle.exact.specs.Double.{_⊖_}
 use Rattle.exact.specs.Warp.{half, exactSample}
 use Rattle.exact.specs.Weighted.{Unit32, Sample}
 use Rattle.exact.proofs.Near.{within-same}
-use Rattle.exact.proofs.Products.{eq-refl, back, _⨟_, unit-one, unit-same}
+use Rattle.exact.proofs.Products.{eq-refl, back, _⨟_}
 use Rattle.exact.proofs.Samples.{one-value, sample-along}
 use Rattle.exact.proofs.Scale.{at-eq, at-add, at-ratio}
 use Rattle.exact.proofs.Warp.{exact-unit, exact-opaque}
@@ -34,17 +33,18 @@ use Rattle.sampler.specs.Opaque.{NearSample}
 use Rattle.sampler.specs.Pixel.{Picture}
 use Rattle.sampler.specs.declared.colour.Rgba.{Rgba}
 use Rattle.sampler.proofs.BilinearOpaque.{sampled-near}
-use Rattle.window.specs.Window.{widthOf, heightOf, xOf, yOf}
+use Rattle.window.specs.Window.{xOf, yOf}
 use Rattle.distort.specs.Band.{pointAt, shown, colourAt}
 use Rattle.distort.specs.Call.{outWidth, outHeight, frameOf, sourceOf}
 use Rattle.distort.specs.Job.{Image, Given, colourOf}
 use Rattle.distort.specs.Refusal.{transparent, fitOf, windowOf, widest, channelsOf}
+use Rattle.distort.proofs.SampleLaws.{part as component}
 use Rattle.distort.specs.declared.answer.Answer.{Answer}
 use Rattle.distort.specs.declared.answer.Answer.the-variants.{Accepted}
-use Rattle.chain.specs.Demand.{InUnit, OpaqueColour, bilinear}
-use Rattle.chain.specs.Exact.{ExactImage, plane, mappingOf, source, warpedSample}
+use Rattle.chain.specs.Demand.{OpaqueColour, bilinear}
+use Rattle.chain.specs.Exact.{ExactImage, plane, source, warpedSample}
 use Rattle.chain.proofs.Faithful.{Faithful, error-nonneg}
-use Rattle.chain.proofs.PlaneLaws.{component, opaque-place, exact, plane-units, plane-near, plane-unit, plane-alpha}
+use Rattle.chain.proofs.PlaneLaws.{opaque-place, exact, plane-units, plane-near, plane-unit, plane-alpha}
 
 -- ---- a warp of the chain keeps the channels
 closed : lt one one ≡ false

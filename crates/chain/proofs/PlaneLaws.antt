@@ -1,7 +1,7 @@
 -- A faithful picture in opaque surroundings is near the exact one over the whole plane: a policy names the same pixel or colour in both, a pixel that is named lies inside
 -- the picture, and a colour is its own fractions.
--- Provides: `component`, `opaque-place`, `exact`, `plane-units`, `plane-near`, `plane-unit`, `plane-alpha`. Assumes nothing.
-use mathlib.Core.Path.{_≡_, refl, sym, ap, _∙_, subst, subst₂}
+-- Provides: `opaque-place`, `exact`, `plane-units`, `plane-near`, `plane-unit`, `plane-alpha`. Assumes nothing.
+use mathlib.Core.Path.{_≡_, refl, sym, ap, _∙_, subst}
 use mathlib.Core.Bool.{Bool, true, false, false≢true}
 use mathlib.Core.List.{List, [], _∷_}
 use mathlib.Core.Logic.{_⊎_, ⊎-elim}
@@ -13,7 +13,6 @@ use lib.IntN.{ℤ}
 use lib.ListN.{getD, drop}
 use lib.Ieee.{Float}
 use Rattle.exact.specs.Fraction.{Fraction, frac, value, _≈_, Within, Unit01}
-use Rattle.exact.specs.Weighted.{Unit32, Sample}
 use Rattle.exact.proofs.Near.{within-same}
 use Rattle.exact.proofs.Products.{eq-refl, back, unit-one, unit-same}
 use Rattle.number.specs.Bytes.{sampleAt}
@@ -30,17 +29,12 @@ use Rattle.sampler.proofs.AtOpaque.{at-opaque}
 use Rattle.sampler.proofs.NamedLaws.{named-lies}
 use Rattle.distort.specs.Job.{Image, Given, colourOf}
 use Rattle.distort.specs.Refusal.{transparent}
-use Rattle.chain.specs.Demand.{OpaqueColour, sampleOf}
+use Rattle.distort.proofs.SampleLaws.{part as component}
+use Rattle.chain.specs.Demand.{OpaqueColour}
 use Rattle.chain.specs.Exact.{ExactImage, place, part, tapped, plane}
 use Rattle.chain.proofs.Faithful.{Faithful, error-nonneg, opaque-value, held-unit, opaque-picture}
 
--- ---- a colour's components by number
-abbrev pub component : Rgba → ℕ → Float
-component c zero = c .r
-component c (suc zero) = c .g
-component c (suc (suc zero)) = c .b
-component c (suc (suc (suc n))) = c .a
-
+-- ---- a colour's components
 part-value : (c : Rgba) (k : ℕ) → value (component c k) ≡ part c k
 part-value c zero = refl
 part-value c (suc zero) = refl

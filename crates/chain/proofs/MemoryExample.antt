@@ -13,10 +13,11 @@ use Rattle.distort.specs.Call.{left}
 use Rattle.distort.specs.Job.{Image, Given, Call}
 use Rattle.chain.specs.Demand.{Conditions, Each, Near}
 use Rattle.chain.specs.Exact.{exactly, exactChain}
-use Rattle.chain.specs.Memory.{Memory, read, among, written, Asked, callIn, Event, Calls, Writes, Lies, Home, Nowhere, At, World, homeAfter, happens, lived, KeptCall, Kept, AllKept, born, lying, MemoryDemand}
+use Rattle.chain.specs.Memory.{Memory, read, among, written, Asked, callIn, Event, Calls, Writes, Lies, Home, Nowhere, At, World, homeAfter, happens, lived, KeptCall, Kept, AllKept, born, lying}
 use Rattle.chain.specs.Warps.{sameBytes, sameWhole, sameImage, sameGiven, alike, accepted, allRows, holds, anyHolds, everyRow, rowIn, alikeTo, rowSize, together, completes, step, Warp, State}
 use Rattle.chain.proofs.ApartLaws.{asking, apart-by, write-by}
 use Rattle.chain.proofs.Example.{p0, p1, p2, p3, shifted, tilted, spread, row, low, made, warps, first, conditions}
+use Rattle.chain.proofs.MemoryLaws.{memory-demand}
 use Rattle.chain.proofs.Opened.{opened}
 use Rattle.chain.proofs.ReadLaws.{read-back}
 use Rattle.chain.proofs.RefusedLaws.{refused-changes-nothing}
@@ -233,13 +234,13 @@ lies-there = refl
 abbrev Claim : World → Type 0
 Claim w = Near (lying w 0) (exactChain (exactly p0) (w .chain .warps)) (length (w .chain .warps))
 
-lived-near : MemoryDemand → Claim (lived w0 events)
-lived-near demand =
-    demand m0 p0 0 events (read-back (λ (a : ℕ). 0) 0 (p0 .bytes)) first (went .kept)
+lived-near : Claim (lived w0 events)
+lived-near =
+    memory-demand m0 p0 0 events (read-back (λ (a : ℕ). 0) 0 (p0 .bytes)) first (went .kept)
     (subst⁻¹ (λ (w : World). Each Conditions (w .chain .warps)) (went .is) conditions)
     .1
     0
     (ap (λ (w : World). w .home) (went .is))
 
-pub example-near : MemoryDemand → Near p3 (exactChain (exactly p0) warps) 3
-example-near demand = subst (λ (p : Image). Near p (exactChain (exactly p0) warps) 3) lies-there (subst Claim (went .is) (lived-near demand))
+pub example-near : Near p3 (exactChain (exactly p0) warps) 3
+example-near = subst (λ (p : Image). Near p (exactChain (exactly p0) warps) 3) lies-there (subst Claim (went .is) lived-near)

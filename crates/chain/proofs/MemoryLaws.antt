@@ -1,14 +1,16 @@
 -- The third demand of memory from that of values: the calls among the events are a list whose machine is the world's, its warps are lent what they should be, and what
--- lies at the picture's place is the machine's picture. Assumes nothing.
+-- lies at the picture's place is the machine's picture.
+-- Provides: `callsOf`, `lived-run`; `chain-near` (of the chain's picture, wherever its rows are), `memory-from-values`, `memory-demand`, `memory-no-warps`. Assumes nothing.
 use mathlib.Core.Path.{_≡_, refl, sym, ap, _∙_, subst}
 use mathlib.Core.List.{List, [], _∷_}
 use Prim.Native.Nat.{ℕ}
 use lib.ListN.{length}
 use Rattle.distort.specs.Job.{Image, Call}
-use Rattle.chain.specs.Demand.{First, Lent, Conditions, Each, Near, ThirdDemand, NoWarps}
+use Rattle.chain.specs.Demand.{First, Lent, Conditions, Each, Near, ThirdDemand}
 use Rattle.chain.specs.Exact.{exactly, exactChain}
 use Rattle.chain.specs.Memory.{Memory, read, callIn, Event, Calls, Writes, Lies, At, World, happens, lived, AllKept, born, lying, Claimed, MemoryDemand}
 use Rattle.chain.specs.Warps.{State, run, after}
+use Rattle.chain.proofs.Chain.{third-demand, no-warps}
 use Rattle.chain.proofs.HomeLaws.{AtHome, all-home, born-home}
 use Rattle.chain.proofs.LentLaws.{all-lent}
 
@@ -52,21 +54,23 @@ module _ (third : ThirdDemand) where
         lent : Each Lent (w .chain .warps)
         lent = all-lent (born m first from) events kept (born-home m first from there) tt
 
-  pub memory-demand : MemoryDemand
-  memory-demand m first from events there is kept conditions =
+  pub memory-from-values : MemoryDemand
+  memory-from-values m first from events there is kept conditions =
       let w = lived (born m first from) events in
       let home : AtHome w = all-home (born m first from) events kept (born-home m first from there) in
       let near = chain-near m first from events there is kept conditions in
       (near, λ to e. subst (Claimed first (w .chain)) (sym (lying-is w to home e)) near)
 
+pub memory-demand : MemoryDemand
+memory-demand = memory-from-values third-demand
+
 -- with no warps the first picture lies there, byte for byte
-module _ (none : NoWarps) where
-  pub memory-no-warps : (m : Memory) (first : Image) (from : ℕ) (events : List Event) → read m from (length (first .bytes)) ≡ first .bytes
-      → AllKept (born m first from) events → lived (born m first from) events .chain .warps ≡ []
-      → (to : ℕ) → lived (born m first from) events .home ≡ At to → lying (lived (born m first from) events) to ≡ first
-  memory-no-warps m first from events there kept empty to e =
-      let w = lived (born m first from) events in
-      let calls : List Call = callsOf (born m first from) events in
-      let same : w .chain ≡ after first calls = lived-run (born m first from) events in
-      let home : AtHome w = all-home (born m first from) events kept (born-home m first from there) in
-      lying-is w to home e ∙ ap (λ (s : State). s .image) same ∙ none first calls (sym (ap (λ (s : State). s .warps) same) ∙ empty) .0
+pub memory-no-warps : (m : Memory) (first : Image) (from : ℕ) (events : List Event) → read m from (length (first .bytes)) ≡ first .bytes
+    → AllKept (born m first from) events → lived (born m first from) events .chain .warps ≡ []
+    → (to : ℕ) → lived (born m first from) events .home ≡ At to → lying (lived (born m first from) events) to ≡ first
+memory-no-warps m first from events there kept empty to e =
+    let w = lived (born m first from) events in
+    let calls : List Call = callsOf (born m first from) events in
+    let same : w .chain ≡ after first calls = lived-run (born m first from) events in
+    let home : AtHome w = all-home (born m first from) events kept (born-home m first from there) in
+    lying-is w to home e ∙ ap (λ (s : State). s .image) same ∙ no-warps first calls (sym (ap (λ (s : State). s .warps) same) ∙ empty) .0

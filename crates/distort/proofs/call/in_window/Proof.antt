@@ -13,7 +13,7 @@ bad-tray-requires : tie.Need-bad-tray-requires
 bad-tray-requires c κs =
     let s = c .before .before .before .before in
     let r = rows-fit (s .args .tall) (s .args .first) (s .args .rows) (c .before .bad-rows .ensures) (c .if1 .left) in
-    (omega (arith, r, s .pre .1 .1 .0 .1), (s .pre .1 .1 .0 .0, channels-range _ (s .pre .1 .0) .1))
+    (omega (arith, r, s .pre .1 .1 .0), (omega (arith, s .pre .1 .1 .0), channels-range _ (s .pre .1 .0) .1))
 
 returns-2 : tie.Need-returns-2
 returns-2 c = band-out _ _ _ _ _ _ _ _ (c .before .before .before .bad-rows .ensures) (c .before .before .if1 .left) (c .before .bad-tray .ensures) (c .if2 .taken)

@@ -10,7 +10,7 @@ use Rattle.number.specs.Bytes.{numberAt, putNumber}
 use Rattle.number.specs.Floor.{floorI64, floorF64, floorℤ, inDomain, isZero}
 use Rattle.number.specs.Magnitude as Magnitude
 use Rattle.number.specs.Narrow.{narrow}
-use Rattle.number.specs.Root as Root
+use Rattle.root.specs.Root as Root
 use Rattle.arguments.specs.Method as Method
 use Rattle.arguments.specs.Order as Order
 use Rattle.arguments.specs.Refusal as Arguments
@@ -18,7 +18,7 @@ use Rattle.arguments.specs.Store as Store
 use Rattle.fit.specs.Affine as Affine
 use Rattle.fit.specs.Barrel as Barrel
 use Rattle.fit.specs.Build as Build
-use Rattle.fit.specs.Invert as Invert
+use Rattle.solve.specs.Invert as Invert
 use Rattle.fit.specs.Mapping as Mappings
 use Rattle.fit.specs.declared.mapping.Fitted.{Fitted}
 use Rattle.inverse.specs.Inverse as Inverse

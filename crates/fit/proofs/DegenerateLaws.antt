@@ -13,7 +13,7 @@ use Rattle.arguments.specs.Refusal.{pairsOf, refusal}
 use Rattle.arguments.specs.Store.{countOf, valuesOf, orderOf}
 use Rattle.fit.specs.declared.mapping.Fitted.{Fitted}
 use Rattle.fit.specs.declared.mapping.Mapping.{Mapping}
-use Rattle.fit.specs.declared.solve.Solution.{Solution}
+use Rattle.solve.specs.declared.solve.Solution.{Solution}
 use Rattle.fit.specs.Affine.{affineProjection, shift, similarity, affine}
 use Rattle.fit.specs.Barrel.{barrel}
 use Rattle.fit.specs.Build.{made, build}

@@ -16,7 +16,7 @@ use Rattle.arguments.proofs.StoreLaws.{held-all}
 use Rattle.fit.specs.declared.mapping.Fitted.{Fitted}
 use Rattle.fit.specs.Build.{made, build}
 use Rattle.fit.specs.Mapping.{refused}
-use Rattle.solve.specs.Matrix.{Vector}
+use Rattle.matrix.specs.Matrix.{Vector}
 
 module _ (m : ℕ) (bytes : List ℕ) {number : ℕ} (told : number ≡ refusal m bytes) where
   none : number ≡ 0 → Accepted m bytes

@@ -21,13 +21,13 @@ use Rattle.fit.specs.Barrel.{barrel}
 use Rattle.fit.specs.Build.{made, build}
 use Rattle.fit.specs.Fit.{both}
 use Rattle.fit.specs.Mapping.{polyKind, barrelKind, barrelInverseKind, shepardsKind, mapping, fitted, refused, solvedOr8}
-use Rattle.solve.specs.Matrix.{Vector}
+use Rattle.matrix.specs.Matrix.{Vector}
 use Rattle.fit.specs.Perspective.{forward, perspectiveProjection, perspective}
 use Rattle.fit.specs.Shepards.{shepards}
 use Rattle.fit.proofs.BuildLaws.{few-pairs}
 use Rattle.fit.proofs.FitLaws.{affine-terms, polynomial-terms}
 use Rattle.fit.proofs.OrientLaws.{orient-length}
-use Rattle.solve.proofs.InvertLaws.{affine-length, inverse-length}
+use Rattle.matrix.proofs.InvertLaws.{affine-length, inverse-length}
 
 pub record Room (f : Fitted) : Type 0 where
   pub all : f .mapping .count ≤ 256

@@ -16,7 +16,7 @@ use Rattle.fit.specs.declared.mapping.Fitted.{Fitted}
 use Rattle.solve.specs.declared.solve.Solution.{Solution}
 use Rattle.fit.specs.Mapping.{mapping, fitted, refused, solvedOr8}
 use Rattle.fit.specs.Fit.{both}
-use Rattle.solve.specs.Matrix.{Vector, System}
+use Rattle.matrix.specs.Matrix.{Vector, System}
 use Rattle.solve.specs.Normal.{addRow, normal, inTurn}
 use Rattle.solve.proofs.NormalLaws.{normal-next, normal-next-two}
 

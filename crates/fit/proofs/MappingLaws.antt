@@ -9,7 +9,7 @@ use native.Mathlib.Omega.{arith}
 use lib.ListN.{List·getD-append, length, take, drop, set, getD, replicate, length-append, length-replicate}
 use lib.Seq.{paste, paste-suc, length-paste, length-take-le, take-append-seam, drop-append-add}
 use lib.Ieee.{Float, nan}
-use Rattle.solve.specs.Matrix.{Vector, at, nought}
+use Rattle.matrix.specs.Matrix.{Vector, at, nought}
 use Rattle.fit.specs.declared.mapping.Mapping.{Mapping}
 use Rattle.fit.specs.Padded.{padded}
 use Rattle.fit.specs.Mapping.{mapping}

@@ -11,7 +11,7 @@ use Rattle.exact.specs.Double.{_⊗_}
 use Rattle.exact.specs.Loop.{upTo}
 use Rattle.number.specs.Power.{power}
 use Rattle.exact.proofs.Loop.{upTo-none, upTo-next}
-use Rattle.solve.specs.Matrix.{Vector, at, nought}
+use Rattle.matrix.specs.Matrix.{Vector, at, nought}
 use Rattle.fit.specs.Padded.{padded}
 use Rattle.fit.specs.Monomials.{term, push, ofDegree, powers, putTerm}
 use Rattle.fit.proofs.LoopLaws.{upTo-both}

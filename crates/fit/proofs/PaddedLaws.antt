@@ -6,7 +6,7 @@ use native.Mathlib.Omega.{arith}
 use lib.ListN.{length, set, replicate, length-append, length-replicate}
 use lib.Seq.{set-append-seam, append-snoc}
 use lib.Ieee.{Float}
-use Rattle.solve.specs.Matrix.{Vector, nought}
+use Rattle.matrix.specs.Matrix.{Vector, nought}
 use Rattle.fit.specs.Padded.{padded}
 
 pub padded-length : (n : ℕ) (xs : Vector) → length xs ≤ n → length (padded n xs) ≡ n

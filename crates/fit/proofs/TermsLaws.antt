@@ -9,7 +9,7 @@ use lib.ListN.{length, getD, take, length-map}
 use lib.Seq.{getD-take, length-take-le}
 use lib.Ieee.{Float, nan}
 use Rattle.exact.specs.Loop.{turns, upTo}
-use Rattle.solve.specs.Matrix.{Vector, at}
+use Rattle.matrix.specs.Matrix.{Vector, at}
 use Rattle.fit.specs.Monomials.{push, ofDegree, monomials, exponents, monomial, monomialAt}
 
 -- an element of a list that was mapped

@@ -9,7 +9,7 @@ use Rattle.number.specs.Magnitude.{fmin}
 use Rattle.number.specs.Power.{one}
 use Rattle.fit.specs.declared.mapping.Fitted.{Fitted}
 use Rattle.fit.specs.Mapping.{mapping, fitted}
-use Rattle.solve.specs.Matrix.{Vector, at}
+use Rattle.matrix.specs.Matrix.{Vector, at}
 use Rattle.fit.specs.Perspective.{two}
 
 -- args.get(k).copied().unwrap_or(other)

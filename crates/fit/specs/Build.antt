@@ -12,7 +12,7 @@ use Rattle.fit.specs.declared.mapping.Fitted.{Fitted}
 use Rattle.fit.specs.Affine.{affine, affineProjection}
 use Rattle.fit.specs.Barrel.{barrel}
 use Rattle.fit.specs.Mapping.{barrelKind, barrelInverseKind, refused}
-use Rattle.solve.specs.Matrix.{Vector}
+use Rattle.matrix.specs.Matrix.{Vector}
 use Rattle.fit.specs.Perspective.{perspective, perspectiveProjection}
 use Rattle.fit.specs.Polynomial.{polynomial, bilinearReverse, bilinearForward}
 use Rattle.fit.specs.Shepards.{shepards}

@@ -10,7 +10,7 @@ use Rattle.fit.specs.declared.rows.Terms.{Terms}
 use Rattle.fit.specs.declared.rows.Twin.{Twin}
 use Rattle.solve.specs.declared.solve.Solution.{Solution}
 use Rattle.fit.specs.Mapping.{mapping, solvedOr8}
-use Rattle.solve.specs.Matrix.{Vector}
+use Rattle.matrix.specs.Matrix.{Vector}
 use Rattle.solve.specs.Normal.{lstsq, inTurn}
 use Rattle.fit.specs.Pairs.{pairAt}
 use Rattle.fit.specs.Rows.{rowOf, sideOf, firstRow, secondRow}

@@ -6,7 +6,7 @@ use mathlib.Core.List.{[]}
 use lib.ListN.{length}
 use Rattle.fit.specs.declared.mapping.Mapping.{Mapping}
 use Rattle.fit.specs.declared.mapping.Fitted.{Fitted}
-use Rattle.solve.specs.Matrix.{Vector}
+use Rattle.matrix.specs.Matrix.{Vector}
 use Rattle.fit.specs.Padded.{padded}
 
 -- ---- kinds; 0 is no mapping

@@ -9,7 +9,7 @@ use lib.Ieee.{Float}
 use Rattle.exact.specs.Double.{_⊗_}
 use Rattle.exact.specs.Loop.{upTo}
 use Rattle.number.specs.Power.{one, power}
-use Rattle.solve.specs.Matrix.{Vector, at}
+use Rattle.matrix.specs.Matrix.{Vector, at}
 
 -- x.powi(total - j) * y.powi(j)
 abbrev pub term : Float → Float → ℕ → ℕ → Float

@@ -4,7 +4,7 @@ use mathlib.Core.Bool.{cond}
 use mathlib.Core.List.{[], _∷_}
 use lib.Ieee.{Float, lt, neg}
 use Rattle.exact.specs.Double.{_⊕_, _⊗_}
-use Rattle.solve.specs.Matrix.{Vector, at, nought}
+use Rattle.matrix.specs.Matrix.{Vector, at, nought}
 
 abbrev pub denominator : Vector → Float → Float → Float
 denominator m x y = at m 6 ⊗ x ⊕ at m 7 ⊗ y ⊕ at m 8

@@ -2,7 +2,7 @@
 use Prim.Native.Nat.{ℕ, _-_}
 use mathlib.Core.List.{_++_}
 use lib.ListN.{length, replicate}
-use Rattle.solve.specs.Matrix.{Vector, nought}
+use Rattle.matrix.specs.Matrix.{Vector, nought}
 
 -- xs in an array of n
 abbrev pub padded : ℕ → Vector → Vector

@@ -1,7 +1,7 @@
 -- Pairs: u, v in the picture and x, y in the output, four numbers each, after `skip` others in the store. Assumes nothing.
 use Prim.Native.Nat.{ℕ, _+_, _*_}
 use Rattle.fit.specs.declared.pairs.Pair.{Pair}
-use Rattle.solve.specs.Matrix.{Vector, at}
+use Rattle.matrix.specs.Matrix.{Vector, at}
 
 abbrev pub pairAt : Vector → ℕ → ℕ → Pair
 pairAt values skip j = record {

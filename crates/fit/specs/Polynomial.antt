@@ -9,7 +9,7 @@ use Rattle.fit.specs.declared.rows.Side.the-variants.{OfU, OfV, OfX, OfY
 use Rattle.fit.specs.declared.rows.Terms.the-variants.{Polynomial, Forward}
 use Rattle.fit.specs.Fit.{fitBoth}
 use Rattle.fit.specs.Mapping.{polyKind, bilinearForwardKind}
-use Rattle.solve.specs.Matrix.{Vector}
+use Rattle.matrix.specs.Matrix.{Vector}
 
 -- 0 for the terms 1, x, y, xy and else the degree
 unfoldable pub orderNumber : Float → ℕ

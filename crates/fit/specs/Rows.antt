@@ -10,7 +10,7 @@ use Rattle.fit.specs.declared.rows.Side.{Side}
 use Rattle.fit.specs.declared.rows.Side.the-variants.{OfU, OfV, OfX, OfY}
 use Rattle.fit.specs.declared.rows.Twin.{Twin}
 use Rattle.fit.specs.declared.rows.Twin.the-variants.{Similarity, Perspective}
-use Rattle.solve.specs.Matrix.{Vector, nought}
+use Rattle.matrix.specs.Matrix.{Vector, nought}
 use Rattle.fit.specs.Monomials.{monomials}
 use Rattle.fit.specs.Padded.{padded}
 

@@ -3,7 +3,7 @@ use Prim.Native.Nat.{ℕ, _*_}
 use lib.ListN.{take}
 use Rattle.fit.specs.declared.mapping.Fitted.{Fitted}
 use Rattle.fit.specs.Mapping.{shepardsKind, mapping, fitted}
-use Rattle.solve.specs.Matrix.{Vector}
+use Rattle.matrix.specs.Matrix.{Vector}
 
 unfoldable pub shepards : Vector → ℕ → Fitted
 shepards args pairs = fitted (mapping shepardsKind 0 (take (4 * pairs) args))

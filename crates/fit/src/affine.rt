@@ -11,7 +11,7 @@ use crate::rows::Side;
 use crate::rows::Terms;
 use crate::rows::Twin;
 use arguments::method::Affine;
-use solve::invert::invert_affine;
+use matrix::invert::invert_affine;
 
 // The arguments are a forward map, column by column.
 pub fn affine_projection(values: &[f64; 257]) -> Fitted

@@ -12,7 +12,7 @@ use crate::rows::Side;
 use crate::rows::Twin;
 use crate::rows::side_of;
 use arguments::method::Perspective;
-use solve::invert::invert3;
+use matrix::invert::invert3;
 
 // Where row k of a homography's numerators takes (u, v).
 fn projected(m: &[f64; 9], k: usize, u: f64, v: f64) -> f64

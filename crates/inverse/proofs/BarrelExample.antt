@@ -6,7 +6,7 @@ use lib.IntN.{pos, negsuc}
 use lib.Ieee.{Float, fin, add, sub, mul, div, sum, round, ofBits, le}
 use Rattle.number.specs.Magnitude.{abs, within}
 use Rattle.root.specs.Root.{root, rootOf, nearestRoot, wholeRoot}
-use Rattle.solve.specs.Matrix.{Vector}
+use Rattle.matrix.specs.Matrix.{Vector}
 use Rattle.inverse.specs.Point.{usable}
 use Rattle.inverse.specs.Barrel.{barrel}
 

@@ -11,7 +11,7 @@ use lib.Ieee.Scale.{finite}
 use Rattle.exact.specs.Fraction.{Fraction, frac, value, _≤F_, _+F_, _*F_, _/F_, absF}
 use Rattle.exact.specs.Loop.{upTo, turns}
 use Rattle.exact.specs.Sums.{asked, askedF, Linear}
-use Rattle.solve.specs.Matrix.{Vector, at}
+use Rattle.matrix.specs.Matrix.{Vector, at}
 use Rattle.inverse.specs.Polynomial.{ofU, ofV}
 use Rattle.inverse.specs.Inverse.{inverse}
 use Rattle.inverse.specs.ExactPoint.{monomialsF, powerAt, exactPoint}

@@ -9,7 +9,7 @@ use Rattle.exact.specs.Double.{_⊕_, _⊖_}
 use Rattle.exact.specs.Loop.{upTo}
 use Rattle.exact.proofs.Loop.{upTo-next, upTo-last, upTo-stay}
 use Rattle.number.specs.Magnitude.{abs}
-use Rattle.solve.specs.Matrix.{Vector}
+use Rattle.matrix.specs.Matrix.{Vector}
 use Rattle.inverse.specs.declared.point.Point.{Point}
 use Rattle.inverse.specs.Point.{point, none}
 use Rattle.inverse.specs.Course.{Course, on, out, turn, ended}

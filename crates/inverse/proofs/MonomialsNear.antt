@@ -16,7 +16,7 @@ use Rattle.exact.specs.Sums.{Coordinate, Relative, raised, powF}
 use Rattle.exact.proofs.Relative.{relative-one, relative-more}
 use Rattle.exact.proofs.Powers.{coordinate-relative, monomial-relative, product-relative}
 use Rattle.number.specs.Power.{one, power}
-use Rattle.solve.specs.Matrix.{Vector, at}
+use Rattle.matrix.specs.Matrix.{Vector, at}
 use Rattle.fit.specs.Monomials.{push, ofDegree, monomials}
 use Rattle.fit.proofs.LoopLaws.{upTo-both}
 use Rattle.inverse.specs.ExactPoint.{pushF, ofDegreeF, monomialsF}

@@ -18,7 +18,7 @@ use Rattle.exact.proofs.Pixels.{asked-coordinate}
 use Rattle.exact.proofs.Linear.{affine-close}
 use Rattle.exact.proofs.Perspective.{perspective-passes, perspective-close}
 use Rattle.exact.proofs.Polynomial.{plus-zero, polynomial-close}
-use Rattle.solve.specs.Matrix.{Vector, at, nought}
+use Rattle.matrix.specs.Matrix.{Vector, at, nought}
 use Rattle.fit.specs.Monomials.{monomials}
 use Rattle.inverse.specs.declared.point.Point.{Point}
 use Rattle.inverse.specs.Point.{point, none}

@@ -11,7 +11,7 @@ use borrow.Author.Tests.{ne-eqb}
 use Rattle.exact.specs.Double.{_⊕_, _⊗_}
 use Rattle.exact.specs.Loop.{upTo, turns}
 use Rattle.exact.proofs.Loop.{upTo-same}
-use Rattle.solve.specs.Matrix.{Vector, at, nought}
+use Rattle.matrix.specs.Matrix.{Vector, at, nought}
 use Rattle.fit.specs.Padded.{padded}
 use Rattle.fit.specs.Monomials.{push, ofDegree, upToDegree, monomials}
 use Rattle.inverse.specs.Point.{point}

@@ -8,7 +8,7 @@ use lib.Ieee.{Float, binary64, ofBits, lt}
 use Rattle.exact.specs.Double.{_⊕_, _⊖_, _⊗_}
 use Rattle.exact.specs.Loop.{upTo}
 use Rattle.exact.proofs.Loop.{upTo-next, upTo-last, upTo-stay}
-use Rattle.solve.specs.Matrix.{Vector, at}
+use Rattle.matrix.specs.Matrix.{Vector, at}
 use Rattle.inverse.specs.declared.point.Point.{Point}
 use Rattle.inverse.specs.Point.{point}
 use Rattle.inverse.specs.Course.{Course, on, out, turn, ended}

@@ -1,7 +1,7 @@
 -- Affine: u = m0 x + m1 y + m2, v = m3 x + m4 y + m5. Assumes nothing.
 use lib.Ieee.{Float}
 use Rattle.exact.specs.Sums.{linear}
-use Rattle.solve.specs.Matrix.{Vector, at}
+use Rattle.matrix.specs.Matrix.{Vector, at}
 use Rattle.inverse.specs.declared.point.Point.{Point}
 use Rattle.inverse.specs.Point.{point}
 

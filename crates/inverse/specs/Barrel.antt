@@ -6,7 +6,7 @@ use Rattle.exact.specs.Double.{_⊕_, _⊖_, _⊗_, _⊘_}
 use Rattle.number.specs.Magnitude.{abs}
 use Rattle.number.specs.Power.{one}
 use Rattle.root.specs.Root.{root}
-use Rattle.solve.specs.Matrix.{Vector, at}
+use Rattle.matrix.specs.Matrix.{Vector, at}
 use Rattle.inverse.specs.declared.point.Point.{Point}
 use Rattle.inverse.specs.Point.{point, none}
 

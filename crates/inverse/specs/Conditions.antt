@@ -9,7 +9,7 @@ use lib.Ieee.Scale.{finite}
 use Rattle.exact.specs.Fraction.{Fraction, frac, value, _≤F_, _*F_, absF}
 use Rattle.exact.specs.Sums.{Linear}
 use Rattle.exact.specs.Warp.{Coordinate}
-use Rattle.solve.specs.Matrix.{Vector, at}
+use Rattle.matrix.specs.Matrix.{Vector, at}
 use Rattle.inverse.specs.declared.point.Point.{Point}
 use Rattle.inverse.specs.Polynomial.{ofU, ofV}
 use Rattle.inverse.specs.ExactPoint.{denominator, powerAt, many, exactPoint}

@@ -9,7 +9,7 @@ use lib.Ieee.{Float}
 use Rattle.exact.specs.Fraction.{Fraction, frac, value, _*F_, _/F_}
 use Rattle.exact.specs.Loop.{upTo}
 use Rattle.exact.specs.Sums.{linearF, summedF, powF}
-use Rattle.solve.specs.Matrix.{Vector, at}
+use Rattle.matrix.specs.Matrix.{Vector, at}
 use Rattle.inverse.specs.Polynomial.{ofU, ofV}
 
 -- ---- affine, and perspective

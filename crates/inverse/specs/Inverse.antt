@@ -3,7 +3,7 @@ use Prim.Native.Nat.{ℕ}
 use mathlib.Core.Bool.{cond}
 use lib.Dec.{eqb}
 use lib.Ieee.{Float}
-use Rattle.solve.specs.Matrix.{Vector}
+use Rattle.matrix.specs.Matrix.{Vector}
 use Rattle.fit.specs.Mapping.{affineKind, perspectiveKind, polyKind, bilinearForwardKind, barrelKind, barrelInverseKind, shepardsKind}
 use Rattle.inverse.specs.declared.point.Point.{Point}
 use Rattle.inverse.specs.Point.{none}

@@ -2,7 +2,7 @@
 use mathlib.Core.Bool.{Bool, false, _&&_}
 use lib.Ieee.{Float, binary64, ofBits}
 use Rattle.number.specs.Magnitude.{within}
-use Rattle.solve.specs.Matrix.{nought}
+use Rattle.matrix.specs.Matrix.{nought}
 use Rattle.inverse.specs.declared.point.Point.{Point}
 
 abbrev pub limit : Float

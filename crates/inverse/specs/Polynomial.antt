@@ -5,7 +5,7 @@ use lib.ListN.{length}
 use lib.Ieee.{Float}
 use Rattle.exact.specs.Double.{_⊗_}
 use Rattle.exact.specs.Sums.{summed}
-use Rattle.solve.specs.Matrix.{Vector, at, nought}
+use Rattle.matrix.specs.Matrix.{Vector, at, nought}
 use Rattle.fit.specs.Monomials.{monomials}
 use Rattle.inverse.specs.declared.point.Point.{Point}
 use Rattle.inverse.specs.Point.{point}

@@ -7,7 +7,7 @@ use Prim.Native.Nat.{ℕ, _+_, _<_}
 use native.Mathlib.Omega.{arith}
 use Rattle.exact.proofs.Loop.{upTo-keep}
 use Rattle.number.specs.Magnitude.{reaching}
-use Rattle.solve.specs.Matrix.{Matrix, System, entry}
+use Rattle.matrix.specs.Matrix.{Matrix, System, entry}
 use Rattle.solve.specs.Eliminate.{better, pivot, outcome, column, step}
 
 either-below : (t : Bool) (row best n : ℕ) → row < n → best < n → cond t row best < n

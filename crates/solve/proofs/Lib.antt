@@ -3,4 +3,3 @@ pub mod EliminateLaws
 pub mod SolveLaws
 pub mod NormalLaws
 pub mod ShapeLaws
-pub mod InvertLaws

@@ -9,7 +9,7 @@ use lib.Dec.{eqb}
 use lib.Ieee.{Float}
 use Rattle.exact.proofs.Loop.{upTo-none, upTo-next}
 use Rattle.solve.specs.declared.solve.Solution.{Solution}
-use Rattle.solve.specs.Matrix.{Vector, System, zeros, zeroMatrix}
+use Rattle.matrix.specs.Matrix.{Vector, System, zeros, zeroMatrix}
 use Rattle.solve.specs.Solve.{solved}
 use Rattle.solve.specs.Normal.{addRow, normal, lstsq, inTurn}
 

@@ -1,4 +1,4 @@
--- The shapes that the fit's definitions keep: 21 rows of 21 numbers, a right-hand side and a solution of 21, and zeros past the n-th
+-- The shapes that the definitions keep: 21 rows of 21 numbers, a right-hand side and a solution of 21, and zeros past the n-th
 -- unknown. Each store keeps them, so each loop does. Assumes nothing.
 use mathlib.Core.Path.{_≡_, refl, sym, ap, _∙_, subst}
 use mathlib.Core.Bool.{Bool, true, false}
@@ -12,7 +12,7 @@ use lib.Seq.{getD-set-same, getD-set-other}
 use lib.Ieee.{Float, nan}
 use borrow.Author.Tests.{eqb-true, eqb-false}
 use Rattle.exact.proofs.Loop.{upTo-keep, downTo-keep}
-use Rattle.solve.specs.Matrix.{Vector, Matrix, System, at, rowAt, put, nought, zeros, zeroMatrix}
+use Rattle.matrix.specs.Matrix.{Vector, Matrix, System, at, rowAt, put, nought, zeros, zeroMatrix}
 use Rattle.solve.specs.Eliminate.{eliminated}
 use Rattle.solve.specs.Solve.{substitute, substituted, answer, solved}
 use Rattle.solve.specs.Normal.{addProduct, addTerm, addRow, normal}

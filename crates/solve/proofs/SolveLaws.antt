@@ -3,7 +3,7 @@ use mathlib.Core.Path.{_≡_, sym, ap, _∙_}
 use mathlib.Core.Bool.{Bool, true, false}
 use Prim.Native.Nat.{ℕ}
 use Rattle.solve.specs.declared.solve.Solution.{Solution}
-use Rattle.solve.specs.Matrix.{Vector, System, zeros}
+use Rattle.matrix.specs.Matrix.{Vector, System, zeros}
 use Rattle.solve.specs.Eliminate.{outcome, eliminated}
 use Rattle.solve.specs.Solve.{substituted, answer, solved}
 

@@ -8,7 +8,7 @@ use lib.Ieee.{Float, nan, binary64, ofBits, lt}
 use Rattle.exact.specs.Double.{_⊖_, _⊗_, _⊘_}
 use Rattle.exact.specs.Loop.{upTo}
 use Rattle.number.specs.Magnitude.{abs, reaching}
-use Rattle.solve.specs.Matrix.{Matrix, System, at, entry, put}
+use Rattle.matrix.specs.Matrix.{Matrix, System, at, entry, put}
 
 -- ---- the pivot: the row of the largest magnitude in the column, from row `col` on, the last among equals, a NaN above all
 

@@ -1,6 +1,4 @@
--- The definitions, a file for each module of src/, over one of matrices.
-pub mod Matrix
+-- The definitions, a file for each module of src/.
 pub mod Eliminate
 pub mod Solve
 pub mod Normal
-pub mod Invert

@@ -8,7 +8,7 @@ use lib.Ieee.{Float}
 use Rattle.exact.specs.Double.{_⊕_, _⊗_}
 use Rattle.exact.specs.Loop.{upTo}
 use Rattle.solve.specs.declared.solve.Solution.{Solution}
-use Rattle.solve.specs.Matrix.{Vector, Matrix, System, at, entry, put, zeros, zeroMatrix}
+use Rattle.matrix.specs.Matrix.{Vector, Matrix, System, at, entry, put, zeros, zeroMatrix}
 use Rattle.solve.specs.Solve.{solved}
 
 -- the first factor of each product that row i of the equations takes from a row

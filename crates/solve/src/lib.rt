@@ -1,5 +1,4 @@
-// Linear equations: the normal equations of rows, elimination, the solution; and the inverses of two mappings.
+// Linear equations: the normal equations of rows, elimination, the solution.
 pub mod eliminate;
-pub mod invert;
 pub mod normal;
 pub mod solve;

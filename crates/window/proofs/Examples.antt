@@ -8,9 +8,9 @@ use lib.Ieee.{ofBits, ofFields, ofInt, odd, lt, eq, add, sub, mul, div, neg, isN
 use Rattle.number.specs.Floor.{floorℤ}
 use Rattle.number.specs.Magnitude.{abs, fmin, fmax}
 use Rattle.number.specs.Power.{one}
-use Rattle.solve.specs.Invert.{invertAffine}
+use Rattle.matrix.specs.Invert.{invertAffine}
 use Rattle.fit.specs.Mapping.{affineKind}
-use Rattle.solve.specs.Matrix.{Vector, nought}
+use Rattle.matrix.specs.Matrix.{Vector, nought}
 use Rattle.window.specs.declared.window.Placed.the-variants.{Window, Refused}
 use Rattle.window.specs.Bestfit.{affineFound, bestfit}
 use Rattle.window.specs.Ceil.{ceilℤ}

@@ -8,7 +8,7 @@ use lib.Ieee.{Float, binary64, ofInt}
 use lib.Ieee.Scale.{finite}
 use Rattle.exact.specs.Double.{_⊕_, _⊖_}
 use Rattle.number.specs.Floor.{floorℤ}
-use Rattle.solve.specs.Matrix.{Vector}
+use Rattle.matrix.specs.Matrix.{Vector}
 use Rattle.window.specs.declared.bestfit.Found.{Found}
 use Rattle.window.specs.declared.bestfit.Found.the-variants.{Box, Nothing}
 use Rattle.window.specs.declared.span.Span.{Span}

@@ -5,11 +5,11 @@ use mathlib.Core.Bool.{cond}
 use mathlib.Core.List.{[], _∷_}
 use lib.Dec.{eqb}
 use lib.Ieee.{Float}
-use Rattle.solve.specs.declared.invert.AffineInverse.{AffineInverse}
-use Rattle.solve.specs.declared.invert.Inverse.{Inverse}
-use Rattle.solve.specs.Invert.{invertAffine, invert3}
+use Rattle.matrix.specs.declared.invert.AffineInverse.{AffineInverse}
+use Rattle.matrix.specs.declared.invert.Inverse.{Inverse}
+use Rattle.matrix.specs.Invert.{invertAffine, invert3}
 use Rattle.fit.specs.Mapping.{affineKind, perspectiveKind}
-use Rattle.solve.specs.Matrix.{Vector, at}
+use Rattle.matrix.specs.Matrix.{Vector, at}
 use Rattle.window.specs.declared.bestfit.Found.{Found}
 use Rattle.window.specs.declared.bestfit.Found.the-variants.{Box, Nothing}
 use Rattle.window.specs.Corners.{affineEdges, anyLost, perspectiveEdges}

@@ -5,7 +5,7 @@ use mathlib.Core.Bool.{Bool, _||_}
 use lib.Ieee.{Float, binary64, ofBits, lt}
 use Rattle.exact.specs.Double.{_⊕_, _⊗_, _⊘_}
 use Rattle.number.specs.Magnitude.{abs}
-use Rattle.solve.specs.Matrix.{Vector, at, nought}
+use Rattle.matrix.specs.Matrix.{Vector, at, nought}
 use Rattle.window.specs.declared.edges.Corner.{Corner}
 use Rattle.window.specs.declared.edges.Edges.{Edges}
 use Rattle.window.specs.Edges.{boxed}

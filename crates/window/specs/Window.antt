@@ -5,7 +5,7 @@ use Prim.Native.Nat.{ℕ}
 use mathlib.Core.Bool.{Bool, cond}
 use lib.IntN.{ℤ, pos}
 use lib.Ieee.{binary64, ofInt}
-use Rattle.solve.specs.Matrix.{Vector}
+use Rattle.matrix.specs.Matrix.{Vector}
 use Rattle.window.specs.declared.bestfit.Found.{Found}
 use Rattle.window.specs.declared.bestfit.Found.the-variants.{Box, Nothing}
 use Rattle.window.specs.declared.edges.Edges.{Edges}

@@ -7,8 +7,8 @@ use crate::corners::any_lost;
 use crate::corners::perspective_edges;
 use crate::edges::Edges;
 use fit::mapping;
-use solve::invert::invert_affine;
-use solve::invert::invert3;
+use matrix::invert::invert_affine;
+use matrix::invert::invert3;
 
 pub enum Found {
     Box(Edges),

@@ -1,7 +1,7 @@
 -- `fit::affine::affine_projection` meets its contract: each way out is the case of the inverse that was or was not found.
 -- Assumes nothing.
 use lib.ListN.{length}
-use Rattle.solve.proofs.InvertLaws.{affine-length}
+use Rattle.matrix.proofs.InvertLaws.{affine-length}
 use Rattle.fit.specs.Affine.{affineProjection}
 use Rattle.fit.proofs.FitLaws.{none-8, some-8}
 use borrow.Author.Tests.{not-true, not-false}

@@ -1,5 +1,5 @@
 -- `fit::perspective::mean` meets its contract. The loop's invariant: the sum is the definition's after j pairs. Assumes nothing.
-use Rattle.solve.specs.Matrix.{nought}
+use Rattle.matrix.specs.Matrix.{nought}
 use Rattle.fit.specs.Perspective.{addPart}
 use Rattle.exact.proofs.Loop.{upTo-none, upTo-next, upTo-last}
 use Rattle.exact.specs.Loop.{upTo}

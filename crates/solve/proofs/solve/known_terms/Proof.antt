@@ -5,7 +5,7 @@ use Prim.Native.Nat.{_+_, _-_, _≤_}
 use borrow.Author.Needs.{needs}
 use Rattle.exact.specs.Loop.{upTo}
 use Rattle.exact.proofs.Loop.{upTo-none, upTo-next, upTo-last}
-use Rattle.solve.specs.Matrix.{nought}
+use Rattle.matrix.specs.Matrix.{nought}
 use Rattle.solve.specs.Solve.{addKnown}
 use Rattle.solve.proofs.solve.known_terms.Statement.{statement}
 use Rattle.solve.proofs.solve.known_terms.Tie as tie

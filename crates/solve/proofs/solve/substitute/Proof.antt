@@ -6,7 +6,7 @@ use borrow.Author.Needs.{needs}
 use Rattle.exact.specs.Loop.{downTo}
 use Rattle.exact.proofs.Loop.{downTo-none, downTo-next, downTo-last}
 use Rattle.solve.specs.Solve.{substitute}
-use Rattle.solve.specs.Matrix.{zeros}
+use Rattle.matrix.specs.Matrix.{zeros}
 use Rattle.solve.proofs.solve.substitute.Statement.{statement}
 use Rattle.solve.proofs.solve.substitute.Tie as tie
 

@@ -4,7 +4,7 @@ use borrow.Author.Needs.{needs}
 use borrow.Author.Tests.{not-true, not-false}
 use mathlib.Core.Bool.{Bool, true, false, not, cond}
 use lib.Ieee.{Float}
-use Rattle.solve.specs.declared.invert.AffineInverse.{AffineInverse}
+use Rattle.matrix.specs.declared.invert.AffineInverse.{AffineInverse}
 use Rattle.window.specs.declared.edges.Edges.{Edges}
 use Rattle.window.specs.declared.bestfit.Found.the-variants.{Box, Nothing}
 use Rattle.window.specs.Corners.{affineEdges}

@@ -5,7 +5,7 @@ use borrow.Author.Needs.{needs}
 use borrow.Author.Tests.{not-true, not-false}
 use mathlib.Core.Bool.{Bool, true, false, not, cond}
 use lib.Ieee.{Float}
-use Rattle.solve.specs.declared.invert.Inverse.{Inverse}
+use Rattle.matrix.specs.declared.invert.Inverse.{Inverse}
 use Rattle.window.specs.declared.edges.Edges.{Edges}
 use Rattle.window.specs.declared.bestfit.Found.{Found}
 use Rattle.window.specs.declared.bestfit.Found.the-variants.{Box, Nothing}

@@ -4,7 +4,7 @@ use Prim.Native.Nat.{ℕ}
 use borrow.Author.Needs.{needs}
 use lib.IntN.{pos}
 use lib.Ieee.{Float, binary64, ofInt}
-use Rattle.solve.specs.Matrix.{Vector}
+use Rattle.matrix.specs.Matrix.{Vector}
 use Rattle.window.specs.declared.edges.Edges.{Edges}
 use Rattle.window.specs.declared.bestfit.Found.{Found}
 use Rattle.window.specs.declared.bestfit.Found.the-variants.{Box, Nothing}

@@ -1,9 +1,9 @@
--- `solve::invert::invert3` meets its contract: each way out is the case of the definition that the test took.
+-- `matrix::invert::invert3` meets its contract: each way out is the case of the definition that the test took.
 -- Assumes nothing.
-use Rattle.solve.specs.Invert.{invert3}
+use Rattle.matrix.specs.Invert.{invert3}
 use borrow.Author.Needs.{needs}
-use Rattle.solve.proofs.invert.invert3.Statement.{statement}
-use Rattle.solve.proofs.invert.invert3.Tie as tie
+use Rattle.matrix.proofs.invert.invert3.Statement.{statement}
+use Rattle.matrix.proofs.invert.invert3.Tie as tie
 
 returns : tie.Need-returns
 unfolding invert3

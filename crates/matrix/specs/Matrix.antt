@@ -1,5 +1,5 @@
 -- Matrices and vectors as the code holds them: lists with room for 21 unknowns, a matrix as the list of its rows. Past its end a
--- list reads as a NaN; no definition of the fit reads there. Assumes nothing.
+-- list reads as a NaN; no definition reads there. Assumes nothing.
 use Prim.Native.Nat.{ℕ}
 use mathlib.Core.List.{List, []}
 use lib.ListN.{getD, set, replicate}

@@ -5,10 +5,10 @@ use Prim.Native.Nat.{ℕ}
 use lib.ListN.{length}
 use lib.Ieee.{binary64, ofBits, lt}
 use Rattle.number.specs.Magnitude.{abs}
-use Rattle.solve.specs.declared.invert.AffineInverse.{AffineInverse}
-use Rattle.solve.specs.declared.invert.Inverse.{Inverse}
-use Rattle.solve.specs.Matrix.{Vector}
-use Rattle.solve.specs.Invert.{det2, invertAffine, det3, invert3}
+use Rattle.matrix.specs.declared.invert.AffineInverse.{AffineInverse}
+use Rattle.matrix.specs.declared.invert.Inverse.{Inverse}
+use Rattle.matrix.specs.Matrix.{Vector}
+use Rattle.matrix.specs.Invert.{det2, invertAffine, det3, invert3}
 
 pub either : {A : Type 0} (size : A → ℕ) (n : ℕ) (b : Bool) (x y : A) → size x ≡ n → size y ≡ n → size (cond b x y) ≡ n
 either size n true x y e f = e

@@ -1,9 +1,9 @@
--- `solve::invert::invert_affine` meets its contract: each way out is the case of the definition that the test took.
+-- `matrix::invert::invert_affine` meets its contract: each way out is the case of the definition that the test took.
 -- Assumes nothing.
-use Rattle.solve.specs.Invert.{invertAffine}
+use Rattle.matrix.specs.Invert.{invertAffine}
 use borrow.Author.Needs.{needs}
-use Rattle.solve.proofs.invert.invert_affine.Statement.{statement}
-use Rattle.solve.proofs.invert.invert_affine.Tie as tie
+use Rattle.matrix.proofs.invert.invert_affine.Statement.{statement}
+use Rattle.matrix.proofs.invert.invert_affine.Tie as tie
 
 returns : tie.Need-returns
 unfolding invertAffine

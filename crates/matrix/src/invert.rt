@@ -1,7 +1,7 @@
 // Inversions of the forward maps: of an affine one and of a homography (row-major 3 by 3). Assumes nothing.
 ghost use mathlib.Core.Path.{_≡_};
-ghost use Rattle.solve.specs.Invert.{invertAffine};
-ghost use Rattle.solve.specs.Invert as Invert;
+ghost use Rattle.matrix.specs.Invert.{invertAffine};
+ghost use Rattle.matrix.specs.Invert as Invert;
 use number::magnitude::abs;
 
 pub struct AffineInverse {

@@ -6,10 +6,10 @@ use lib.ListN.{replicate}
 use lib.Ieee.{Float, binary64, ofBits, lt, neg}
 use Rattle.exact.specs.Double.{_⊕_, _⊖_, _⊗_, _⊘_}
 use Rattle.number.specs.Magnitude.{abs}
-use Rattle.solve.specs.declared.invert.AffineInverse.{AffineInverse}
-use Rattle.solve.specs.declared.invert.Inverse.{Inverse}
+use Rattle.matrix.specs.declared.invert.AffineInverse.{AffineInverse}
+use Rattle.matrix.specs.declared.invert.Inverse.{Inverse}
 use Rattle.number.specs.Power.{one}
-use Rattle.solve.specs.Matrix.{Vector, at, nought}
+use Rattle.matrix.specs.Matrix.{Vector, at, nought}
 
 -- ---- u = m0 x + m1 y + m2, v = m3 x + m4 y + m5
 

@@ -1,0 +1,2 @@
+-- The laws of the inverses.
+pub mod InvertLaws

@@ -1,0 +1,3 @@
+-- Matrices as lists, and their inverses.
+pub mod Invert
+pub mod Matrix

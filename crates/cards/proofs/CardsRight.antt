@@ -18,7 +18,7 @@ use Rattle.arguments.specs.Store as Store
 use Rattle.fit.specs.Affine as Affine
 use Rattle.fit.specs.Barrel as Barrel
 use Rattle.fit.specs.Build as Build
-use Rattle.solve.specs.Invert as Invert
+use Rattle.matrix.specs.Invert as Invert
 use Rattle.fit.specs.Mapping as Mappings
 use Rattle.fit.specs.declared.mapping.Fitted.{Fitted}
 use Rattle.inverse.specs.Inverse as Inverse

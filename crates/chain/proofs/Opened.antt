@@ -13,7 +13,7 @@ use Rattle.fit.specs.Affine as Affine
 use Rattle.fit.specs.Build as Build
 use Rattle.solve.specs.Eliminate as Eliminate
 use Rattle.fit.specs.Fit as Fit
-use Rattle.solve.specs.Invert as Invert
+use Rattle.matrix.specs.Invert as Invert
 use Rattle.fit.specs.Mapping as Mappings
 use Rattle.fit.specs.Monomials as Monomials
 use Rattle.solve.specs.Normal as Normal

@@ -8,7 +8,7 @@ use lib.ListN.{replicate}
 use Rattle.exact.specs.Double.{_⊖_}
 use Rattle.exact.specs.Sums.{asked}
 use Rattle.exact.specs.Warp.{half}
-use Rattle.fit.specs.Matrix.{Vector}
+use Rattle.matrix.specs.Matrix.{Vector}
 use Rattle.inverse.specs.Inverse.{inverse}
 use Rattle.inverse.specs.declared.point.Point.{Point}
 use Rattle.sampler.specs.Interpolate.{interpolate}

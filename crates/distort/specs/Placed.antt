@@ -6,7 +6,7 @@ use mathlib.Core.List.{List}
 use lib.Dec.{eqb, ltb}
 use lib.ListN.{length}
 use lib.IntN.{ℤ}
-use Rattle.fit.specs.Matrix.{Vector}
+use Rattle.matrix.specs.Matrix.{Vector}
 use Rattle.window.specs.declared.window.Placed.{Placed}
 use Rattle.window.specs.declared.window.Placed.the-variants.{Window}
 use Rattle.window.specs.declared.window.Placed.the-variants as Placed

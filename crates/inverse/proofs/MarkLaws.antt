@@ -10,7 +10,7 @@ use Rattle.exact.specs.Sums.{linear}
 use Rattle.exact.proofs.Loop.{upTo-keep}
 use Rattle.number.specs.Magnitude.{abs}
 use Rattle.number.specs.Power.{one}
-use Rattle.fit.specs.Matrix.{Vector, at}
+use Rattle.matrix.specs.Matrix.{Vector, at}
 use Rattle.fit.specs.Mapping.{affineKind, perspectiveKind, polyKind, bilinearForwardKind, barrelKind, barrelInverseKind, shepardsKind}
 use Rattle.inverse.specs.declared.point.Point.{Point}
 use Rattle.inverse.specs.Point.{usable, point, none}

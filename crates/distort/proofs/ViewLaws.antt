@@ -8,11 +8,11 @@ use Rattle.window.specs.Window.{window}
 use Rattle.distort.specs.Job.{Image, Given, Call, yes, flag}
 
 -- the numbers of the call's viewport
-pub record Viewed (c : Call) (width height : ℕ) (x y : ℤ) : Type 0 where
-  pub width : width ≡ c .given .viewWidth
-  pub height : height ≡ c .given .viewHeight
-  pub x : x ≡ c .given .viewX
-  pub y : y ≡ c .given .viewY
+pub record Viewed (c : Call) (w h : ℕ) (a b : ℤ) : Type 0 where
+  pub width : w ≡ c .given .viewWidth
+  pub height : h ≡ c .given .viewHeight
+  pub x : a ≡ c .given .viewX
+  pub y : b ≡ c .given .viewY
 
 pub view-read : (c : Call) (kind : ℕ) (coef : Vector) (best viewport : Bool) (width height : ℕ) (x y : ℤ) → (viewport ≡ true → Viewed c width height x y)
     → window kind coef (c .image .width) (c .image .height) best viewport width height x y
@@ -32,5 +32,5 @@ yes-flag n e = e ∙ go (yes n)
     go false = refl
 
 -- what is read where a test holds
-pub read-if : {A : Type 0} {b t : Bool} {x y z : A} → b ≡ t → b ≡ true → x ≡ y → x ≡ cond t y z
-read-if {A} {b} {t} {x} {y} {z} e h g = g ∙ ap (λ (s : Bool). cond s y z) (sym h ∙ e)
+pub read-if : {A : Type 0} {b t : Bool} {x y : A} (z : A) → b ≡ t → b ≡ true → x ≡ y → x ≡ cond t y z
+read-if {A} {b} {t} {x} {y} z e h g = g ∙ ap (λ (s : Bool). cond s y z) (sym h ∙ e)

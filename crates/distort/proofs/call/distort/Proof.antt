@@ -1,5 +1,6 @@
 -- `distort` meets its contract, stage by stage: the tests that need no fit, the fit, and the window with what is worked in it. Assumes nothing.
 use mathlib.Core.Path.{refl}
+use lib.IntN.{pos}
 use mir.Syntax.{w64}
 use mir.ValLaws.{toZ-ofZ}
 use borrow.Author.Needs.{needs}
@@ -32,7 +33,7 @@ windowed-requires c κs =
 returns-3 : tie.Need-returns-3
 returns-3 c =
     let s = c .before .before .before .before .before .before .before .before .before .before .before .before .before .before .before .before .before .before .before .before .before in
-    by-window (made s) (c .before .before .before .before .before .before .before .before .before .before .before .before .before .before .before .before .before .unfit .ensures) (c .before .before .before .before .before .before .before .before .before .before .before .before .before .before .before .before .if1 .left) (c .before .before .before .before .before .before .before .before .before .before .before .before .before .before .before .build .ensures) (c .before .before .before .before .before .before .before .before .before .before .before .before .before .before .if2 .left) (yes-flag (s .args .bestfit) (c .before .before .before .before .before .before .yes .ensures)) (yes-flag (s .args .viewport) (c .before .before .before .before .before .yes2 .ensures)) (λ h. let v = c .before .before .before .before .before .yes2 .ensures in record { width = read-if v h refl; height = read-if v h refl; x = read-if v h (toZ-ofZ w64 (s .args .view-x) (s .fits .view-x)); y = read-if v h (toZ-ofZ w64 (s .args .view-y) (s .fits .view-y)) }) (c .before .before .before .before .before .before .before .before .before .before .pixel .ensures) (c .before .before .before .before .before .before .before .before .pixel2 .ensures) (c .before .before .before .before .widest .ensures)
+    by-window (made s) (c .before .before .before .before .before .before .before .before .before .before .before .before .before .before .before .before .before .unfit .ensures) (c .before .before .before .before .before .before .before .before .before .before .before .before .before .before .before .before .if1 .left) (c .before .before .before .before .before .before .before .before .before .before .before .before .before .before .before .build .ensures) (c .before .before .before .before .before .before .before .before .before .before .before .before .before .before .if2 .left) (yes-flag (s .args .bestfit) (c .before .before .before .before .before .before .yes .ensures)) (yes-flag (s .args .viewport) (c .before .before .before .before .before .yes2 .ensures)) (λ h. let v = c .before .before .before .before .before .yes2 .ensures in record { width = read-if 0 v h refl; height = read-if 0 v h refl; x = read-if (pos 0) v h (toZ-ofZ w64 (s .args .view-x) (s .fits .view-x)); y = read-if (pos 0) v h (toZ-ofZ w64 (s .args .view-y) (s .fits .view-y)) }) (c .before .before .before .before .before .before .before .before .before .before .pixel .ensures) (c .before .before .before .before .before .before .before .before .pixel2 .ensures) (c .before .before .before .before .widest .ensures)
     (c .before .before .windowed .ensures)
 
 pub distort-spec : {M : Type 1} → statement M

@@ -1,0 +1,16 @@
+-- The exported call hands on what the call answers and leaves, whatever way its numbers took. Assumes nothing.
+use mathlib.Core.Path.{_≡_, ap, _∙_}
+use mathlib.Core.List.{List}
+use Prim.Native.Nat.{ℕ}
+use Rattle.distort.specs.Call.{answer, left, numberOf, putAnswer}
+use Rattle.distort.specs.Job.{Call}
+use Rattle.distort.specs.declared.answer.Answer.{Answer}
+
+pub number-of : {c d : Call} → c ≡ d → {a : Answer} {n : ℕ} → a ≡ answer c → n ≡ numberOf a → n ≡ numberOf (answer d)
+number-of p e f = f ∙ ap numberOf (e ∙ ap answer p)
+
+pub band-of : {c d : Call} → c ≡ d → {band : List ℕ} → band ≡ left c → band ≡ left d
+band-of p e = e ∙ ap left p
+
+pub answer-of : {c d : Call} → c ≡ d → {a : Answer} (before : List ℕ) {after : List ℕ} → a ≡ answer c → after ≡ putAnswer a before → after ≡ putAnswer (answer d) before
+answer-of p before e f = f ∙ ap (λ (x : Answer). putAnswer x before) (e ∙ ap answer p)

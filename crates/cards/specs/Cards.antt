@@ -56,7 +56,7 @@ abbrev pub opaqueBlack : List ℕ
 opaqueBlack = f32s (0 ∷ 0 ∷ 0 ∷ 0x3f80_0000 ∷ [])
 
 abbrev pub image : ℕ → ℕ → ℕ → Image
-image width height samples = record { bytes = replicate samples 0; width = width; height = height; channels = 1 }
+image width height size = record { bytes = replicate size 0; width = width; height = height; channels = 1 }
 
 abbrev pub given : ℕ → List ℕ → ℕ → Given
 given method arguments bestfit = record {

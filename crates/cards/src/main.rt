@@ -2,9 +2,11 @@
 // table that are calls. Each asks for no rows of a grey picture of zeros, under `Edge` and `Nearest`.
 ghost use mathlib.Core.Path.{_≡_};
 ghost use mathlib.Core.List.{[]};
-ghost use lib.ListN.{take};
+ghost use Prim.Native.Nat.{_≤_};
+ghost use lib.IntN.{pos};
 ghost use Rattle.distort.specs.Call.{answer, numberOf, putAnswer};
 ghost use Rattle.distort.specs.Job.{callOf};
+ghost use Rattle.cards.specs.Cards.{opaqueBlack};
 use distort::answer::put_answer;
 use distort::call::distort;
 use libc::STDOUT_FILENO;
@@ -19,6 +21,9 @@ const SHEPARDS: u64 = 13;
 
 const ONE: u64 = 0x3ff0_0000_0000_0000;
 
+// The bytes of -1 as a number.
+const MINUS_ONE: u64 = 0xffff_ffff_ffff_ffff;
+
 // 0, 0, 0, 1: opaque black.
 const BLACK: [u8; 16] = [0, 0, 0, 0, 0, 0, 0, 0, 0, 0, 0, 0, 0, 0, 128, 63];
 
@@ -31,8 +36,11 @@ fn ask(
     arguments: &[u8],
     bestfit: u64,
     out: &mut [u8; 48],
-) -> u64 {
-    let mut band = [0u8; 4];
+) -> u64
+    ensures { λ r.
+        ⌜ (r ≡ numberOf (answer (callOf (now (picture .entry)) width height 1 method (now (arguments .entry)) 0 1 opaqueBlack opaqueBlack bestfit 0 0 0 (pos 0) (pos 0) 0 0 []))) × (now (out .exit) ≡ putAnswer (answer (callOf (now (picture .entry)) width height 1 method (now (arguments .entry)) 0 1 opaqueBlack opaqueBlack bestfit 0 0 0 (pos 0) (pos 0) 0 0 [])) (now (out .entry))) ⌝ }
+{
+    let mut band = [0u8; 0];
     let answered = distort(
         picture,
         width,
@@ -52,7 +60,7 @@ fn ask(
         0,
         0,
         0,
-        &mut band[..0],
+        &mut band,
     );
     put_answer(answered, out)
 }
@@ -135,7 +143,21 @@ fn order_card() -> bool {
     ask(&picture, 1, 1, POLYNOMIAL, &arguments, 0, &mut out) == 7
 }
 
-// The identity's bestfit on 4 by 3: 6 by 5 at -1, -1.
+// Whether the answer is 6 by 5 at -1, -1.
+fn grown(out: &[u8; 48]) -> bool {
+    if u64_at(out, 0) != 6 {
+        return false;
+    }
+    if u64_at(out, 8) != 5 {
+        return false;
+    }
+    if u64_at(out, 16) != MINUS_ONE {
+        return false;
+    }
+    u64_at(out, 24) == MINUS_ONE
+}
+
+// The identity's bestfit on 4 by 3.
 fn bestfit_card() -> bool {
     let picture = [0u8; 48];
     let mut out = [0u8; 48];
@@ -143,31 +165,35 @@ fn bestfit_card() -> bool {
     if ask(&picture, 4, 3, AFFINE_PROJECTION, &arguments, 1, &mut out) != 0 {
         return false;
     }
-    if u64_at(&out, 0) != 6 {
-        return false;
-    }
-    if u64_at(&out, 8) != 5 {
-        return false;
-    }
-    if u64_at(&out, 16) != 18446744073709551615 {
-        return false;
-    }
-    u64_at(&out, 24) == 18446744073709551615
+    grown(&out)
 }
 
-fn right(held: bool) -> u64 {
+fn right(held: bool) -> u64
+    ensures { λ r. ⌜ r ≤ 1 ⌝ }
+{
     if held { 1 } else { 0 }
 }
 
+// How many of the cards of the limits came out right.
+fn limits() -> u64
+    ensures { λ r. ⌜ r ≤ 6 ⌝ }
+{
+    let sizes = right(size_card(4096, 0)) + right(size_card(4097, 1));
+    let numbers = right(number_card(0x4130_0000_0000_0000, 0))
+        + right(number_card(0x4130_0000_0000_0001, 5));
+    let pairs = right(pairs_card(64, 0)) + right(pairs_card(65, 4));
+    sizes + numbers + pairs
+}
+
+// How many of the table's cards came out right.
+fn others() -> u64
+    ensures { λ r. ⌜ r ≤ 3 ⌝ }
+{
+    right(singular_card()) + right(order_card()) + right(bestfit_card())
+}
+
 fn main() {
-    let limits = right(size_card(4096, 0))
-        + right(size_card(4097, 1))
-        + right(number_card(0x4130_0000_0000_0000, 0))
-        + right(number_card(0x4130_0000_0000_0001, 5))
-        + right(pairs_card(64, 0))
-        + right(pairs_card(65, 4));
-    let others = right(singular_card()) + right(order_card()) + right(bestfit_card());
-    let passed = limits + others;
+    let passed = limits() + others();
     io::write_all(STDOUT_FILENO, b"cards: ");
     io::print_decimal(STDOUT_FILENO, passed);
     io::write_all(STDOUT_FILENO, b" passed, ");

@@ -2,18 +2,19 @@
 // number is 8 bytes, the lowest first. First the length of a text and the text, then the number of jobs. A job is 18 numbers (width, height, channels,
 // method, policy, interpolation, bestfit, viewport, view width, view height, view x, view y, first row, rows, the lengths of picture, arguments and
 // band, the refusal), 16 bytes of background and 16 of matte, the picture, the arguments, and of an accepted job the answer's 48 bytes and the
-// band. Nothing is longer than 4,096 bytes. No contract can speak of a file, so only what is compared has one.
+// band. Nothing is longer than 4,096 bytes. No contract can speak of a file: what compares has one, and all is safe and ends.
 ghost use mathlib.Core.Path.{_≡_};
+ghost use mathlib.Core.Bool.{_&&_};
 ghost use Prim.Native.Nat.{_≤_};
-ghost use lib.ListN.{length};
+ghost use lib.ListN.{take};
+ghost use Rattle.number.specs.Bytes.{twosComplement};
 ghost use Rattle.replay.specs.Same as Same;
+use distort::answer::Answer;
 use distort::answer::put_answer;
 use distort::call::distort;
 use libc::STDIN_FILENO;
 use libc::STDOUT_FILENO;
 use number::bytes::u64_at;
-
-const MOST: u64 = 4096;
 
 // How a job ended; Broken is a file that ends too early or has another form.
 enum Outcome {
@@ -22,19 +23,42 @@ enum Outcome {
     Broken,
 }
 
-fn same(a: &[u8], b: &[u8], n: usize) -> bool
-    requires { ⌜ (n ≤ length (now a)) × (n ≤ length (now b)) ⌝ }
-    ensures { λ r. ⌜ r ≡ Same.same (now (a .entry)) (now (b .entry)) n ⌝ }
+fn same(a: &[u8], b: &[u8]) -> bool
+    ensures { λ r. ⌜ r ≡ Same.same (now (a .entry)) (now (b .entry)) ⌝ }
 {
+    if a.len() != b.len() {
+        return false;
+    }
     let mut t = true;
-    for k in 0..n {
+    for k in 0..a.len() {
         t = t & (a[k] == b[k]);
     }
     t
 }
 
-// Two's complement.
-fn signed(bits: u64) -> i64 {
+fn agree(got: &[u8; 48], answer: &[u8; 48], band: &[u8], expected: &[u8]) -> bool
+    ensures { λ r.
+        ⌜ r ≡ Same.same (now (got .entry)) (now (answer .entry)) && Same.same (now (band .entry)) (now (expected .entry)) ⌝ }
+{
+    if !same(got, answer) {
+        return false;
+    }
+    same(band, expected)
+}
+
+// All of it where it is shorter.
+fn first(s: &[u8], n: usize) -> &[u8]
+    ensures { λ r. ⌜ now r ≡ take n (now (s .entry)) ⌝ }
+{
+    if n > s.len() {
+        return s;
+    }
+    &s[..n]
+}
+
+fn signed(bits: u64) -> i64
+    ensures { λ r. ⌜ twosComplement r ≡ bits ⌝ }
+{
     if bits < 9223372036854775808 {
         bits as i64
     } else {
@@ -42,25 +66,35 @@ fn signed(bits: u64) -> i64 {
     }
 }
 
-fn fill(buffer: &mut [u8], n: usize) -> bool
-    requires { ⌜ n ≤ length (now buffer) ⌝ }
-{
+// Whether the buffer has room for n bytes and the input has them.
+fn fill(buffer: &mut [u8], n: usize) -> bool {
+    if n > buffer.len() {
+        return false;
+    }
     io::read_full(STDIN_FILENO, &mut buffer[..n]) == n
 }
 
-// The call of a job, and whether it answers as stored: a refusal leaves band and answer as they were.
-fn answers(
+// The stored answer and band, which a refused job has not.
+fn stored(head: &[u8; 144], answer: &mut [u8; 48], expected: &mut [u8], n: usize) -> bool {
+    if u64_at(head, 136) != 0 {
+        return true;
+    }
+    if !fill(answer, 48) {
+        return false;
+    }
+    fill(expected, n)
+}
+
+// The call of a job.
+fn call(
     head: &[u8; 144],
     background: &[u8; 16],
     matte: &[u8; 16],
     picture: &[u8],
     arguments: &[u8],
-    answer: &[u8; 48],
-    expected: &[u8],
     band: &mut [u8],
-) -> bool {
-    let mut got = [90u8; 48];
-    let answered = distort(
+) -> Answer {
+    distort(
         picture,
         u64_at(head, 0),
         u64_at(head, 8),
@@ -80,60 +114,89 @@ fn answers(
         u64_at(head, 96),
         u64_at(head, 104),
         band,
-    );
-    let number = put_answer(answered, &mut got);
-    if number != u64_at(head, 136) {
-        return false;
-    }
-    if !same(&got, answer, 48) {
-        return false;
-    }
-    if band.len() != expected.len() {
-        return false;
-    }
-    same(band, expected, band.len())
+    )
 }
 
-// The rest of a job after its numbers.
+// Whether the call answers as stored: a refusal leaves band and answer as they were.
+fn answers(
+    head: &[u8; 144],
+    background: &[u8; 16],
+    matte: &[u8; 16],
+    picture: &[u8],
+    arguments: &[u8],
+    answer: &[u8; 48],
+    expected: &[u8],
+    band: &mut [u8],
+) -> bool {
+    let mut got = [90u8; 48];
+    let answered = call(head, background, matte, picture, arguments, band);
+    if put_answer(answered, &mut got) != u64_at(head, 136) {
+        return false;
+    }
+    agree(&got, answer, band, expected)
+}
+
+// With a band as long as the expected one.
 fn replay(
     head: &[u8; 144],
-    picture_length: usize,
-    arguments_length: usize,
-    band_length: usize,
-) -> Outcome
-    requires { ⌜ (picture_length ≤ 4096) × ((arguments_length ≤ 4096) × (band_length ≤ 4096)) ⌝ }
-{
+    background: &[u8; 16],
+    matte: &[u8; 16],
+    picture: &[u8],
+    arguments: &[u8],
+    answer: &[u8; 48],
+    expected: &[u8],
+) -> Outcome {
+    let mut band = [90u8; 4096];
+    let n = expected.len();
+    if n > 4096 {
+        return Outcome::Broken;
+    }
+    if answers(
+        head,
+        background,
+        matte,
+        picture,
+        arguments,
+        answer,
+        expected,
+        &mut band[..n],
+    ) {
+        return Outcome::Right;
+    }
+    Outcome::Wrong
+}
+
+// A job after its numbers.
+fn rest(head: &[u8; 144]) -> Outcome {
     let mut background = [0u8; 16];
     let mut matte = [0u8; 16];
     let mut picture = [0u8; 4096];
     let mut arguments = [0u8; 4096];
     let mut answer = [90u8; 48];
     let mut expected = [90u8; 4096];
-    let mut band = [90u8; 4096];
+    let picture_length = u64_at(head, 112) as usize;
+    let arguments_length = u64_at(head, 120) as usize;
+    let band_length = u64_at(head, 128) as usize;
+    if band_length > 4096 {
+        return Outcome::Broken;
+    }
     let mut whole = fill(&mut background, 16);
     whole = whole & fill(&mut matte, 16);
     whole = whole & fill(&mut picture, picture_length);
     whole = whole & fill(&mut arguments, arguments_length);
-    if u64_at(head, 136) == 0 {
-        whole = whole & fill(&mut answer, 48);
-        whole = whole & fill(&mut expected, band_length);
-    }
+    whole = whole & stored(head, &mut answer, &mut expected, band_length);
     if !whole {
         return Outcome::Broken;
     }
-    if answers(
+    replay(
         head,
         &background,
         &matte,
-        &picture[..picture_length],
-        &arguments[..arguments_length],
+        first(&picture, picture_length),
+        first(&arguments, arguments_length),
         &answer,
-        &expected[..band_length],
-        &mut band[..band_length],
-    ) {
-        return Outcome::Right;
-    }
-    Outcome::Wrong
+        first(&expected, band_length),
+    )
 }
 
 fn job() -> Outcome {
@@ -141,24 +204,7 @@ fn job() -> Outcome {
     if !fill(&mut head, 144) {
         return Outcome::Broken;
     }
-    let picture_length = u64_at(&head, 112);
-    let arguments_length = u64_at(&head, 120);
-    let band_length = u64_at(&head, 128);
-    if picture_length > MOST {
-        return Outcome::Broken;
-    }
-    if arguments_length > MOST {
-        return Outcome::Broken;
-    }
-    if band_length > MOST {
-        return Outcome::Broken;
-    }
-    replay(
-        &head,
-        picture_length as usize,
-        arguments_length as usize,
-        band_length as usize,
-    )
+    rest(&head)
 }
 
 // How many jobs there are, after the text; none where the file has another form.
@@ -168,11 +214,7 @@ fn begin() -> u64 {
     if !fill(&mut number, 8) {
         return 0;
     }
-    let length = u64_at(&number, 0);
-    if length > MOST {
-        return 0;
-    }
-    if !fill(&mut text, length as usize) {
+    if !fill(&mut text, u64_at(&number, 0) as usize) {
         return 0;
     }
     if !fill(&mut number, 8) {
@@ -189,25 +231,32 @@ fn print(passed: u64, failed: u64) {
     io::write_all(STDOUT_FILENO, b" failed\n");
 }
 
-// A file that breaks off counts as one failure more; so does one without jobs.
-fn main() {
-    let jobs = begin();
-    let mut passed: u64 = 0;
+// How many of them pass, up to where the file breaks off: the job there has not passed either.
+fn passed(jobs: u64) -> u64
+    ensures { λ r. ⌜ r ≤ jobs ⌝ }
+{
+    let mut n: u64 = 0;
     for k in 0..jobs {
         match job() {
             Outcome::Right => {
-                passed = passed + 1;
+                n = n + 1;
             }
             Outcome::Wrong => {}
             Outcome::Broken => {
-                print(passed, jobs - passed + 1);
-                return;
+                return n;
             }
         }
     }
+    n
+}
+
+// A file without jobs is one failure.
+fn main() {
+    let jobs = begin();
     if jobs == 0 {
         print(0, 1);
         return;
     }
-    print(passed, jobs - passed);
+    let n = passed(jobs);
+    print(n, jobs - n);
 }

@@ -1,4 +1,4 @@
-# Two commands: `make test` proves everything and runs every test; `make demo` shows the main job as far as it exists.
+# `make test` proves everything and runs every test; `make demo` squares a card; `make bench` times the product beside the original.
 .PHONY: test demo bench clean
 
 test:

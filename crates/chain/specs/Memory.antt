@@ -1,5 +1,5 @@
 -- The third demand of memory: calls read and write ranges of one memory of bytes, and the host writes between them, under document 01's words on sharing. Calls come
--- one after the other, and a call has read all that it is lent before it writes. What else is lent to a call, the answer's bytes among it, counts as written by the host. Assumes nothing.
+-- one after the other, and a call's band overlaps nothing that it reads, by the entry's own rule, so that it does not matter in which order it reads and writes. What else is lent to a call, the answer's bytes among it, counts as written by the host. Assumes nothing.
 use Prim.Native.Nat.{ℕ, zero, suc, _+_, _-_, _≤_, _<_}
 use mathlib.Core.Path.{_≡_}
 use mathlib.Core.Bool.{Bool, true, _&&_, cond}

@@ -1,4 +1,5 @@
-// The distort call over bytes. For every argument: nothing is asked of a caller. Picture and arguments stay as they are, since they are lent shared.
+// The distort call over bytes, for every argument. What a caller owes is what the types say: each pointer is to as many bytes as it is said to be, and band and answer overlap nothing
+// else that is lent. Picture and arguments stay as they are, since they are lent shared.
 ghost use mathlib.Core.Path.{_≡_};
 ghost use Rattle.distort.specs.Call as Distort;
 ghost use Rattle.distort.specs.Job.{callOf};

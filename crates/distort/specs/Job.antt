@@ -63,7 +63,7 @@ yes n = not (eqb n 0)
 abbrev pub flag : Bool → ℕ
 flag b = cond b 1 0
 
--- from the call's parameters, in their order. A yes is 1, and where there is no viewport its numbers are none, so that jobs that are the same are given the same.
+-- from the call's parameters, in their order. A yes is 1, and where there is no viewport its numbers are none, so that what is not given does not count.
 abbrev pub callOf : List ℕ → ℕ → ℕ → ℕ → ℕ → List ℕ → ℕ → ℕ → List ℕ → List ℕ → ℕ → ℕ → ℕ → ℕ → ℤ → ℤ → ℕ → ℕ → List ℕ → Call
 callOf picture width height channels method arguments policy interpolation background matte bestfit viewport view-width view-height view-x view-y first rows band = record {
   image = imageOf picture width height channels;

@@ -7,7 +7,7 @@ use reference::{Reference, reference_or_skip};
 const SEED: u64 = 7;
 
 fn count() -> u64 {
-    if std::env::var_os("DIHYRAVO_FULL").is_some() {
+    if differential::full() {
         1_000_000
     } else {
         20_000

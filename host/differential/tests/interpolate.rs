@@ -9,7 +9,7 @@ const SEED: u64 = 11;
 const POINTS: u64 = 20;
 
 fn full() -> bool {
-    std::env::var_os("DIHYRAVO_FULL").is_some()
+    differential::full()
 }
 
 /// In index space: inside, on borders, at fractions that round to 1, and far outside.

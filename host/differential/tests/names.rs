@@ -18,7 +18,7 @@ const ALIASES: [&str; 8] = [
 ];
 
 fn count() -> u64 {
-    if std::env::var_os("DIHYRAVO_FULL").is_some() {
+    if differential::full() {
         10_000_000
     } else {
         100_000

@@ -3,7 +3,14 @@
 use std::env;
 use std::path::PathBuf;
 
-const ARCHIVES: [&str; 3] = ["number_probes", "point_probes", "probes"];
+const ARCHIVES: [&str; 6] = [
+    "number_probes",
+    "fit_probes",
+    "window_probes",
+    "point_probes",
+    "cubic_probes",
+    "probes",
+];
 
 fn main() {
     println!("cargo::rerun-if-env-changed=DIHYRAVO_PROBES");

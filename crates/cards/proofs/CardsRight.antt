@@ -17,7 +17,7 @@ use Rattle.arguments.specs.Refusal as Arguments
 use Rattle.arguments.specs.Store as Store
 use Rattle.fit.specs.Affine as Affine
 use Rattle.fit.specs.Barrel as Barrel
-use Rattle.fit.specs.Build as Build
+use Rattle.build.specs.Build as Build
 use Rattle.matrix.specs.Invert as Invert
 use Rattle.fit.specs.Mapping as Mappings
 use Rattle.fit.specs.declared.mapping.Fitted.{Fitted}
@@ -33,9 +33,9 @@ use Rattle.pixels.specs.Pixel.{widened, pixelAt}
 use Rattle.taps.specs.Taps.{taps}
 use Rattle.taps.specs.Weighted.{weighted, mean, added, quotient}
 use Rattle.policies.specs.declared.named.Tap.the-variants as Tap
-use Rattle.window.specs.Bestfit as Bestfit
+use Rattle.bestfit.specs.Bestfit as Bestfit
 use Rattle.window.specs.Ceil as Ceil
-use Rattle.window.specs.Edges as Edges
+use Rattle.bestfit.specs.Edges as Edges
 use Rattle.window.specs.Span as Span
 use Rattle.window.specs.Window as Window
 use Rattle.window.specs.declared.window.Placed.the-variants as Placed

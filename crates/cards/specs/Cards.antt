@@ -8,7 +8,7 @@ use lib.ListN.{replicate}
 use lib.Ieee.{Float, binary32, binary64, ofBits}
 use Rattle.number.specs.Bytes.{putU32, putU64}
 use Rattle.arguments.specs.Method as Method
-use Rattle.fit.specs.Build.{build}
+use Rattle.build.specs.Build.{build}
 use Rattle.fit.specs.declared.mapping.Fitted.{Fitted}
 use Rattle.fit.specs.declared.mapping.Mapping.{Mapping}
 use Rattle.inverse.specs.Inverse.{inverse}

@@ -1,19 +1,14 @@
 -- The third demand, proved.
 pub mod ApartLaws
-pub mod BoundExample
 pub mod Chain
-pub mod Closed
 pub mod EveryList
-pub mod Example
 pub mod Faithful
 pub mod HomeLaws
 pub mod JoinLaws
 pub mod LengthLaws
 pub mod LentLaws
 pub mod MemoryCovers
-pub mod MemoryExample
 pub mod MemoryLaws
-pub mod Opened
 pub mod PixelLaws
 pub mod PlaceLaws
 pub mod PlaneLaws

@@ -14,7 +14,7 @@ use Rattle.number.specs.Bytes.{sampleAt}
 use Rattle.arguments.specs.Method as Method
 use Rattle.fit.specs.declared.mapping.Fitted.{Fitted}
 use Rattle.fit.specs.declared.mapping.Mapping.{Mapping}
-use Rattle.inverse.specs.Conditions.{Meets}
+use Rattle.nearness.specs.Conditions.{Meets}
 use Rattle.pixels.specs.Colour.{one}
 use Rattle.pixels.specs.declared.colour.Rgba.{Rgba}
 use Rattle.distort.specs.Job.{Image, Given, Call, colourOf}

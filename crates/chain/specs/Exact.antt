@@ -7,10 +7,10 @@ use Rattle.exact.specs.Fraction.{Fraction, frac, value, _-F_}
 use Rattle.exact.specs.Sums.{askedF}
 use Rattle.exact.specs.Warp.{exactSample}
 use Rattle.number.specs.Bytes.{sampleAt}
-use Rattle.fit.specs.Build.{build}
+use Rattle.build.specs.Build.{build}
 use Rattle.fit.specs.declared.mapping.Fitted.{Fitted}
 use Rattle.fit.specs.declared.mapping.Mapping.{Mapping}
-use Rattle.inverse.specs.ExactPoint.{exactPoint}
+use Rattle.nearness.specs.ExactPoint.{exactPoint}
 use Rattle.pixels.specs.Colour as Colour
 use Rattle.policies.specs.Named.{named}
 use Rattle.pixels.specs.declared.colour.Rgba.{Rgba}

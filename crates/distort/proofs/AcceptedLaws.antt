@@ -19,7 +19,7 @@ use Rattle.arguments.proofs.AcceptedLaws.{Accepted, accepted}
 use Rattle.arguments.proofs.CountLaws.{neither}
 use Rattle.fit.specs.declared.mapping.Fitted.{Fitted}
 use Rattle.fit.specs.declared.mapping.Mapping.{Mapping}
-use Rattle.fit.proofs.DegenerateLaws.{build-8}
+use Rattle.build.proofs.DegenerateLaws.{build-8}
 use Rattle.window.specs.Window.{refusalOf, widthOf, heightOf, xOf, yOf}
 use Rattle.window.specs.declared.window.Placed.{Placed}
 use Rattle.window.specs.declared.window.Placed.the-variants.{Window, Refused}

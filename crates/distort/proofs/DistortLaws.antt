@@ -11,7 +11,7 @@ use lib.IntN.{ℤ}
 use borrow.Author.Tests.{eq-eqb, ne-eqb}
 use Rattle.exact.specs.Table.{firstOf}
 use Rattle.exact.proofs.TableLaws.{row-holds, row-passed, no-rows}
-use Rattle.fit.specs.Build.{build}
+use Rattle.build.specs.Build.{build}
 use Rattle.fit.specs.declared.mapping.Fitted.{Fitted}
 use Rattle.fit.specs.declared.mapping.Mapping.{Mapping}
 use Rattle.window.specs.Window.{window, refusalOf, widthOf, heightOf, xOf, yOf}

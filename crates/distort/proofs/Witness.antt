@@ -16,7 +16,7 @@ use Rattle.arguments.specs.Store.{heldOf, keep, valuesOf, orderOf}
 use Rattle.arguments.specs.Refusal as Arguments
 use Rattle.arguments.proofs.Witness.{zeros, float}
 use Rattle.fit.specs.Affine.{affineProjection, shift, affine}
-use Rattle.fit.specs.Build.{made, build}
+use Rattle.build.specs.Build.{made, build}
 use Rattle.matrix.specs.Invert.{invertAffine}
 use Rattle.fit.specs.Mapping.{mapping, refused, solvedOr8}
 use Rattle.window.specs.Span.{goodOffset, goodLength, held}

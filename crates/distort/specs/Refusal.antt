@@ -12,7 +12,7 @@ use Rattle.number.specs.Bytes.{sampleAt}
 use Rattle.number.specs.Magnitude.{within}
 use Rattle.arguments.specs.Method.{present}
 use Rattle.arguments.specs.Refusal as Arguments
-use Rattle.fit.specs.Build.{build}
+use Rattle.build.specs.Build.{build}
 use Rattle.fit.specs.declared.mapping.Fitted.{Fitted}
 use Rattle.fit.specs.declared.mapping.Mapping.{Mapping}
 use Rattle.pixels.specs.Colour.{one}

@@ -16,7 +16,7 @@ use crate::rows::put_rows;
 use crate::tray::bad_rows;
 use crate::tray::bad_tray;
 use crate::tray::widest;
-use fit::build::build;
+use build::build::build;
 use pixels::colour::Rgba;
 use pixels::pixel::pixel;
 use window::window::Placed;

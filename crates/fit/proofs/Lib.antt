@@ -6,6 +6,3 @@ pub mod MonomialsLaws
 pub mod TermsLaws
 pub mod MappingLaws
 pub mod FitLaws
-pub mod BuildLaws
-pub mod CountLaws
-pub mod DegenerateLaws

@@ -12,4 +12,3 @@ pub mod Perspective
 pub mod Polynomial
 pub mod Barrel
 pub mod Shepards
-pub mod Build

@@ -1,7 +1,6 @@
 // The fit: from pairs to the coefficients of a mapping.
 pub mod affine;
 pub mod barrel;
-pub mod build;
 pub mod lstsq;
 pub mod mapping;
 pub mod monomials;

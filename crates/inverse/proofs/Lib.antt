@@ -1,10 +1,7 @@
--- The laws of the source points, a file for each subject. Other crates cite those of MarkLaws and PointNear.
+-- The laws of the source points, a file for each subject. Other crates cite those of MarkLaws.
 pub mod ForwardLaws
 pub mod ShepardsLaws
 pub mod PolynomialLaws
 pub mod UsableLaws
 pub mod MarkLaws
-pub mod MonomialsNear
-pub mod PointNear
 pub mod BarrelExample
-pub mod ConditionsExamples

@@ -1,4 +1,4 @@
--- The definitions of the source points: each method's, then the conditions of the exact chain at a point.
+-- The definitions of the source points, each method's.
 pub mod Point
 pub mod Course
 pub mod Affine
@@ -8,5 +8,3 @@ pub mod Forward
 pub mod Barrel
 pub mod Shepards
 pub mod Inverse
-pub mod ExactPoint
-pub mod Conditions

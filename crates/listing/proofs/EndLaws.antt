@@ -9,7 +9,7 @@ use mathlib.Core.List.{List}
 use lib.Dec.{eqb, ltb}
 use lib.ListN.{length, take}
 use Rattle.fit.specs.declared.mapping.Fitted.{Fitted}
-use Rattle.fit.specs.Build.{build}
+use Rattle.build.specs.Build.{build}
 use Rattle.listing.specs.declared.reader.Reader.{Reader}
 use Rattle.listing.specs.declared.reader.Outcome.{Outcome}
 use Rattle.listing.specs.declared.reader.Outcome.the-variants.{Arguments, Refused}

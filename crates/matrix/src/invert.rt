@@ -17,20 +17,26 @@ pub struct Inverse {
 pub fn invert_affine(m: [f64; 6]) -> AffineInverse
     ensures { λ r. ⌜ r ≡ invertAffine m ⌝ }
 {
-    let det = m[0] * m[4] - m[1] * m[3];
+    let p = m[0];
+    let q = m[1];
+    let r = m[2];
+    let s = m[3];
+    let t = m[4];
+    let u = m[5];
+    let det = p * t - q * s;
     if abs(det) < 1e-12 {
         return AffineInverse {
             found: false,
             m: [0.0; 6],
         };
     }
-    let a = m[4] / det;
-    let b = -m[1] / det;
-    let c = -m[3] / det;
-    let d = m[0] / det;
+    let a = t / det;
+    let b = -q / det;
+    let c = -s / det;
+    let d = p / det;
     AffineInverse {
         found: true,
-        m: [a, b, -(a * m[2] + b * m[5]), c, d, -(c * m[2] + d * m[5])],
+        m: [a, b, -(a * r + b * u), c, d, -(c * r + d * u)],
     }
 }
 
@@ -38,24 +44,41 @@ pub fn invert_affine(m: [f64; 6]) -> AffineInverse
 fn adjugate(m: &[f64; 9], i: f64) -> [f64; 9]
     ensures { λ r. ⌜ r ≡ Invert.adjugate (now (m .entry)) i ⌝ }
 {
+    let a = m[0];
+    let b = m[1];
+    let c = m[2];
+    let d = m[3];
+    let e = m[4];
+    let f = m[5];
+    let g = m[6];
+    let h = m[7];
+    let j = m[8];
     [
-        (m[4] * m[8] - m[5] * m[7]) * i,
-        (m[2] * m[7] - m[1] * m[8]) * i,
-        (m[1] * m[5] - m[2] * m[4]) * i,
-        (m[5] * m[6] - m[3] * m[8]) * i,
-        (m[0] * m[8] - m[2] * m[6]) * i,
-        (m[2] * m[3] - m[0] * m[5]) * i,
-        (m[3] * m[7] - m[4] * m[6]) * i,
-        (m[1] * m[6] - m[0] * m[7]) * i,
-        (m[0] * m[4] - m[1] * m[3]) * i,
+        (e * j - f * h) * i,
+        (c * h - b * j) * i,
+        (b * f - c * e) * i,
+        (f * g - d * j) * i,
+        (a * j - c * g) * i,
+        (c * d - a * f) * i,
+        (d * h - e * g) * i,
+        (b * g - a * h) * i,
+        (a * e - b * d) * i,
     ]
 }
 
 fn det3(m: &[f64; 9]) -> f64
     ensures { λ r. ⌜ r ≡ Invert.det3 (now (m .entry)) ⌝ }
 {
-    m[0] * (m[4] * m[8] - m[5] * m[7]) - m[1] * (m[3] * m[8] - m[5] * m[6])
-        + m[2] * (m[3] * m[7] - m[4] * m[6])
+    let a = m[0];
+    let b = m[1];
+    let c = m[2];
+    let d = m[3];
+    let e = m[4];
+    let f = m[5];
+    let g = m[6];
+    let h = m[7];
+    let j = m[8];
+    a * (e * j - f * h) - b * (d * j - f * g) + c * (d * h - e * g)
 }
 
 pub fn invert3(m: [f64; 9]) -> Inverse

@@ -10,7 +10,7 @@ use Rattle.fit.specs.declared.mapping.Fitted.{Fitted}
 use Rattle.fit.specs.declared.mapping.Mapping.{Mapping}
 use Rattle.inverse.specs.Inverse.{inverse}
 use Rattle.inverse.specs.declared.point.Point.{Point}
-use Rattle.point_probes.specs.Sized.{sizedFit}
+use Rattle.fit_probes.specs.Sized.{sizedFit}
 
 abbrev pub flag : Bool → ℕ
 flag b = cond b 1 0

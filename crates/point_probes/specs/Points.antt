@@ -12,7 +12,7 @@ use Rattle.fit.specs.declared.mapping.Fitted.{Fitted}
 use Rattle.fit.specs.declared.mapping.Mapping.{Mapping}
 use Rattle.inverse.specs.Inverse.{inverse}
 use Rattle.point_probes.specs.Pointed.{putPoint}
-use Rattle.point_probes.specs.Sized.{sizedFit}
+use Rattle.fit_probes.specs.Sized.{sizedFit}
 
 -- not 16 bytes for each point asked for (the bits of x and y), and 24 for each answer
 unfoldable pub wrongLengths : ℕ → ℕ → Bool

@@ -1,7 +1,4 @@
-// A static library for tests alone: its exports hand the fit, the source points and the window to the host. Floats pass as their
+// A static library for tests alone: its exports hand the source points to the host. Floats pass as their
 // bits; a NaN comes out as 0x7ff8000000000000. No product links it.
-pub mod fitted;
-pub mod placed;
 pub mod pointed;
 pub mod points;
-pub mod sized;

@@ -3,7 +3,7 @@ ghost use mathlib.Core.Path.{_≡_};
 ghost use Prim.Native.Nat.{_+_, _≤_};
 ghost use lib.ListN.{length};
 ghost use Rattle.point_probes.specs.Pointed.{flag, putPoint, probeInverse};
-use crate::sized::sized_fit;
+use fit_probes::sized::sized_fit;
 use inverse::point::Point;
 use inverse::source::inverse;
 use number::bytes::put_f64;

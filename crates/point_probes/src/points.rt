@@ -5,7 +5,7 @@ ghost use lib.ListN.{length};
 ghost use Rattle.exact.specs.Loop.{upTo};
 ghost use Rattle.point_probes.specs.Points.{wrongLengths, putNext, probePoints};
 use crate::pointed::put_point;
-use crate::sized::sized_fit;
+use fit_probes::sized::sized_fit;
 use inverse::source::inverse;
 use number::bytes::f64_at;
 

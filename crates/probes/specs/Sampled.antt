@@ -1,21 +1,18 @@
--- The sampler handed out: 0 with the colour's or the weights' bits in the bytes lent, or 1 outside the domain, where nothing is written. Assumes nothing.
+-- The sampler handed out: 0 with the colour's bits in the bytes lent, or 1 outside the domain, where nothing is written. Assumes nothing.
 use Prim.Native.Nat.{ℕ, _*_}
 use mathlib.Core.Bool.{Bool, false, not, cond, _||_}
 use mathlib.Core.List.{List}
 use lib.Dec.{eqb, ltb}
 use lib.ListN.{length}
-use lib.Ieee.{Float, binary32, binary64, ofBits, le}
+use lib.Ieee.{binary32, binary64, ofBits}
 use Rattle.exact.specs.Loop.{upTo}
-use Rattle.number.specs.Bytes.{sampleAt, putF32}
+use Rattle.number.specs.Bytes.{sampleAt}
 use Rattle.number.specs.Magnitude.{within}
 use Rattle.number_probes.specs.Size.{wrongSize}
 use Rattle.taps.specs.Cell.{reach}
-use Rattle.pixels.specs.Colour.{zero, half, one}
-use Rattle.cubic.specs.Cubic.{cubicWeights}
 use Rattle.sampler.specs.Interpolate.{interpolate}
 use Rattle.pixels.specs.Pixel.{pixelAt}
 use Rattle.pixels.specs.Store.{putPixel}
-use Rattle.taps.specs.Weighted.{weightAt}
 use Rattle.pixels.specs.declared.colour.Rgba.{Rgba}
 
 -- ---- what is outside the domain
@@ -53,17 +50,3 @@ unfoldable pub probeInterpolate : List ℕ → ℕ → ℕ → ℕ → ℕ → �
 probeInterpolate bytes width height channels policy code background x y out =
     cond (outside bytes width height channels policy code background x y) (1, out)
     (0, putColour bytes width height channels policy code (pixelAt background 1 4 0 0) x y out 0)
-
-abbrev pub putWeights : List ℕ → List Float → List ℕ
-putWeights out w = putF32 (putF32 (putF32 (putF32 out 0 (weightAt w 0)) 4 (weightAt w 1)) 8 (weightAt w 2)) 12 (weightAt w 3)
-
--- a fraction that is not from 0 to 1
-unfoldable pub noFraction : Float → Bool
-noFraction t = not (le zero t) || not (le t one)
-
--- 6 is `Catrom`, 7 is `Spline`
-unfoldable pub probeCubic : ℕ → ℕ → List ℕ → ℕ × List ℕ
-probeCubic code t out =
-    cond (noFraction (ofBits binary32 t)) (1, out)
-    (cond (eqb code 6) (0, putWeights out (cubicWeights (ofBits binary32 t) zero half))
-    (cond (eqb code 7) (0, putWeights out (cubicWeights (ofBits binary32 t) one zero)) (1, out)))

@@ -12,9 +12,9 @@ use Rattle.matrix.specs.Invert.{invertAffine}
 use Rattle.fit.specs.Mapping.{affineKind}
 use Rattle.matrix.specs.Matrix.{Vector, nought}
 use Rattle.window.specs.declared.window.Placed.the-variants.{Window, Refused}
-use Rattle.window.specs.Bestfit.{affineFound, bestfit}
+use Rattle.bestfit.specs.Bestfit.{affineFound, bestfit}
 use Rattle.window.specs.Ceil.{ceilℤ}
-use Rattle.window.specs.Edges.{unbounded, grown, boxed}
+use Rattle.bestfit.specs.Edges.{unbounded, grown, boxed}
 use Rattle.window.specs.Span.{goodOffset, goodLength, held, atLeastOne, reach, fitted}
 use Rattle.window.specs.Window.{joined, judged, window}
 

@@ -9,13 +9,13 @@ use lib.Ieee.Scale.{finite}
 use Rattle.exact.specs.Double.{_⊕_, _⊖_}
 use Rattle.number.specs.Floor.{floorℤ}
 use Rattle.matrix.specs.Matrix.{Vector}
-use Rattle.window.specs.declared.bestfit.Found.{Found}
-use Rattle.window.specs.declared.bestfit.Found.the-variants.{Box, Nothing}
+use Rattle.bestfit.specs.declared.bestfit.Found.{Found}
+use Rattle.bestfit.specs.declared.bestfit.Found.the-variants.{Box, Nothing}
 use Rattle.window.specs.declared.span.Span.{Span}
 use Rattle.window.specs.declared.span.Span.the-variants.{Of, Out}
 use Rattle.window.specs.declared.window.Placed.{Placed}
 use Rattle.window.specs.declared.window.Placed.the-variants.{Window, Refused}
-use Rattle.window.specs.Bestfit.{bestfit}
+use Rattle.bestfit.specs.Bestfit.{bestfit}
 use Rattle.window.specs.Ceil.{ceilℤ}
 use Rattle.window.specs.Span.{half, goodOffset, goodLength, held, atLeastOne, reach, fitted}
 use Rattle.window.specs.Window.{joined, given, judged, window}

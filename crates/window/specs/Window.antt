@@ -6,14 +6,14 @@ use mathlib.Core.Bool.{Bool, cond}
 use lib.IntN.{ℤ, pos}
 use lib.Ieee.{binary64, ofInt}
 use Rattle.matrix.specs.Matrix.{Vector}
-use Rattle.window.specs.declared.bestfit.Found.{Found}
-use Rattle.window.specs.declared.bestfit.Found.the-variants.{Box, Nothing}
-use Rattle.window.specs.declared.edges.Edges.{Edges}
+use Rattle.bestfit.specs.declared.bestfit.Found.{Found}
+use Rattle.bestfit.specs.declared.bestfit.Found.the-variants.{Box, Nothing}
+use Rattle.bestfit.specs.declared.edges.Edges.{Edges}
 use Rattle.window.specs.declared.span.Span.{Span}
 use Rattle.window.specs.declared.span.Span.the-variants.{Of, Out}
 use Rattle.window.specs.declared.window.Placed.{Placed}
 use Rattle.window.specs.declared.window.Placed.the-variants.{Window, Refused}
-use Rattle.window.specs.Bestfit.{bestfit}
+use Rattle.bestfit.specs.Bestfit.{bestfit}
 use Rattle.window.specs.Span.{held, fitted}
 
 -- ---- the number and the values of each answer; 0 is no refusal

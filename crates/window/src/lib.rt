@@ -1,8 +1,5 @@
 // The output window: a viewport as it is given, the box that bestfit finds, or the picture's own. Each function equals its
 // definition in specs/ for every input of its types.
-pub mod bestfit;
 pub mod ceil;
-pub mod corners;
-pub mod edges;
 pub mod span;
 pub mod window;

@@ -2,12 +2,12 @@
 // where it finds none, the window is the picture's own. Assumes nothing.
 ghost use mathlib.Core.Path.{_≡_};
 ghost use Rattle.window.specs.Window as Placing;
-use crate::bestfit::Found;
-use crate::bestfit::bestfit;
-use crate::edges::Edges;
 use crate::span::Span;
 use crate::span::fitted;
 use crate::span::held;
+use bestfit::bestfit::Found;
+use bestfit::bestfit::bestfit;
+use bestfit::edges::Edges;
 
 // Refused is refusal 9.
 pub enum Placed {

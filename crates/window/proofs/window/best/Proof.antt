@@ -5,11 +5,11 @@ use borrow.Author.Needs.{needs}
 use lib.IntN.{pos}
 use lib.Ieee.{Float, binary64, ofInt}
 use Rattle.matrix.specs.Matrix.{Vector}
-use Rattle.window.specs.declared.edges.Edges.{Edges}
-use Rattle.window.specs.declared.bestfit.Found.{Found}
-use Rattle.window.specs.declared.bestfit.Found.the-variants.{Box, Nothing}
+use Rattle.bestfit.specs.declared.edges.Edges.{Edges}
+use Rattle.bestfit.specs.declared.bestfit.Found.{Found}
+use Rattle.bestfit.specs.declared.bestfit.Found.the-variants.{Box, Nothing}
 use Rattle.window.specs.declared.window.Placed.{Placed}
-use Rattle.window.specs.Bestfit.{bestfit}
+use Rattle.bestfit.specs.Bestfit.{bestfit}
 use Rattle.window.specs.Window.{given, around, judged, best}
 use Rattle.window.proofs.window.best.Statement.{statement}
 use Rattle.window.proofs.window.best.Tie as tie

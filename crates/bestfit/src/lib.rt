@@ -1,0 +1,4 @@
+// `bestfit`: the box around the picture's corners in the output.
+pub mod bestfit;
+pub mod corners;
+pub mod edges;

@@ -1,0 +1,2 @@
+-- The definition of `Mapping::build`.
+pub mod Build

@@ -1,0 +1,48 @@
+-- All that a distort call computes with, named once: under `unfolding opened` a call at numbers is worked out. Assumes nothing.
+use lib.Ieee as Ieee
+use Rattle.exact.specs.Loop as Loop
+use Rattle.exact.specs.Table as Table
+use Rattle.number.specs.Bytes as Bytes
+use Rattle.number.specs.Floor as Floor
+use Rattle.number.specs.Magnitude as Magnitude
+use Rattle.number.specs.Narrow as Narrow
+use Rattle.arguments.specs.Method as Method
+use Rattle.arguments.specs.Refusal as Arguments
+use Rattle.arguments.specs.Store as Store
+use Rattle.fit.specs.Affine as Affine
+use Rattle.build.specs.Build as Build
+use Rattle.solve.specs.Eliminate as Eliminate
+use Rattle.fit.specs.Fit as Fit
+use Rattle.matrix.specs.Invert as Invert
+use Rattle.fit.specs.Mapping as Mappings
+use Rattle.fit.specs.Monomials as Monomials
+use Rattle.solve.specs.Normal as Normal
+use Rattle.fit.specs.Orient as Orient
+use Rattle.fit.specs.Perspective as Perspective
+use Rattle.fit.specs.Polynomial as Polynomial
+use Rattle.solve.specs.Solve as Solve
+use Rattle.inverse.specs.Inverse as Inverse
+use Rattle.inverse.specs.Perspective as Perspectives
+use Rattle.inverse.specs.Point as Point
+use Rattle.inverse.specs.Polynomial as Polynomials
+use Rattle.window.specs.Span as Span
+use Rattle.window.specs.Window as Window
+use Rattle.pixels.specs.At as At
+use Rattle.policies.specs.Index as Index
+use Rattle.sampler.specs.Interpolate as Interpolate
+use Rattle.taps.specs.Interpolation as Interpolation
+use Rattle.policies.specs.Named as Named
+use Rattle.pixels.specs.Pixel as Pixel
+use Rattle.policies.specs.Random as Random
+use Rattle.pixels.specs.Store as Stored
+use Rattle.taps.specs.Taps as Taps
+use Rattle.taps.specs.Weighted as Weighted
+use Rattle.distort.specs.Band as Band
+use Rattle.distort.specs.Joined as Joined
+use Rattle.distort.specs.Refusal as Refusal
+use Rattle.distort.specs.Call.{left, answer, rowsOf, matteOf}
+use Rattle.distort.specs.Refusal.{refusal}
+
+unfoldable pub opened : Unit {0}
+unfolding left answer matteOf Joined.totalled Band.rowMatte Band.rowsMatte rowsOf refusal Table.firstOf Refusal.badSize Refusal.badSide Refusal.badChannels Refusal.badStock Refusal.badCode Method.present Arguments.badCount Arguments.badFor Arguments.badValues Refusal.badNumber Arguments.badNumber Loop.upTo Arguments.stillGood Arguments.goodNumber Magnitude.within Ieee.le Magnitude.abs Ieee.ofBits Bytes.numberAt Refusal.large Arguments.badOrder Arguments.fewPairs Arguments.pairsOf Method.skip Method.leastPairs Store.orderOf Refusal.degenerate Refusal.fitOf Build.build Arguments.refusal Store.valuesOf Store.heldOf Store.keep Affine.affineProjection Affine.shift Affine.affine Invert.invertAffine Invert.invert3 Mappings.solvedOr8 Mappings.mapping Refusal.badWindow Refusal.windowOf Window.window Window.joined Span.held Refusal.badRows Refusal.badTray Refusal.widest Ieee.sub Ieee.mul Span.goodOffset Span.goodLength Pixel.pixelAt Pixel.widened Ieee.add Ieee.div Ieee.ofInt Ieee.toBits Ieee.lt Ieee.isNan Band.shown Band.rowBytes Band.rowsBytes Joined.joined At.at Index.within Index.clamped Index.tile Index.mirror Interpolate.interpolate Interpolation.interpolation Named.policy Named.picked Named.named Stored.narrowed Stored.putPixel Taps.taps Weighted.added Weighted.quotient Weighted.mean Weighted.weighted Inverse.inverse Point.usable Floor.floorI64 Floor.floorF64 Floor.floorℤ Floor.inDomain Floor.isZero Narrow.narrow Bytes.putNumber Perspective.perspectiveProjection Orient.orient Perspectives.perspective Eliminate.better Eliminate.takeTerm Eliminate.clearRow Eliminate.column Eliminate.step Eliminate.outcome Fit.both Monomials.push Monomials.ofDegree Monomials.monomials Monomials.putTerm Normal.addProduct Normal.addTerm Normal.normal Normal.lstsq Normal.inTurn Polynomial.orderNumber Solve.addKnown Solve.substitute Solve.answer Solve.solved Polynomials.polynomial Polynomials.terms Bytes.twosComplement Magnitude.reaching Loop.downTo Random.mix Random.folded
+opened = tt

@@ -1,0 +1,2 @@
+-- What the probe of the cubic weights answers.
+pub mod Weights

@@ -1,0 +1,2 @@
+-- What the probe of the window answers.
+pub mod Placed

@@ -1,0 +1,79 @@
+// The window of the output in bytes: its size and where it lies. Assumes nothing.
+ghost use mathlib.Core.Path.{_≡_};
+ghost use Prim.Native.Nat.{_≤_};
+ghost use lib.ListN.{length};
+ghost use Rattle.window_probes.specs.Placed.{yes, putPlaced, probeWindow};
+use fit_probes::sized::sized_fit;
+use number::bytes::put_i64;
+use number::bytes::put_u64;
+use window::window::Placed;
+use window::window::window;
+
+fn yes(n: u64) -> bool
+    ensures { λ r. ⌜ r ≡ yes n ⌝ }
+{
+    n != 0
+}
+
+fn put_placed(out: &mut [u8], placed: Placed) -> u64
+    requires { ⌜ 32 ≤ length (now out) ⌝ }
+    ensures { λ r. ⌜ (r, now (out .exit)) ≡ putPlaced placed (now (out .entry)) ⌝ }
+{
+    match placed {
+        Placed::Window {
+            width,
+            height,
+            x,
+            y,
+        } => {
+            put_u64(out, 0, width);
+            put_u64(out, 8, height);
+            put_i64(out, 16, x);
+            put_i64(out, 24, y);
+            0
+        }
+        Placed::Refused => 9,
+    }
+}
+
+// Width or height 0 or above 4,096 is refused by 1, a window by 9. Of bestfit and viewport, 0 is no and anything else yes.
+#[no_mangle]
+pub extern "C" fn probe_window(
+    method: u64,
+    arguments: &[u8],
+    width: u64,
+    height: u64,
+    bestfit: u64,
+    viewport: u64,
+    view_width: u64,
+    view_height: u64,
+    view_x: i64,
+    view_y: i64,
+    out: &mut [u8; 32],
+) -> u64
+    ensures { λ r. ⌜ (r, now (out .exit)) ≡ probeWindow method (now (arguments .entry)) width height bestfit viewport «view_width» «view_height» «view_x» «view_y» (now (out .entry)) ⌝ }
+{
+    let fitted = sized_fit(method, arguments, width, height);
+    let refusal = fitted.refusal;
+    if refusal != 0 {
+        return refusal;
+    }
+    let mapping = fitted.mapping;
+    let coef = mapping.coef;
+    let asked = yes(bestfit);
+    let given = yes(viewport);
+    let kind = mapping.kind;
+    let placed = window(
+        kind,
+        &coef,
+        width,
+        height,
+        asked,
+        given,
+        view_width,
+        view_height,
+        view_x,
+        view_y,
+    );
+    put_placed(out, placed)
+}

@@ -93,8 +93,14 @@ pub struct Distort {
 }
 
 impl Distort {
+    /// The background where none is given: white.
+    pub const BACKGROUND: [f32; 4] = [1.0; 4];
+
+    /// The matte where none is given: the grey 189/255.
+    pub const MATTE: [f32; 4] = [189.0 / 255.0, 189.0 / 255.0, 189.0 / 255.0, 1.0];
+
     /// A method and its arguments, with the original's defaults: the picture's own window, [`VirtualPixel::Edge`],
-    /// [`Interpolate::Bilinear`], a white background and a matte of grey, 189/255. As many threads as the machine has
+    /// [`Interpolate::Bilinear`], [`Distort::BACKGROUND`], [`Distort::MATTE`]; and as many threads as the machine has
     /// cores.
     pub fn new(method: Method, args: impl Into<Vec<f64>>) -> Self {
         Self {
@@ -104,8 +110,8 @@ impl Distort {
             viewport: None,
             virtual_pixel: VirtualPixel::default(),
             interpolate: Interpolate::default(),
-            background: [1.0; 4],
-            matte: [189.0 / 255.0, 189.0 / 255.0, 189.0 / 255.0, 1.0],
+            background: Self::BACKGROUND,
+            matte: Self::MATTE,
             threads: 0,
             rows: 0,
         }

@@ -57,22 +57,15 @@ pub struct Distorted {
 
 /// A distortion: a method, its arguments, and how to go about it.
 ///
-/// Four picked corners of a card, squared to 200 by 100 pixels:
+/// Four picked corners of a card, squared to 200 by 100 pixels; of each, u, v on the photograph and x, y where it belongs:
 ///
 /// ```
 /// use dihyravo::{Distort, Method, Picture, Refusal, Viewport};
 ///
 /// let photograph = Picture::filled(320, 240, &[0.5, 0.25, 0.125])?;
-/// // u, v on the photograph, then x, y where it belongs.
-/// let corners = [
-///     31.0, 18.0, 0.0, 0.0,
-///     290.0, 40.0, 200.0, 0.0,
-///     301.0, 222.0, 200.0, 100.0,
-///     22.0, 197.0, 0.0, 100.0,
-/// ];
-/// let card = Distort::new(Method::Perspective, corners)
-///     .with_viewport(Viewport { width: 200, height: 100, x: 0, y: 0 })
-///     .distort(&photograph)?;
+/// let corners = [31., 18., 0., 0., 290., 40., 200., 0., 301., 222., 200., 100., 22., 197., 0., 100.];
+/// let viewport = Viewport { width: 200, height: 100, x: 0, y: 0 };
+/// let card = Distort::new(Method::Perspective, corners).with_viewport(viewport).distort(&photograph)?;
 /// assert_eq!((card.picture.width(), card.picture.height()), (200, 100));
 /// assert_eq!(card.picture.pixel(100, 50), Some(&[0.5, 0.25, 0.125][..]));
 /// assert_eq!(card.matte_pixels, 0);
@@ -254,7 +247,11 @@ impl Distort {
             0 => thread::available_parallelism().map_or(1, usize::from),
             threads => threads,
         };
-        let bands = if threads == 1 { 1 } else { 2 * threads as u64 };
+        let bands = if threads == 1 {
+            1
+        } else {
+            (threads as u64).saturating_mul(2)
+        };
         let rows = match self.rows {
             0 => window.height.div_ceil(bands),
             rows => rows.min(window.height),

@@ -37,6 +37,19 @@ fn every_method_over_threads_and_bands() {
     assert!(with_matte > 0, "no job has matte pixels to be added up");
 }
 
+/// Numbers beyond any picture are no numbers beyond the machine.
+#[test]
+fn huge_numbers_of_rows_and_threads() {
+    let given = all().swap_remove(0);
+    let picture = picture(19, 13, 3);
+    let (answer, samples) = given.raw(&picture);
+    for (threads, rows) in [(usize::MAX, 0), (2, u64::MAX), (usize::MAX, u64::MAX)] {
+        let distort = given.distort().with_threads(threads).with_rows(rows);
+        let distorted = distort.distort(&picture).expect("an accepted job");
+        assert!(same(&distorted, &answer, &samples));
+    }
+}
+
 #[test]
 fn rows_one_by_one() {
     for given in all() {

@@ -5,5 +5,6 @@ mod header;
 mod jobs;
 mod names;
 mod pictures;
+mod readme;
 mod refusals;
 mod windows;

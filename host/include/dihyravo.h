@@ -148,8 +148,9 @@ int64_t dihyravo_policy(const void *name, size_t length);
 int64_t dihyravo_interpolation(const void *name, size_t length);
 
 /*
- * The same call with its numbers in a struct, so that they can be named where they are given and those left out are 0: the policy Edge,
- * no best fit, no viewport. Colours have to be given, or are transparent black.
+ * The same call with its numbers in a struct, so that they can be named where they are given. Those left out are 0: the method Affine,
+ * the policy Edge, the interpolation Integer, no best fit, no viewport, no rows, and colours of transparent black. Give the background
+ * an alpha of 1, or the output has 4 channels.
  */
 struct dihyravo_job {
     const void *picture;

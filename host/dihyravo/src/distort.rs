@@ -93,8 +93,8 @@ impl Distort {
     pub const MATTE: [f32; 4] = [189.0 / 255.0, 189.0 / 255.0, 189.0 / 255.0, 1.0];
 
     /// A method and its arguments, with the original's defaults: the picture's own window, [`VirtualPixel::Edge`],
-    /// [`Interpolate::Bilinear`], [`Distort::BACKGROUND`], [`Distort::MATTE`]; and as many threads as the machine has
-    /// cores.
+    /// [`Distort::BACKGROUND`], [`Distort::MATTE`]. The original's elliptical averaging is absent, so the interpolation is its
+    /// point sampler's default, [`Interpolate::Bilinear`]. As many threads as the machine has cores.
     pub fn new(method: Method, args: impl Into<Vec<f64>>) -> Self {
         Self {
             method,
@@ -116,7 +116,7 @@ impl Distort {
         self
     }
 
-    /// The output's window.
+    /// The output's window. One without pixels is refused, where the original takes 1 for 0.
     pub fn with_viewport(mut self, viewport: Viewport) -> Self {
         self.viewport = Some(viewport);
         self

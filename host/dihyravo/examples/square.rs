@@ -66,7 +66,10 @@ fn main() {
     let (width, height) = CARD;
     let (w, h) = (width as f64, height as f64);
     let places = [(0.0, 0.0), (w, 0.0), (w, h), (0.0, h)];
-    let pairs = CORNERS.iter().zip(places).flat_map(|(&(u, v), (x, y))| [u, v, x, y]);
+    let pairs = CORNERS
+        .iter()
+        .zip(places)
+        .flat_map(|(&(u, v), (x, y))| [u, v, x, y]);
     let arguments = bytes(pairs);
     let mut job = Job {
         picture: &picture,
@@ -92,7 +95,10 @@ fn main() {
     show(&picture, WIDTH);
 
     let (size, _) = distort(&job, 0).expect("the size");
-    println!("Squared to {} by {}, four rows at a time:", size.width, size.height);
+    println!(
+        "Squared to {} by {}, four rows at a time:",
+        size.width, size.height
+    );
     let mut squared = Vec::new();
     let mut matte = 0;
     for first in (0..size.height).step_by(4) {
@@ -106,7 +112,9 @@ fn main() {
     show(&squared, size.width);
     println!("Pixels without a source: {matte}.");
 
-    let collinear = bytes([0.0, 0.0, 0.0, 0.0, 1.0, 1.0, 1.0, 1.0, 2.0, 2.0, 2.0, 2.0, 3.0, 3.0, 3.0, 3.0]);
+    let collinear = bytes([
+        0.0, 0.0, 0.0, 0.0, 1.0, 1.0, 1.0, 1.0, 2.0, 2.0, 2.0, 2.0, 3.0, 3.0, 3.0, 3.0,
+    ]);
     job.arguments = &collinear;
     match distort(&job, 0) {
         Err(number) => println!("Four corners on one line: refused by {number}."),

@@ -12,14 +12,20 @@ pub const UNUSABLE: u8 = 2;
 #[derive(Clone, Debug, PartialEq, Eq)]
 pub enum Failure {
     /// A line of the refusal table, and what of this run met it where that is known.
-    Refused { refusal: Refusal, detail: Option<String> },
+    Refused {
+        refusal: Refusal,
+        detail: Option<String>,
+    },
     /// Anything else, in one line.
     Unusable(String),
 }
 
 impl Failure {
     pub fn refused(refusal: Refusal, detail: impl Into<String>) -> Self {
-        Self::Refused { refusal, detail: Some(detail.into()) }
+        Self::Refused {
+            refusal,
+            detail: Some(detail.into()),
+        }
     }
 
     pub fn unusable(what: impl fmt::Display) -> Self {
@@ -36,8 +42,14 @@ impl Failure {
     /// What to mend, with what is known of this run before the table's own words.
     pub fn mend(&self) -> String {
         match self {
-            Self::Refused { refusal, detail: Some(detail) } => format!("{detail}; {}", refusal.mend()),
-            Self::Refused { refusal, detail: None } => refusal.mend().to_owned(),
+            Self::Refused {
+                refusal,
+                detail: Some(detail),
+            } => format!("{detail}; {}", refusal.mend()),
+            Self::Refused {
+                refusal,
+                detail: None,
+            } => refusal.mend().to_owned(),
             Self::Unusable(what) => what.clone(),
         }
     }
@@ -45,7 +57,10 @@ impl Failure {
 
 impl From<Refusal> for Failure {
     fn from(refusal: Refusal) -> Self {
-        Self::Refused { refusal, detail: None }
+        Self::Refused {
+            refusal,
+            detail: None,
+        }
     }
 }
 
@@ -64,7 +79,12 @@ impl fmt::Display for Failure {
     fn fmt(&self, f: &mut fmt::Formatter) -> fmt::Result {
         let line = match self {
             Self::Refused { refusal, .. } => {
-                format!("refusal {} ({}): {}", refusal.number(), refusal.word(), self.mend())
+                format!(
+                    "refusal {} ({}): {}",
+                    refusal.number(),
+                    refusal.word(),
+                    self.mend()
+                )
             }
             Self::Unusable(what) => what.clone(),
         };
@@ -85,7 +105,10 @@ mod tests {
     fn a_refusal_is_one_line_with_number_word_and_mend() {
         let failure = Failure::refused(Refusal::Window, "the output would be\n0 by 0");
         let line = failure.to_string();
-        assert!(line.starts_with("refusal 9 (window): the output would be 0 by 0; "), "{line}");
+        assert!(
+            line.starts_with("refusal 9 (window): the output would be 0 by 0; "),
+            "{line}"
+        );
         assert!(line.ends_with(Refusal::Window.mend()), "{line}");
         assert_eq!(failure.status(), 1);
     }

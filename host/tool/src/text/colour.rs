@@ -2,12 +2,12 @@
 
 use super::numbers::{number, numbers};
 
-/// ImageMagick's values for these names; its `green` is the dark one.
+/// The values that CSS gives these names.
 const NAMED: [(&str, [u8; 4]); 18] = [
     ("black", [0, 0, 0, 255]),
     ("white", [255, 255, 255, 255]),
-    ("gray", [126, 126, 126, 255]),
-    ("grey", [126, 126, 126, 255]),
+    ("gray", [128, 128, 128, 255]),
+    ("grey", [128, 128, 128, 255]),
     ("silver", [192, 192, 192, 255]),
     ("red", [255, 0, 0, 255]),
     ("lime", [0, 255, 0, 255]),
@@ -108,7 +108,15 @@ mod tests {
     #[test]
     fn every_form_is_read() {
         let orange = Ok([1.0, 0.6, 0.0, 1.0]);
-        for text in ["#f90", "#F90F", "#ff9900", "#ff9900FF", "rgb(255,153,0)", "RGB( 100%, 60%, 0% )", "1,0.6,0,1"] {
+        for text in [
+            "#f90",
+            "#F90F",
+            "#ff9900",
+            "#ff9900FF",
+            "rgb(255,153,0)",
+            "RGB( 100%, 60%, 0% )",
+            "1,0.6,0,1",
+        ] {
             assert_eq!(colour(text), orange, "{text}");
         }
         assert_eq!(colour("rgba(0,0,0,0.5)"), Ok([0.0, 0.0, 0.0, 0.5]));
@@ -120,10 +128,27 @@ mod tests {
     #[test]
     fn other_forms_are_told() {
         for text in [
-            "", "#", "#12", "#12345", "#ggg", "#é", "rgb(1,2)", "rgb(1,2,3,4)", "rgba(1,2,3)", "rgb(256,0,0)", "rgb(1,2,3",
-            "rgbx(1,2,3)", "pinkish", "1,2,3", "1,2,3,4,5", "nan,0,0,1",
+            "",
+            "#",
+            "#12",
+            "#12345",
+            "#ggg",
+            "#é",
+            "rgb(1,2)",
+            "rgb(1,2,3,4)",
+            "rgba(1,2,3)",
+            "rgb(256,0,0)",
+            "rgb(1,2,3",
+            "rgbx(1,2,3)",
+            "pinkish",
+            "1,2,3",
+            "1,2,3,4,5",
+            "nan,0,0,1",
         ] {
-            assert!(colour(text).unwrap_err().contains("is not a colour"), "{text}");
+            assert!(
+                colour(text).unwrap_err().contains("is not a colour"),
+                "{text}"
+            );
         }
     }
 }

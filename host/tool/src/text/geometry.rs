@@ -15,14 +15,22 @@ pub fn geometry(text: &str) -> Result<Geometry, String> {
     let (size_part, offset) = text.split_at(text.find(['+', '-']).unwrap_or(text.len()));
     let parsed = side_by_side(size_part).and_then(|(width, height)| {
         let (x, y) = offsets(offset)?;
-        Some(Geometry { width, height, x, y })
+        Some(Geometry {
+            width,
+            height,
+            x,
+            y,
+        })
     });
-    parsed.ok_or_else(|| format!("'{text}' is not a geometry WxH+X+Y of whole numbers, such as 800x600-10+20"))
+    parsed.ok_or_else(|| {
+        format!("'{text}' is not a geometry WxH+X+Y of whole numbers, such as 800x600-10+20")
+    })
 }
 
 /// `WxH`.
 pub fn size(text: &str) -> Result<(u64, u64), String> {
-    side_by_side(text.trim()).ok_or_else(|| format!("'{text}' is not a size WxH of whole numbers, such as 800x600"))
+    side_by_side(text.trim())
+        .ok_or_else(|| format!("'{text}' is not a size WxH of whole numbers, such as 800x600"))
 }
 
 fn side_by_side(text: &str) -> Option<(u64, u64)> {
@@ -32,7 +40,9 @@ fn side_by_side(text: &str) -> Option<(u64, u64)> {
 
 /// Digits alone: `parse` would take a sign.
 fn whole(text: &str) -> Option<u64> {
-    text.bytes().all(|b| b.is_ascii_digit()).then(|| text.parse().ok())?
+    text.bytes()
+        .all(|b| b.is_ascii_digit())
+        .then(|| text.parse().ok())?
 }
 
 /// `+X+Y` with any signs, or nothing, which is 0, 0.
@@ -56,16 +66,36 @@ mod tests {
         assert_eq!(read("800x600-10+20"), Ok((800, 600, -10, 20)));
         assert_eq!(read("1X2+0-7"), Ok((1, 2, 0, -7)));
         assert_eq!(read("0x0"), Ok((0, 0, 0, 0)));
-        assert_eq!(read("4096x4096-1048576-1048576"), Ok((4096, 4096, -1048576, -1048576)));
+        assert_eq!(
+            read("4096x4096-1048576-1048576"),
+            Ok((4096, 4096, -1048576, -1048576))
+        );
     }
 
     #[test]
     fn other_forms_are_told() {
         for text in [
-            "", "800", "800x", "x600", "800x600+1", "800x600+1+", "800x600++1+2", "800x600+1+2+3", "-8x6+0+0", "8.5x6",
-            "8x6+0+a", "8 x 6", "99999999999999999999x1", "8x6+99999999999999999999+0", "8x6+é+1", "ex6",
+            "",
+            "800",
+            "800x",
+            "x600",
+            "800x600+1",
+            "800x600+1+",
+            "800x600++1+2",
+            "800x600+1+2+3",
+            "-8x6+0+0",
+            "8.5x6",
+            "8x6+0+a",
+            "8 x 6",
+            "99999999999999999999x1",
+            "8x6+99999999999999999999+0",
+            "8x6+é+1",
+            "ex6",
         ] {
-            assert!(geometry(text).unwrap_err().contains("is not a geometry"), "{text}");
+            assert!(
+                geometry(text).unwrap_err().contains("is not a geometry"),
+                "{text}"
+            );
         }
         assert_eq!(size("800x600"), Ok((800, 600)));
         assert!(size("800x600+0+0").is_err());

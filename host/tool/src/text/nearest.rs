@@ -3,8 +3,10 @@
 /// The nearest of the names, ASCII case ignored, if few enough letters differ.
 pub fn nearest<'a>(given: &str, names: &[&'a str]) -> Option<&'a str> {
     let given = given.to_ascii_lowercase();
-    let (distance, name) =
-        names.iter().map(|name| (edits(&given, &name.to_ascii_lowercase()), *name)).min_by_key(|(d, _)| *d)?;
+    let (distance, name) = names
+        .iter()
+        .map(|name| (edits(&given, &name.to_ascii_lowercase()), *name))
+        .min_by_key(|(d, _)| *d)?;
     (distance <= 1 + given.chars().count() / 4).then_some(name)
 }
 

@@ -20,7 +20,9 @@ pub fn numbers(text: &str) -> Result<Vec<f64>, String> {
 
 /// One number in digits. `parse` alone would take words such as `nan` and `infinity` too.
 pub fn number(word: &str) -> Result<f64, String> {
-    let digits = word.chars().all(|c| c.is_ascii_digit() || "+-.eE".contains(c));
+    let digits = word
+        .chars()
+        .all(|c| c.is_ascii_digit() || "+-.eE".contains(c));
     match word.parse::<f64>() {
         Ok(number) if digits => Ok(number),
         _ => Err(format!("'{word}' is not a number")),
@@ -38,7 +40,10 @@ pub fn corners(text: &str) -> Result<([(f64, f64); 4], bool), String> {
     };
     let corners = [(a, b), (c, d), (e, f), (g, h)];
     let turns = [0, 1, 2, 3].map(|k| turn(corners[k], corners[(k + 1) % 4], corners[(k + 2) % 4]));
-    let (left, right) = (turns.iter().any(|t| *t < 0.0), turns.iter().any(|t| *t > 0.0));
+    let (left, right) = (
+        turns.iter().any(|t| *t < 0.0),
+        turns.iter().any(|t| *t > 0.0),
+    );
     if left && right {
         return Err(
             "the corners cross or make a dent: give them as top-left, top-right, bottom-right, bottom-left".to_owned()
@@ -58,7 +63,10 @@ mod tests {
 
     #[test]
     fn blanks_and_commas_part_numbers() {
-        assert_eq!(numbers("1,2 3 ,4\t, -5e1\n+.5"), Ok(vec![1.0, 2.0, 3.0, 4.0, -50.0, 0.5]));
+        assert_eq!(
+            numbers("1,2 3 ,4\t, -5e1\n+.5"),
+            Ok(vec![1.0, 2.0, 3.0, 4.0, -50.0, 0.5])
+        );
         assert_eq!(numbers("  "), Ok(vec![]));
         assert_eq!(numbers("1e400"), Ok(vec![f64::INFINITY]));
     }
@@ -66,11 +74,25 @@ mod tests {
     #[test]
     fn letters_and_holes_are_told() {
         assert_eq!(numbers("1,2,x3"), Err("'x3' is not a number".to_owned()));
-        for word in ["nan", "inf", "-infinity", "1e", "--1", "0x10", "1_000", "1;2"] {
+        for word in [
+            "nan",
+            "inf",
+            "-infinity",
+            "1e",
+            "--1",
+            "0x10",
+            "1_000",
+            "1;2",
+        ] {
             assert_eq!(numbers(word), Err(format!("'{word}' is not a number")));
         }
         for hole in ["1,,2", ",1", "1,", "1, ,2"] {
-            assert!(numbers(hole).unwrap_err().starts_with("a number is missing at a comma"), "{hole}");
+            assert!(
+                numbers(hole)
+                    .unwrap_err()
+                    .starts_with("a number is missing at a comma"),
+                "{hole}"
+            );
         }
     }
 
@@ -81,8 +103,16 @@ mod tests {
         assert!(!mirrored);
         assert!(corners("9,1 1,2 0,9 10,8").unwrap().1);
         assert!(corners("1,2 9,1 10,8").unwrap_err().ends_with("here are 6"));
-        assert!(corners("1,2 9,1 10,8 0,9 5").unwrap_err().ends_with("here are 9"));
-        assert!(corners("1,2 10,8 9,1 0,9").unwrap_err().starts_with("the corners cross"));
+        assert!(
+            corners("1,2 9,1 10,8 0,9 5")
+                .unwrap_err()
+                .ends_with("here are 9")
+        );
+        assert!(
+            corners("1,2 10,8 9,1 0,9")
+                .unwrap_err()
+                .starts_with("the corners cross")
+        );
     }
 
     #[test]

@@ -1,0 +1,187 @@
+//! Reading: the format is found by the file's first bytes, the size is looked at before anything is unpacked, and samples become
+//! floats from 0 to 1 by one division. Colours are taken as they are stored; no profile, gamma or orientation is applied.
+
+use super::{Depth, float_tiff, pfm, pnm};
+use crate::failure::Failure;
+use dihyravo::{LARGEST_SIDE, Picture, Refusal};
+use image::{DynamicImage, ImageError, ImageFormat};
+use std::fs::File;
+use std::io::{Cursor, Read};
+use std::panic::{AssertUnwindSafe, catch_unwind};
+use std::path::Path;
+
+/// More than the largest picture takes in any of the formats.
+const LONGEST_FILE: u64 = 1 << 30;
+
+/// A picture and how finely its file had it.
+pub struct Loaded {
+    pub picture: Picture,
+    pub depth: Depth,
+}
+
+#[derive(Clone, Copy, Debug)]
+pub struct Sizes {
+    pub width: u64,
+    pub height: u64,
+    pub channels: u64,
+}
+
+/// How many samples a picture has, or refusal 1 with its size.
+pub fn sized(sizes: Sizes) -> Result<usize, Failure> {
+    let Sizes {
+        width,
+        height,
+        channels,
+    } = sizes;
+    let fits = |side| (1..=LARGEST_SIDE).contains(&side);
+    if !fits(width) || !fits(height) {
+        return Err(Failure::refused(
+            Refusal::Size,
+            format!("the picture is {width} by {height}"),
+        ));
+    }
+    Ok((width * height * channels) as usize)
+}
+
+pub fn read(path: &Path) -> Result<Loaded, Failure> {
+    let place = path.display();
+    let bytes =
+        bytes(path).map_err(|why| Failure::unusable(format!("'{place}' can't be read: {why}")))?;
+    // The decoders are others' code, and the file may be anything.
+    let decoded = catch_unwind(AssertUnwindSafe(|| decode(&bytes)));
+    let broken = || Failure::unusable("it is broken: its decoder gave up");
+    decoded
+        .unwrap_or_else(|_| Err(broken()))
+        .map_err(|failure| match failure {
+            Failure::Unusable(why) => Failure::unusable(format!("'{place}' can't be read: {why}")),
+            refused => refused,
+        })
+}
+
+fn bytes(path: &Path) -> Result<Vec<u8>, String> {
+    let file = File::open(path).map_err(|e| e.to_string())?;
+    if file.metadata().is_ok_and(|m| m.is_dir()) {
+        return Err("it is a folder".to_owned());
+    }
+    let mut bytes = Vec::new();
+    file.take(LONGEST_FILE + 1)
+        .read_to_end(&mut bytes)
+        .map_err(|e| e.to_string())?;
+    match bytes.len() as u64 {
+        0 => Err("it is empty".to_owned()),
+        1..=LONGEST_FILE => Ok(bytes),
+        _ => Err(format!("it is longer than {LONGEST_FILE} bytes")),
+    }
+}
+
+fn decode(bytes: &[u8]) -> Result<Loaded, Failure> {
+    if pfm::is_pfm(bytes) {
+        return Ok(Loaded {
+            picture: pfm::decode(bytes)?,
+            depth: Depth::Float,
+        });
+    }
+    match image::guess_format(bytes) {
+        Ok(ImageFormat::Tiff) if float_tiff::is_float(bytes) => Ok(Loaded {
+            picture: float_tiff::decode(bytes)?,
+            depth: Depth::Float,
+        }),
+        Ok(format @ (ImageFormat::Png | ImageFormat::Jpeg | ImageFormat::Tiff)) => {
+            by_image(bytes, format, None)
+        }
+        Ok(ImageFormat::Pnm) => by_image(bytes, ImageFormat::Pnm, pnm::largest_sample(bytes)),
+        _ => Err(Failure::unusable(
+            "it is no PNG, JPEG, TIFF, PNM or PFM file",
+        )),
+    }
+}
+
+/// Through the crate `image`. `largest` is the sample that stands for 1 where it is not the type's largest.
+fn by_image(bytes: &[u8], format: ImageFormat, largest: Option<u16>) -> Result<Loaded, Failure> {
+    let reader = || image::io::Reader::with_format(Cursor::new(bytes), format);
+    let (width, height) = reader().into_dimensions().map_err(undecoded)?;
+    sized(Sizes {
+        width: width.into(),
+        height: height.into(),
+        channels: 1,
+    })?;
+    if format == ImageFormat::Jpeg && !ends_as_jpeg(bytes) {
+        return Err(Failure::unusable(
+            "it is cut off: the end of the JPEG is missing",
+        ));
+    }
+    let image = reader().decode().map_err(undecoded)?;
+    let (channels, depth, samples) = match image {
+        DynamicImage::ImageLuma8(i) => (1, Depth::Eight, floats(&i, largest)),
+        DynamicImage::ImageLumaA8(i) => (2, Depth::Eight, floats(&i, largest)),
+        DynamicImage::ImageRgb8(i) => (3, Depth::Eight, floats(&i, largest)),
+        DynamicImage::ImageRgba8(i) => (4, Depth::Eight, floats(&i, largest)),
+        DynamicImage::ImageLuma16(i) => (1, Depth::Sixteen, floats(&i, largest)),
+        DynamicImage::ImageLumaA16(i) => (2, Depth::Sixteen, floats(&i, largest)),
+        DynamicImage::ImageRgb16(i) => (3, Depth::Sixteen, floats(&i, largest)),
+        DynamicImage::ImageRgba16(i) => (4, Depth::Sixteen, floats(&i, largest)),
+        _ => return Err(Failure::unusable("its kind of samples is not supported")),
+    };
+    let samples = samples
+        .ok_or_else(|| Failure::unusable("a sample is above the largest that its header names"))?;
+    let picture = picture(width.into(), height.into(), channels, samples)?;
+    Ok(Loaded { picture, depth })
+}
+
+/// Samples over the largest one, in one division each; none where a sample is above it.
+fn floats<T: Copy + Into<u16> + Largest>(samples: &[T], largest: Option<u16>) -> Option<Vec<f32>> {
+    let largest = largest.unwrap_or(T::LARGEST);
+    let one = |sample: &T| {
+        let sample: u16 = (*sample).into();
+        (sample <= largest).then(|| f32::from(sample) / f32::from(largest))
+    };
+    samples.iter().map(one).collect()
+}
+
+trait Largest {
+    const LARGEST: u16;
+}
+
+impl Largest for u8 {
+    const LARGEST: u16 = 255;
+}
+
+impl Largest for u16 {
+    const LARGEST: u16 = 65_535;
+}
+
+/// A picture of 1, 2, 3 or 4 channels; grey with alpha is widened to four.
+pub fn picture(
+    width: u64,
+    height: u64,
+    channels: u64,
+    samples: Vec<f32>,
+) -> Result<Picture, Failure> {
+    if channels != 2 {
+        return Ok(Picture::new(width, height, channels, samples)?);
+    }
+    let (pixels, _) = samples.as_chunks::<2>();
+    let wide = pixels
+        .iter()
+        .flat_map(|&[grey, alpha]| [grey, grey, grey, alpha])
+        .collect();
+    Ok(Picture::new(width, height, 4, wide)?)
+}
+
+/// Whether a JPEG has its end marker after the last scan. The decoder alone fills what is missing with grey. Cameras put
+/// previews and padding after the end, so it need not be the last two bytes.
+fn ends_as_jpeg(bytes: &[u8]) -> bool {
+    const START_OF_SCAN: [u8; 2] = [0xff, 0xda];
+    const END: [u8; 2] = [0xff, 0xd9];
+    let last = |marker: [u8; 2]| bytes.windows(2).rposition(|pair| pair == marker);
+    matches!((last(START_OF_SCAN), last(END)), (Some(scan), Some(end)) if scan < end)
+}
+
+pub fn undecoded(error: ImageError) -> Failure {
+    Failure::unusable(match error {
+        ImageError::IoError(e) if e.kind() == std::io::ErrorKind::UnexpectedEof => {
+            "it is cut off".to_owned()
+        }
+        other => other.to_string(),
+    })
+}

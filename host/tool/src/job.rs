@@ -202,13 +202,20 @@ impl Job {
                 self.args.len()
             )),
             Refusal::Number => self.first_bad_number(picture),
-            Refusal::Window => match self.viewport {
+            // A side of 0 leaves the corners nowhere to go, and the fit is judged before the window.
+            Refusal::Degenerate | Refusal::Window => match self.viewport {
+                Some(Geometry {
+                    width: 1..,
+                    height: 1..,
+                    ..
+                }) if refusal == Refusal::Degenerate => None,
                 Some(Geometry {
                     width,
                     height,
                     x,
                     y,
                 }) => Some(format!("the output was to be {width}x{height}{x:+}{y:+}")),
+                None if refusal == Refusal::Degenerate => None,
                 None => Some("the best fit is too large or too far off".to_owned()),
             },
             _ => None,

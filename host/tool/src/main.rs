@@ -67,11 +67,14 @@ fn run() -> Result<String, Failure> {
 
 fn work(job: &Job, json: bool) -> Result<String, Failure> {
     let made = job.run()?;
-    match (json, job.note) {
-        (true, note) => Ok(report::made_json(&made, note)),
-        (false, None) => Ok(report::made(&made)),
-        (false, Some(note)) => Ok(format!("{}\nnote: {note}", report::made(&made))),
+    if json {
+        return Ok(report::made_json(&made, job.note));
     }
+    if let Some(note) = job.note {
+        // A remark that nobody reads stops nothing.
+        let _ = writeln!(io::stderr(), "dihyravo: note: {note}");
+    }
+    Ok(report::made(&made))
 }
 
 /// The parser's words, which take several lines, in one.

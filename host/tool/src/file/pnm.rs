@@ -10,10 +10,7 @@ pub fn largest_sample(bytes: &[u8]) -> Option<u16> {
         return None;
     }
     let (_, header) = decoder.into_inner();
-    match header.maximal_sample() {
-        1 if matches!(header.subtype(), PnmSubtype::ArbitraryMap) => None,
-        largest => u16::try_from(largest).ok(),
-    }
+    u16::try_from(header.maximal_sample()).ok()
 }
 
 /// The header of a file of one or three channels.

@@ -44,18 +44,19 @@ pub fn sized(sizes: Sizes) -> Result<usize, Failure> {
 }
 
 pub fn read(path: &Path) -> Result<Loaded, Failure> {
-    let place = path.display();
-    let bytes =
-        bytes(path).map_err(|why| Failure::unusable(format!("'{place}' can't be read: {why}")))?;
-    // The decoders are others' code, and the file may be anything.
-    let decoded = catch_unwind(AssertUnwindSafe(|| decode(&bytes)));
-    let broken = || Failure::unusable("it is broken: its decoder gave up");
-    decoded
-        .unwrap_or_else(|_| Err(broken()))
-        .map_err(|failure| match failure {
-            Failure::Unusable(why) => Failure::unusable(format!("'{place}' can't be read: {why}")),
-            refused => refused,
-        })
+    let told =
+        |why: String| Failure::unusable(format!("'{}' can't be read: {why}", path.display()));
+    let bytes = bytes(path).map_err(told)?;
+    decode_any(&bytes).map_err(|failure| match failure {
+        Failure::Unusable(why) => told(why),
+        refused => refused,
+    })
+}
+
+/// The decoders are others' code and the file may be anything, so a panic of theirs is a broken file.
+fn decode_any(bytes: &[u8]) -> Result<Loaded, Failure> {
+    let decoded = catch_unwind(AssertUnwindSafe(|| decode(bytes)));
+    decoded.unwrap_or_else(|_| Err(Failure::unusable("it is broken: its decoder gave up")))
 }
 
 fn bytes(path: &Path) -> Result<Vec<u8>, String> {
@@ -184,4 +185,121 @@ pub fn undecoded(error: ImageError) -> Failure {
         }
         other => other.to_string(),
     })
+}
+
+#[cfg(test)]
+mod tests {
+    use super::super::{Format, Target, encode};
+    use super::*;
+
+    /// A small file of each format, depth and number of channels.
+    fn files() -> Vec<Vec<u8>> {
+        let mut files = Vec::new();
+        for format in [
+            Format::Png,
+            Format::Jpeg,
+            Format::Tiff,
+            Format::Pnm,
+            Format::Pfm,
+        ] {
+            for (channels, &depth) in [1, 3, 4]
+                .iter()
+                .flat_map(|c| format.depths().iter().map(move |d| (*c, d)))
+            {
+                let samples = (0..9 * 5 * channels)
+                    .map(|k| (k % 13) as f32 / 12.0)
+                    .collect();
+                let picture = Picture::new(9, 5, channels, samples).unwrap();
+                let target = Target {
+                    format,
+                    depth,
+                    quality: 90,
+                };
+                files.extend(encode(&picture, target).ok());
+            }
+        }
+        files
+    }
+
+    #[test]
+    fn every_file_is_read_back() {
+        let files = files();
+        assert_eq!(files.len(), 2 * 3 + 2 + 3 * 3 + 2 * 2 + 2);
+        for file in files {
+            let loaded = decode_any(&file).unwrap();
+            assert_eq!((loaded.picture.width(), loaded.picture.height()), (9, 5));
+        }
+    }
+
+    #[test]
+    fn files_that_are_cut_off_are_told() {
+        for file in files() {
+            for length in 1..file.len() {
+                let cut = decode_any(&file[..length]);
+                // What follows the last sample may be missing: PNG's end chunk, TIFF's and JPEG's padding.
+                assert!(
+                    cut.is_err() || length + 16 > file.len(),
+                    "{length} of {} bytes: {:?}",
+                    file.len(),
+                    &file[..4]
+                );
+            }
+        }
+    }
+
+    #[test]
+    fn broken_bytes_end_in_a_picture_or_a_failure() {
+        let mut state = 1u64;
+        let mut draw = |below: usize| {
+            state = state
+                .wrapping_mul(6_364_136_223_846_793_005)
+                .wrapping_add(1_442_695_040_888_963_407);
+            (state >> 33) as usize % below
+        };
+        let (mut read, mut told) = (0, 0);
+        for file in files() {
+            for _ in 0..200 {
+                let mut broken = file.clone();
+                for _ in 0..1 + draw(4) {
+                    let place = draw(broken.len().min(400));
+                    broken[place] = draw(256) as u8;
+                }
+                match decode_any(&broken) {
+                    Ok(_) => read += 1,
+                    Err(_) => told += 1,
+                }
+            }
+        }
+        assert!(read > 0 && told > 0, "{read} read, {told} told");
+    }
+
+    #[test]
+    fn pnm_samples_are_over_the_headers_largest() {
+        let samples = |file: &[u8]| decode_any(file).map(|l| l.picture.into_samples());
+        assert_eq!(
+            samples(b"P5\n3 1\n100\n\x00\x32\x64"),
+            Ok(vec![0.0, 0.5, 1.0])
+        );
+        assert_eq!(
+            samples(b"P5\n2 1\n1000\n\x01\xf4\x03\xe8"),
+            Ok(vec![0.5, 1.0])
+        );
+        assert_eq!(
+            samples(b"P2\n# a remark\n2 1\n4\n1 4\n"),
+            Ok(vec![0.25, 1.0])
+        );
+        assert_eq!(
+            samples(b"P3\n1 1\n255\n255 0 51\n"),
+            Ok(vec![1.0, 0.0, 0.2])
+        );
+        assert_eq!(samples(b"P1\n2 1\n1 0\n"), Ok(vec![0.0, 1.0]));
+        assert_eq!(samples(b"P4\n2 1\n\x80"), Ok(vec![0.0, 1.0]));
+        assert_eq!(samples(b"P7\nWIDTH 2\nHEIGHT 1\nDEPTH 1\nMAXVAL 1\nTUPLTYPE BLACKANDWHITE\nENDHDR\n\x00\x01"), Ok(vec![0.0, 1.0]));
+        assert!(
+            samples(b"P5\n1 1\n100\n\x65")
+                .unwrap_err()
+                .to_string()
+                .contains("above the largest")
+        );
+    }
 }

@@ -202,29 +202,22 @@ impl Job {
                 self.args.len()
             )),
             Refusal::Number => self.first_bad_number(picture),
+            Refusal::Window => Some(match self.viewport {
+                Some(viewport) => format!("the output was to be {viewport}"),
+                None => "the best fit is too large or too far off".to_owned(),
+            }),
             // A side of 0 leaves the corners nowhere to go, and the fit is judged before the window.
-            Refusal::Degenerate | Refusal::Window => match self.viewport {
-                Some(Geometry {
-                    width: 1..,
-                    height: 1..,
-                    ..
-                }) if refusal == Refusal::Degenerate => None,
-                Some(Geometry {
-                    width,
-                    height,
-                    x,
-                    y,
-                }) => Some(format!("the output was to be {width}x{height}{x:+}{y:+}")),
-                None if refusal == Refusal::Degenerate => None,
-                None => Some("the best fit is too large or too far off".to_owned()),
-            },
+            Refusal::Degenerate => {
+                let empty = self.viewport.filter(|v| v.width == 0 || v.height == 0)?;
+                Some(format!("the output was to be {empty}"))
+            }
             _ => None,
         }
     }
 
     /// In the table's order: arguments, samples, background, matte.
     fn first_bad_number(&self, picture: &Picture) -> Option<String> {
-        let bad = |x: f64, largest: f64| !(x.abs() <= largest);
+        let bad = |x: f64, largest: f64| x.is_nan() || x.abs() > largest;
         let bad_sample = |x: &f32| bad(f64::from(*x), 65_536.0);
         if let Some(k) = self.args.iter().position(|x| bad(*x, 1_048_576.0)) {
             return Some(format!("argument {} is {}", k + 1, self.args[k]));

@@ -1,5 +1,7 @@
 //! ImageMagick's geometries: `WxH` and `WxH+X+Y`, with signs before X and Y.
 
+use std::fmt;
+
 /// An output window: its size and where its top-left corner lies.
 #[derive(Clone, Copy, Debug, PartialEq, Eq)]
 pub struct Geometry {
@@ -7,6 +9,19 @@ pub struct Geometry {
     pub height: u64,
     pub x: i64,
     pub y: i64,
+}
+
+/// As it is written.
+impl fmt::Display for Geometry {
+    fn fmt(&self, f: &mut fmt::Formatter) -> fmt::Result {
+        let Self {
+            width,
+            height,
+            x,
+            y,
+        } = self;
+        write!(f, "{width}x{height}{x:+}{y:+}")
+    }
 }
 
 /// `WxH`, `WxH+X+Y`, `WxH-X+Y` and so on.
@@ -70,6 +85,13 @@ mod tests {
             read("4096x4096-1048576-1048576"),
             Ok((4096, 4096, -1048576, -1048576))
         );
+    }
+
+    #[test]
+    fn a_geometry_prints_as_it_is_read() {
+        for text in ["800x600-10+20", "0x0+0+0", "1x2+0-7"] {
+            assert_eq!(geometry(text).unwrap().to_string(), text);
+        }
     }
 
     #[test]

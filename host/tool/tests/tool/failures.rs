@@ -508,6 +508,7 @@ fn folders_that_are_missing_or_read_only() {
     into("folder.png").bad(2, &["'folder.png' can't be written: it is a folder"]);
 }
 
+/// Root may write into a folder without permission, but not into one that is mounted read-only.
 #[test]
 fn a_folder_that_may_not_be_written() {
     let folder = Folder::new("read-only");
@@ -516,21 +517,39 @@ fn a_folder_that_may_not_be_written() {
     fs::create_dir(&inner).expect("a folder");
     fs::write(inner.join("out.png"), b"old").expect("a file");
     fs::set_permissions(&inner, fs::Permissions::from_mode(0o555)).expect("permissions");
-    if File::create(inner.join("probe")).is_ok() {
-        println!("skipped: a_folder_that_may_not_be_written: root may write everywhere");
-        return;
+    let root = File::create(inner.join("probe")).is_ok();
+    let _ = fs::remove_file(inner.join("probe"));
+    let words = "distort in.png inner/out.png --method Affine --args 0,0,1,1";
+    let run = if root {
+        let script = format!(
+            "mount --bind inner inner 2>/dev/null && mount -o remount,bind,ro inner 2>/dev/null || exit 77; \
+             exec \"$0\" {words}"
+        );
+        let tool = env!("CARGO_BIN_EXE_dihyravo");
+        Command::new("unshare")
+            .args(["-m", "sh", "-c", &script, tool])
+            .current_dir(folder.path("."))
+            .output()
+    } else {
+        folder.tool().args(words.split(' ')).output()
+    };
+    match run.map(Run::from) {
+        Ok(run) if run.status == 77 || run.err.starts_with("unshare") => {
+            println!(
+                "skipped: a_folder_that_may_not_be_written: root may write everywhere and nothing can be mounted here"
+            );
+        }
+        Ok(run) => run.bad(
+            2,
+            &[
+                "inner/out.png' can't be written: ",
+                if root { "Read-only" } else { "denied" },
+            ],
+        ),
+        Err(_) => println!("skipped: a_folder_that_may_not_be_written: there is no unshare"),
     }
-    let run = folder.run([
-        "distort",
-        "in.png",
-        "inner/out.png",
-        "--method",
-        "Affine",
-        "--args",
-        "0,0,1,1",
-    ]);
-    run.bad(2, &["can't be written: Permission denied"]);
     assert_eq!(folder.read("inner/out.png"), b"old");
+    assert_eq!(fs::read_dir(&inner).expect("the folder").count(), 1);
     fs::set_permissions(&inner, fs::Permissions::from_mode(0o755)).expect("permissions");
 }
 

@@ -57,22 +57,15 @@ pub struct Distorted {
 
 /// A distortion: a method, its arguments, and how to go about it.
 ///
-/// Four picked corners of a card, squared to 200 by 100 pixels:
+/// Four picked corners of a card, squared to 200 by 100 pixels; of each, u, v on the photograph and x, y where it belongs:
 ///
 /// ```
 /// use dihyravo::{Distort, Method, Picture, Refusal, Viewport};
 ///
 /// let photograph = Picture::filled(320, 240, &[0.5, 0.25, 0.125])?;
-/// // u, v on the photograph, then x, y where it belongs.
-/// let corners = [
-///     31.0, 18.0, 0.0, 0.0,
-///     290.0, 40.0, 200.0, 0.0,
-///     301.0, 222.0, 200.0, 100.0,
-///     22.0, 197.0, 0.0, 100.0,
-/// ];
-/// let card = Distort::new(Method::Perspective, corners)
-///     .with_viewport(Viewport { width: 200, height: 100, x: 0, y: 0 })
-///     .distort(&photograph)?;
+/// let corners = [31., 18., 0., 0., 290., 40., 200., 0., 301., 222., 200., 100., 22., 197., 0., 100.];
+/// let viewport = Viewport { width: 200, height: 100, x: 0, y: 0 };
+/// let card = Distort::new(Method::Perspective, corners).with_viewport(viewport).distort(&photograph)?;
 /// assert_eq!((card.picture.width(), card.picture.height()), (200, 100));
 /// assert_eq!(card.picture.pixel(100, 50), Some(&[0.5, 0.25, 0.125][..]));
 /// assert_eq!(card.matte_pixels, 0);
@@ -93,9 +86,15 @@ pub struct Distort {
 }
 
 impl Distort {
+    /// The background where none is given: white.
+    pub const BACKGROUND: [f32; 4] = [1.0; 4];
+
+    /// The matte where none is given: the grey 189/255.
+    pub const MATTE: [f32; 4] = [189.0 / 255.0, 189.0 / 255.0, 189.0 / 255.0, 1.0];
+
     /// A method and its arguments, with the original's defaults: the picture's own window, [`VirtualPixel::Edge`],
-    /// [`Interpolate::Bilinear`], a white background and a matte of grey, 189/255. As many threads as the machine has
-    /// cores.
+    /// [`Distort::BACKGROUND`], [`Distort::MATTE`]. The original's elliptical averaging is absent, so the interpolation is its
+    /// point sampler's default, [`Interpolate::Bilinear`]. As many threads as the machine has cores.
     pub fn new(method: Method, args: impl Into<Vec<f64>>) -> Self {
         Self {
             method,
@@ -104,8 +103,8 @@ impl Distort {
             viewport: None,
             virtual_pixel: VirtualPixel::default(),
             interpolate: Interpolate::default(),
-            background: [1.0; 4],
-            matte: [189.0 / 255.0, 189.0 / 255.0, 189.0 / 255.0, 1.0],
+            background: Self::BACKGROUND,
+            matte: Self::MATTE,
             threads: 0,
             rows: 0,
         }
@@ -117,7 +116,7 @@ impl Distort {
         self
     }
 
-    /// The output's window.
+    /// The output's window. One without pixels is refused, where the original takes 1 for 0.
     pub fn with_viewport(mut self, viewport: Viewport) -> Self {
         self.viewport = Some(viewport);
         self
@@ -248,7 +247,11 @@ impl Distort {
             0 => thread::available_parallelism().map_or(1, usize::from),
             threads => threads,
         };
-        let bands = if threads == 1 { 1 } else { 2 * threads as u64 };
+        let bands = if threads == 1 {
+            1
+        } else {
+            (threads as u64).saturating_mul(2)
+        };
         let rows = match self.rows {
             0 => window.height.div_ceil(bands),
             rows => rows.min(window.height),

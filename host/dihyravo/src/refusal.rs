@@ -89,7 +89,7 @@ impl Refusal {
                 "width and height must be 1 to 4,096 and channels 1, 3 or 4; scale or cut the picture"
             }
             Self::Stock => {
-                "the picture's length is not width × height × channels; hand over exactly that many samples"
+                "the picture's length is not width times height times channels; hand over exactly that many samples"
             }
             Self::Code => {
                 "the method, virtual pixel policy or interpolation is unknown or absent; take a name of the list"
@@ -100,8 +100,8 @@ impl Refusal {
                  Polynomial its order before them"
             }
             Self::Number => {
-                "a number is not finite or too large; keep arguments within ±1,048,576, samples and colours within \
-                 ±65,536"
+                "a number is not finite or too large; keep arguments within 1,048,576 of 0, samples and colours within \
+                 65,536"
             }
             Self::Order => {
                 "the order of Polynomial is outside 1 to 5; its first argument is the order, the pairs come after it"
@@ -114,14 +114,14 @@ impl Refusal {
                 "no mapping fits; pick points that are apart and not on one line, give coefficients that can be inverted"
             }
             Self::Window => {
-                "the output's sides must be 1 to 4,096 and its offset within ±1,048,576; give another viewport or \
+                "the output's sides must be 1 to 4,096 and its offset within 1,048,576 of 0; give another viewport or \
                  leave best fit off"
             }
             Self::Rows => {
                 "first row plus row count is above the output's height; ask for the size first and stay below it"
             }
             Self::Tray => {
-                "the band's length is not rows × output width × output channels; ask for the size first and lend \
+                "the band's length is not rows times output width times output channels; ask for the size first and lend \
                  exactly that much"
             }
         }

@@ -13,10 +13,10 @@ pub struct Arguments {
 #[derive(Debug, Subcommand)]
 pub enum Command {
     /// Squares up a card or a page that was photographed askew, from its four corners
-    #[command(after_help = SQUARE, after_long_help = SQUARE)]
+    #[command(after_help = SQUARE)]
     Square(Square),
     /// Warps a picture by any of the methods, as ImageMagick's -distort does
-    #[command(after_help = DISTORT, after_long_help = DISTORT)]
+    #[command(after_help = DISTORT)]
     Distort(Distort),
     /// Lists the methods with their arguments, the virtual pixel policies and the interpolations
     Names(Names),
@@ -35,12 +35,17 @@ A corner u,v is a point of the photograph in pixels from its top-left corner, u 
 corner of the first pixel and 0.5,0.5 that pixel's middle; fractions are welcome. The four corners go to the four corners
 of OUT. EXIF orientation is not applied: corners count on the picture as it is stored.
 
+A colour is a name such as white or none, #rgb, #rrggbb, #rrggbbaa, rgb(r,g,b), rgba(r,g,b,a) or four numbers from 0 to 1.
+
 Example: dihyravo square photograph.jpg card.png --corners \"212,148 1011,95 1090,741 131,803\" --size 800x600";
 
 const DISTORT: &str = "\
 Coordinates: pixel i,j covers i to i+1 and j to j+1, so its middle is i+0.5,j+0.5. A pair u,v,x,y is a point u,v of IN
-and the place x,y where it belongs. Names ignore case; 'dihyravo names' lists them. ImageMagick's 'convert -filter point
--interpolate bilinear -distort' is the same job; elliptical averaging, its default, is not here.
+and the place x,y where it belongs. Names ignore case; 'dihyravo names' lists them with their numbers. It is the job of
+ImageMagick's 'convert -filter point -interpolate bilinear -distort'; elliptical averaging, its default, is not here.
+EXIF orientation is not applied.
+
+A colour is a name such as white or none, #rgb, #rrggbb, #rrggbbaa, rgb(r,g,b), rgba(r,g,b,a) or four numbers from 0 to 1.
 
 Example: dihyravo distort in.png out.png --method Affine --args \"0,0 5,5\" --viewport 800x600-10+20";
 
@@ -52,8 +57,8 @@ pub struct Square {
     /// The squared picture
     #[arg(value_name = "OUT")]
     pub output: PathBuf,
-    /// The corners on the photograph: top-left, top-right, bottom-right, bottom-left, "u,v u,v u,v u,v"
-    #[arg(long, allow_hyphen_values = true, value_name = "CORNERS")]
+    /// The corners on the photograph: top-left, top-right, bottom-right, bottom-left
+    #[arg(long, allow_hyphen_values = true, value_name = "u,v u,v u,v u,v")]
     pub corners: String,
     /// How large the squared picture is to be, in pixels
     #[arg(long, value_name = "WxH")]
@@ -79,8 +84,7 @@ pub struct Distort {
     /// The part of the warped plane to make [default: 0,0 and the size of IN]
     #[arg(long, value_name = "WxH+X+Y")]
     pub viewport: Option<String>,
-    /// Make OUT as large as the whole warped picture (Affine, AffineProjection, Perspective, PerspectiveProjection); a
-    /// viewport wins over it
+    /// Make OUT as large as the warped picture, by the affine and perspective methods; a viewport wins
     #[arg(long)]
     pub best_fit: bool,
     #[command(flatten)]
@@ -97,7 +101,7 @@ pub struct Options {
     /// How IN is read between its pixels
     #[arg(long, value_name = "NAME", default_value = "Bilinear")]
     pub interpolate: String,
-    /// The colour of the virtual pixels that are background: a name, #rrggbb, #rrggbbaa, rgb(r,g,b) or four numbers
+    /// The colour of the virtual pixels that are background
     #[arg(
         long,
         allow_hyphen_values = true,
@@ -105,7 +109,7 @@ pub struct Options {
         default_value = "white"
     )]
     pub background: String,
-    /// The colour of pixels that come from nowhere, such as those beyond a horizon
+    /// The colour of pixels that come from nowhere, such as beyond a horizon
     #[arg(
         long,
         allow_hyphen_values = true,
@@ -113,16 +117,16 @@ pub struct Options {
         default_value = "#bdbdbd"
     )]
     pub matte: String,
-    /// Bits of a sample in OUT; 32 are floats, in TIFF and PFM [default: as IN has them, where the format can]
+    /// Bits of a sample in OUT, 32 for floats [default: as in IN, if the format can]
     #[arg(long, value_name = "BITS", value_parser = ["8", "16", "32"])]
     pub depth: Option<String>,
     /// JPEG's quality, 1 to 100
     #[arg(long, value_name = "N", default_value_t = 95, value_parser = clap::value_parser!(u8).range(1..=100))]
     pub quality: u8,
-    /// Rows that are worked at once; the result is the same, bit for bit [default: two bands a thread]
+    /// Rows that are worked at once; changes no sample [default: two bands a thread]
     #[arg(long, value_name = "N", value_parser = clap::value_parser!(u64).range(1..))]
     pub rows: Option<u64>,
-    /// Threads to work on; the result is the same, bit for bit [default: one for each core]
+    /// Threads to work on; changes no sample [default: one for each core]
     #[arg(long, value_name = "N", value_parser = clap::value_parser!(u16).range(1..=256))]
     pub threads: Option<u16>,
     /// Print one JSON object instead of a line, for refusals and errors too

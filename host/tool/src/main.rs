@@ -79,6 +79,11 @@ fn work(job: &Job, json: bool) -> Result<String, Failure> {
 
 /// The parser's words, which take several lines, in one.
 fn misused(wrong: &clap::Error) -> Failure {
+    if wrong.kind() == ErrorKind::DisplayHelpOnMissingArgumentOrSubcommand {
+        return Failure::unusable(
+            "a command is missing: square, distort or names (see 'dihyravo --help')",
+        );
+    }
     let text = wrong.to_string();
     let words = text.split("\n\nUsage:").next().unwrap_or(&text);
     let words = words

@@ -25,30 +25,66 @@ fn shown(name: &str) -> String {
     }
 }
 
+fn policy(policy: VirtualPixel) -> &'static str {
+    match policy {
+        VirtualPixel::Edge => "the nearest edge pixel",
+        VirtualPixel::Background => "the background colour",
+        VirtualPixel::Black => "black",
+        VirtualPixel::White => "white",
+        VirtualPixel::Gray => "grey, halfway",
+        VirtualPixel::Transparent => "nothing; OUT has alpha",
+        VirtualPixel::Tile => "the picture again and again",
+        VirtualPixel::Mirror => "the picture again and again, every other one mirrored",
+        VirtualPixel::HorizontalTile => "the picture again sideways, background above and below",
+        VirtualPixel::VerticalTile => "the picture again up and down, background at the sides",
+        VirtualPixel::HorizontalTileEdge => {
+            "the picture again sideways, the nearest edge pixel above and below"
+        }
+        VirtualPixel::VerticalTileEdge => {
+            "the picture again up and down, the nearest edge pixel at the sides"
+        }
+        VirtualPixel::CheckerTile => "the picture and background, as on a checkerboard",
+        VirtualPixel::Random => "a pixel of the picture that depends on the place alone",
+        _ => "",
+    }
+}
+
+fn interpolation(interpolation: Interpolate) -> &'static str {
+    match interpolation {
+        Interpolate::Integer => "the pixel that holds the point",
+        Interpolate::Nearest => "the pixel whose middle is nearest",
+        Interpolate::Average => "the mean of 2 by 2 pixels",
+        Interpolate::Average9 => "the mean of 3 by 3 pixels",
+        Interpolate::Average16 => "the mean of 4 by 4 pixels",
+        Interpolate::Bilinear => "2 by 2 pixels, weighted by nearness",
+        Interpolate::Catrom => "Catmull and Rom's cubic over 4 by 4 pixels: sharp",
+        Interpolate::Spline => "the cubic B-spline over 4 by 4 pixels: soft",
+        Interpolate::Background => "the background colour",
+        _ => "",
+    }
+}
+
+/// A name and what is said of it.
+fn line(name: &str, about: &str) -> String {
+    format!("  {:<32} {about}", shown(name))
+}
+
 pub fn table() -> String {
     let mut lines = vec!["Methods, with the numbers of --args:".to_owned()];
-    for method in Method::ALL {
-        lines.push(format!(
-            "  {:<32} {}",
-            shown(method.name()),
-            method.arguments()
-        ));
-    }
+    lines.extend(Method::ALL.iter().map(|m| line(m.name(), m.arguments())));
     lines.push(format!(
         "  Absent, and refused: {}",
         ABSENT.map(shown).join(", ")
     ));
-    lines.push("Virtual pixel policies, for --virtual-pixel:".to_owned());
-    lines.extend(
-        VirtualPixel::NAMES
-            .iter()
-            .map(|name| format!("  {}", shown(name))),
+    lines.push(
+        "Virtual pixel policies, for --virtual-pixel, what is seen outside of IN:".to_owned(),
     );
-    lines.push("Interpolations, for --interpolate:".to_owned());
+    lines.extend(VirtualPixel::ALL.iter().map(|v| line(v.name(), policy(*v))));
+    lines.push("Interpolations, for --interpolate, how IN is read between its pixels:".to_owned());
     lines.extend(
-        Interpolate::NAMES
+        Interpolate::ALL
             .iter()
-            .map(|name| format!("  {}", shown(name))),
+            .map(|i| line(i.name(), interpolation(*i))),
     );
     lines.join("\n")
 }
@@ -104,5 +140,11 @@ mod tests {
             let expected = if *name == "Background" { 2 } else { 1 };
             assert_eq!(lines.count(), expected, "{name}");
         }
+        assert!(VirtualPixel::ALL.iter().all(|v| !policy(*v).is_empty()));
+        assert!(
+            Interpolate::ALL
+                .iter()
+                .all(|i| !interpolation(*i).is_empty())
+        );
     }
 }

@@ -384,7 +384,7 @@ fn files_that_are_cut_off() {
 #[test]
 fn usage_that_is_wrong() {
     let trial = Trial::new("usage");
-    trial.fails(trial.folder.run([]), 2, &[]);
+    trial.fails(trial.folder.run([]), 2, &["a command is missing"]);
     trial.fails(
         trial.folder.run(["sqare", "in.png", "out.png"]),
         2,

@@ -114,8 +114,9 @@ fn png(
     samples: &[f32],
 ) -> Result<Vec<u8>, Failure> {
     let mut bytes = Vec::new();
+    // On photographs the default takes six times as long and saves a quarter.
     let encoder =
-        PngEncoder::new_with_quality(&mut bytes, CompressionType::Default, FilterType::Adaptive);
+        PngEncoder::new_with_quality(&mut bytes, CompressionType::Fast, FilterType::Adaptive);
     let (data, kind) = match depth {
         Depth::Eight => {
             let kinds = [ColorType::L8, ColorType::Rgb8, ColorType::Rgba8];

@@ -106,11 +106,6 @@ fn by_image(bytes: &[u8], format: ImageFormat, largest: Option<u16>) -> Result<L
         height: height.into(),
         channels: 1,
     })?;
-    if format == ImageFormat::Jpeg && !ends_as_jpeg(bytes) {
-        return Err(Failure::unusable(
-            "it is cut off: the end of the JPEG is missing",
-        ));
-    }
     let image = reader().decode().map_err(undecoded)?;
     let (channels, depth, samples) = match image {
         DynamicImage::ImageLuma8(i) => (1, Depth::Eight, floats(&i, largest)),
@@ -167,15 +162,6 @@ pub fn picture(
         .flat_map(|&[grey, alpha]| [grey, grey, grey, alpha])
         .collect();
     Ok(Picture::new(width, height, 4, wide)?)
-}
-
-/// Whether a JPEG has its end marker after the last scan. The decoder alone fills what is missing with grey. Cameras put
-/// previews and padding after the end, so it need not be the last two bytes.
-fn ends_as_jpeg(bytes: &[u8]) -> bool {
-    const START_OF_SCAN: [u8; 2] = [0xff, 0xda];
-    const END: [u8; 2] = [0xff, 0xd9];
-    let last = |marker: [u8; 2]| bytes.windows(2).rposition(|pair| pair == marker);
-    matches!((last(START_OF_SCAN), last(END)), (Some(scan), Some(end)) if scan < end)
 }
 
 pub fn undecoded(error: ImageError) -> Failure {

@@ -4,7 +4,7 @@ use crate::arguments::{Distort, Options, Square};
 use crate::failure::Failure;
 use crate::file::{self, Depth, Format, Target};
 use crate::progress;
-use crate::text::{self, Geometry};
+use crate::text;
 use dihyravo::{Distorted, Method, Picture, Refusal, Viewport};
 use std::path::{Path, PathBuf};
 use std::time::{Duration, Instant};
@@ -18,7 +18,7 @@ pub struct Job {
     quality: u8,
     method: Method,
     args: Vec<f64>,
-    viewport: Option<Geometry>,
+    viewport: Option<Viewport>,
     background: [f32; 4],
     matte: [f32; 4],
     distort: dihyravo::Distort,
@@ -70,7 +70,7 @@ impl Job {
         let places = [(0.0, 0.0), (w, 0.0), (w, h), (0.0, h)];
         let pairs = corners.iter().zip(places);
         let args = pairs.flat_map(|(&(u, v), (x, y))| [u, v, x, y]).collect();
-        let viewport = Some(Geometry {
+        let viewport = Some(Viewport {
             width,
             height,
             x: 0,
@@ -94,7 +94,7 @@ impl Job {
         output: &Path,
         method: Method,
         args: Vec<f64>,
-        viewport: Option<Geometry>,
+        viewport: Option<Viewport>,
         options: &Options,
     ) -> Result<Self, Failure> {
         let background = option("--background", text::colour(&options.background))?;
@@ -112,19 +112,8 @@ impl Job {
             .with_matte(matte)
             .with_threads(options.threads.unwrap_or(0).into())
             .with_rows(options.rows.unwrap_or(0));
-        if let Some(Geometry {
-            width,
-            height,
-            x,
-            y,
-        }) = viewport
-        {
-            distort = distort.with_viewport(Viewport {
-                width,
-                height,
-                x,
-                y,
-            });
+        if let Some(viewport) = viewport {
+            distort = distort.with_viewport(viewport);
         }
         Ok(Self {
             input: input.to_owned(),
@@ -203,13 +192,13 @@ impl Job {
             )),
             Refusal::Number => self.first_bad_number(picture),
             Refusal::Window => Some(match self.viewport {
-                Some(viewport) => format!("the output was to be {viewport}"),
+                Some(viewport) => format!("the output was to be {}", text::shown(viewport)),
                 None => "the best fit is too large or too far off".to_owned(),
             }),
             // A side of 0 leaves the corners nowhere to go, and the fit is judged before the window.
             Refusal::Degenerate => {
                 let empty = self.viewport.filter(|v| v.width == 0 || v.height == 0)?;
-                Some(format!("the output was to be {empty}"))
+                Some(format!("the output was to be {}", text::shown(empty)))
             }
             _ => None,
         }

@@ -7,10 +7,15 @@ use std::io::{self, Write};
 use std::path::{Path, PathBuf};
 use std::process;
 
-/// Before the work: whether the folder is there and the name can be a file's.
+/// Before the work: whether the folder is there and the name can be a file's. A file that is read-only is meant to stay; to
+/// rename another over it would be allowed all the same.
 pub fn check(path: &Path) -> Result<(), Failure> {
-    if fs::metadata(path).is_ok_and(|m| m.is_dir()) {
-        return Err(failed(path, "it is a folder"));
+    match fs::metadata(path) {
+        Ok(found) if found.is_dir() => return Err(failed(path, "it is a folder")),
+        Ok(found) if found.permissions().readonly() => {
+            return Err(failed(path, "it is there and read-only"));
+        }
+        _ => (),
     }
     match fs::metadata(folder(path)) {
         Ok(found) if found.is_dir() => Ok(()),
@@ -21,17 +26,17 @@ pub fn check(path: &Path) -> Result<(), Failure> {
 
 pub fn save(path: &Path, bytes: &[u8]) -> Result<(), Failure> {
     // A link stays a link: what it leads to is replaced.
-    let path = fs::canonicalize(path).unwrap_or_else(|_| path.to_owned());
-    let old = fs::metadata(&path).ok();
+    let place = fs::canonicalize(path).unwrap_or_else(|_| path.to_owned());
+    let old = fs::metadata(&place).ok();
     let written = match &old {
         // A device or a pipe can't be replaced.
         Some(found) if !found.is_file() => OpenOptions::new()
             .write(true)
-            .open(&path)
+            .open(&place)
             .and_then(|mut f| f.write_all(bytes)),
-        _ => replace(&path, bytes, old.map(|m| m.permissions())),
+        _ => replace(&place, bytes, old.map(|m| m.permissions())),
     };
-    written.map_err(|why| failed(&path, why))
+    written.map_err(|why| failed(path, why))
 }
 
 fn replace(path: &Path, bytes: &[u8], permissions: Option<Permissions>) -> io::Result<()> {

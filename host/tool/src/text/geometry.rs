@@ -1,36 +1,25 @@
 //! ImageMagick's geometries: `WxH` and `WxH+X+Y`, with signs before X and Y.
 
-use std::fmt;
+use dihyravo::Viewport;
 
-/// An output window: its size and where its top-left corner lies.
-#[derive(Clone, Copy, Debug, PartialEq, Eq)]
-pub struct Geometry {
-    pub width: u64,
-    pub height: u64,
-    pub x: i64,
-    pub y: i64,
-}
-
-/// As it is written.
-impl fmt::Display for Geometry {
-    fn fmt(&self, f: &mut fmt::Formatter) -> fmt::Result {
-        let Self {
-            width,
-            height,
-            x,
-            y,
-        } = self;
-        write!(f, "{width}x{height}{x:+}{y:+}")
-    }
+/// A window as it is written.
+pub fn shown(window: Viewport) -> String {
+    let Viewport {
+        width,
+        height,
+        x,
+        y,
+    } = window;
+    format!("{width}x{height}{x:+}{y:+}")
 }
 
 /// `WxH`, `WxH+X+Y`, `WxH-X+Y` and so on.
-pub fn geometry(text: &str) -> Result<Geometry, String> {
+pub fn geometry(text: &str) -> Result<Viewport, String> {
     let text = text.trim();
     let (size_part, offset) = text.split_at(text.find(['+', '-']).unwrap_or(text.len()));
     let parsed = side_by_side(size_part).and_then(|(width, height)| {
         let (x, y) = offsets(offset)?;
-        Some(Geometry {
+        Some(Viewport {
             width,
             height,
             x,
@@ -90,7 +79,7 @@ mod tests {
     #[test]
     fn a_geometry_prints_as_it_is_read() {
         for text in ["800x600-10+20", "0x0+0+0", "1x2+0-7"] {
-            assert_eq!(geometry(text).unwrap().to_string(), text);
+            assert_eq!(shown(geometry(text).unwrap()), text);
         }
     }
 

@@ -6,6 +6,6 @@ mod nearest;
 mod numbers;
 
 pub use colour::colour;
-pub use geometry::{Geometry, geometry, size};
+pub use geometry::{geometry, shown, size};
 pub use nearest::nearest;
 pub use numbers::{corners, numbers};

@@ -561,7 +561,19 @@ fn a_disk_that_is_full_from_the_first_byte() {
     let run = folder.run([
         "distort", "in.png", "full.png", "--method", "Affine", "--args", "0,0,1,1",
     ]);
-    run.bad(2, &["can't be written: No space left on device"]);
+    run.bad(2, &["'full.png' can't be written: No space left on device"]);
+}
+
+#[test]
+fn an_output_that_is_read_only_stays() {
+    let trial = Trial::new("read-only-file");
+    let output = trial.folder.path("out.png");
+    fs::set_permissions(&output, fs::Permissions::from_mode(0o444)).expect("permissions");
+    trial.fails(
+        trial.shift("in.png", &[]),
+        2,
+        &["'out.png' can't be written: it is there and read-only"],
+    );
 }
 
 /// A limit on the length of files stands for a disk that fills up in the middle.

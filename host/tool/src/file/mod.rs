@@ -1,11 +1,11 @@
 //! Picture files: which formats there are, how they are read into floats and written from them, and how a file is put in place.
 
-mod float_tiff;
 mod format;
 mod pfm;
 mod pnm;
 mod read;
 mod save;
+mod tiff_file;
 mod write;
 
 pub use format::{Depth, Format};

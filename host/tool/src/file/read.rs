@@ -1,7 +1,7 @@
 //! Reading: the format is found by the file's first bytes, the size is looked at before anything is unpacked, and samples become
 //! floats from 0 to 1 by one division. Colours are taken as they are stored; no profile, gamma or orientation is applied.
 
-use super::{Depth, float_tiff, pfm, pnm};
+use super::{Depth, pfm, pnm, tiff_file};
 use crate::failure::Failure;
 use dihyravo::{LARGEST_SIDE, Picture, Refusal};
 use image::{DynamicImage, ImageError, ImageFormat};
@@ -83,18 +83,30 @@ fn decode(bytes: &[u8]) -> Result<Loaded, Failure> {
         });
     }
     match image::guess_format(bytes) {
-        Ok(ImageFormat::Tiff) if float_tiff::is_float(bytes) => Ok(Loaded {
-            picture: float_tiff::decode(bytes)?,
-            depth: Depth::Float,
-        }),
-        Ok(format @ (ImageFormat::Png | ImageFormat::Jpeg | ImageFormat::Tiff)) => {
-            by_image(bytes, format, None)
-        }
-        Ok(ImageFormat::Pnm) => by_image(bytes, ImageFormat::Pnm, pnm::largest_sample(bytes)),
+        Ok(ImageFormat::Tiff) => by_tiff(bytes),
+        Ok(format @ (ImageFormat::Png | ImageFormat::Jpeg)) => by_image(bytes, format, None),
+        Ok(ImageFormat::Pnm) => match pnm::largest_sample(bytes) {
+            Some(0) => Err(Failure::unusable(
+                "the largest sample that its header names is 0",
+            )),
+            largest => by_image(bytes, ImageFormat::Pnm, largest),
+        },
         _ => Err(Failure::unusable(
             "it is no PNG, JPEG, TIFF, PNM or PFM file",
         )),
     }
+}
+
+fn by_tiff(bytes: &[u8]) -> Result<Loaded, Failure> {
+    if let Some(why) = tiff_file::misread(bytes) {
+        return Err(Failure::unusable(why));
+    }
+    if !tiff_file::is_float(bytes) {
+        return by_image(bytes, ImageFormat::Tiff, None);
+    }
+    let picture = tiff_file::decode(bytes)?;
+    let depth = Depth::Float;
+    Ok(Loaded { picture, depth })
 }
 
 /// Through the crate `image`. `largest` is the sample that stands for 1 where it is not the type's largest.
@@ -281,6 +293,7 @@ mod tests {
         assert_eq!(samples(b"P1\n2 1\n1 0\n"), Ok(vec![0.0, 1.0]));
         assert_eq!(samples(b"P4\n2 1\n\x80"), Ok(vec![0.0, 1.0]));
         assert_eq!(samples(b"P7\nWIDTH 2\nHEIGHT 1\nDEPTH 1\nMAXVAL 1\nTUPLTYPE BLACKANDWHITE\nENDHDR\n\x00\x01"), Ok(vec![0.0, 1.0]));
+        assert!(samples(b"P5\n1 1\n0\n\x00").is_err());
         assert!(
             samples(b"P5\n1 1\n100\n\x65")
                 .unwrap_err()

@@ -1,6 +1,6 @@
 //! Writing, into memory first: samples are clamped to 0 to 1 and rounded to the nearest whole step, floats stay as they are.
 
-use super::float_tiff::{self, Samples};
+use super::tiff_file::{self, Samples};
 use super::{Depth, Format, pfm, pnm};
 use crate::failure::Failure;
 use dihyravo::Picture;
@@ -176,15 +176,15 @@ fn tiff(
 ) -> Result<Vec<u8>, Failure> {
     match depth {
         Depth::Eight => {
-            float_tiff::encode(width, height, channels, Samples::Eight(&eights(samples)))
+            tiff_file::encode(width, height, channels, Samples::Eight(&eights(samples)))
         }
-        Depth::Sixteen => float_tiff::encode(
+        Depth::Sixteen => tiff_file::encode(
             width,
             height,
             channels,
             Samples::Sixteen(&sixteens(samples)),
         ),
-        Depth::Float => float_tiff::encode(width, height, channels, Samples::Float(samples)),
+        Depth::Float => tiff_file::encode(width, height, channels, Samples::Float(samples)),
     }
 }
 

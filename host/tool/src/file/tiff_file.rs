@@ -1,4 +1,4 @@
-//! TIFF of 32-bit floats, and the writing of TIFF in every depth, uncompressed. A fourth channel is tagged as alpha that the
+//! TIFF: what the crate `image` does not read of it, and the writing of it in every depth, uncompressed. A fourth channel is tagged as alpha that the
 //! colours are not multiplied by, which readers ask for.
 
 use super::read::{Sizes, picture, sized};
@@ -10,11 +10,30 @@ use tiff::encoder::{TiffEncoder, TiffValue, colortype};
 use tiff::tags::{SampleFormat, Tag};
 use tiff::{ColorType, TiffError};
 
+/// The numbers of a tag of the first picture, none where it has no such tag.
+fn numbers(bytes: &[u8], tag: Tag) -> Vec<u16> {
+    let found = Decoder::new(Cursor::new(bytes)).and_then(|mut d| d.find_tag_unsigned_vec(tag));
+    found.ok().flatten().unwrap_or_default()
+}
+
 /// Whether the first picture's samples are floats.
 pub fn is_float(bytes: &[u8]) -> bool {
-    let formats = Decoder::new(Cursor::new(bytes))
-        .and_then(|mut decoder| decoder.find_tag_unsigned_vec::<u16>(Tag::SampleFormat));
-    matches!(formats, Ok(Some(all)) if all.first() == Some(&SampleFormat::IEEEFP.to_u16()))
+    numbers(bytes, Tag::SampleFormat).first() == Some(&SampleFormat::IEEEFP.to_u16())
+}
+
+/// Why the first picture's samples are not what the decoder takes them for, if they are not: it does not look at these tags.
+pub fn misread(bytes: &[u8]) -> Option<&'static str> {
+    const PLANAR: u16 = 2;
+    const ASSOCIATED: u16 = 1;
+    if numbers(bytes, Tag::PlanarConfiguration).contains(&PLANAR) {
+        return Some(
+            "its channels lie in planes, which is not supported: store them pixel by pixel",
+        );
+    }
+    let multiplied = numbers(bytes, Tag::ExtraSamples).contains(&ASSOCIATED);
+    multiplied.then_some(
+        "its colours are multiplied by alpha, which is not supported: store them as they are",
+    )
 }
 
 pub fn decode(bytes: &[u8]) -> Result<Picture, Failure> {
@@ -138,6 +157,28 @@ mod tests {
                     .all(|(a, b)| a.to_bits() == b.to_bits())
             );
         }
+    }
+
+    #[test]
+    fn planes_and_multiplied_colours_are_told() {
+        for (tag, bad) in [(Tag::PlanarConfiguration, 2u16), (Tag::ExtraSamples, 1)] {
+            for value in [1, 2] {
+                let mut bytes = Cursor::new(Vec::new());
+                let mut encoder = TiffEncoder::new(&mut bytes).unwrap();
+                let mut image = encoder.new_image::<colortype::RGBA8>(2, 1).unwrap();
+                image.encoder().write_tag(tag, value).unwrap();
+                image.write_data(&[0; 8]).unwrap();
+                assert_eq!(
+                    misread(bytes.get_ref()).is_some(),
+                    value == bad,
+                    "{tag:?} {value}"
+                );
+            }
+        }
+        assert_eq!(
+            misread(&encode(2, 1, 4, Samples::Eight(&[0; 8])).unwrap()),
+            None
+        );
     }
 
     #[test]

@@ -15,6 +15,7 @@ use clap::Parser;
 use clap::error::ErrorKind;
 use failure::{Failure, UNUSABLE, one_line};
 use job::Job;
+use std::any::Any;
 use std::io::{self, Write};
 use std::panic::catch_unwind;
 use std::process::ExitCode;
@@ -23,11 +24,7 @@ fn main() -> ExitCode {
     // A decoder that panics on a broken file is told in one line, as any other failure.
     std::panic::set_hook(Box::new(|_| ()));
     let json = std::env::args_os().any(|word| word == "--json");
-    let done = catch_unwind(run).unwrap_or_else(|_| {
-        Err(Failure::unusable(
-            "an error in the program itself: please report it",
-        ))
-    });
+    let done = catch_unwind(run).unwrap_or_else(|panic| Err(fault(panic)));
     match done.and_then(|text| print(&text)) {
         Ok(()) => ExitCode::SUCCESS,
         Err(failure) => {
@@ -41,6 +38,17 @@ fn main() -> ExitCode {
             })
         }
     }
+}
+
+/// A fault of this program, with the words of its panic.
+fn fault(panic: Box<dyn Any + Send>) -> Failure {
+    let text = panic.downcast_ref::<String>().map(String::as_str);
+    let words = text
+        .or_else(|| panic.downcast_ref::<&str>().copied())
+        .unwrap_or("no words");
+    Failure::unusable(format!(
+        "a fault of this program, please report it: {words}"
+    ))
 }
 
 /// What to print on standard output.

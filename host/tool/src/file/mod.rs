@@ -1,0 +1,14 @@
+//! Picture files: which formats there are, how they are read into floats and written from them, and how a file is put in place.
+
+mod format;
+mod pfm;
+mod pnm;
+mod read;
+mod save;
+mod tiff_file;
+mod write;
+
+pub use format::{Depth, Format};
+pub use read::read;
+pub use save::{check, save};
+pub use write::{Target, encode};

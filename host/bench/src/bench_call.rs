@@ -3,7 +3,8 @@
 //! same, bit for bit. And what the test of all samples costs alone, beside a copy of the picture.
 //!
 //! Words choose rows: `bench_call Perspective Bilinear 3` measures the rows that have all three in their names.
-//! `--quick` is the large picture of 3 channels with fewer rounds. `opencv=NS` is what OpenCV takes a pixel here.
+//! `--quick` is the large picture of 3 channels under `Edge`, with few rounds: a minute. `opencv=NS` is what OpenCV takes
+//! a pixel here.
 
 mod call;
 
@@ -89,7 +90,8 @@ fn run(r: Reference, asked: &Asked) {
 fn effort(row: &Row, quick: bool) -> Effort {
     let (least, seconds) = match (row.shape.large(), quick) {
         (true, true) => (2, 0.6),
-        (true, false) => (3, 2.0),
+        (true, false) if row.policy == rows::EDGE => (3, 3.0),
+        (true, false) => (2, 1.2),
         (false, _) => (5, 0.2),
     };
     Effort { least, seconds }

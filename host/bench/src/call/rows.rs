@@ -160,7 +160,10 @@ fn pairs_of(every: bool) -> impl Iterator<Item = (u64, u64)> {
 pub fn chosen(words: &[String], quick: bool) -> Vec<Row> {
     let has = |row: &Row, word: &String| row.words().iter().any(|w| w.eq_ignore_ascii_case(word));
     let asked = |row: &Row| words.iter().all(|word| has(row, word));
-    let light = |row: &Row| !quick || row.shape.large() && row.shape.kind() == "3";
+    let plain =
+        |row: &Row| row.method == codes::PERSPECTIVE && row.interpolation == codes::BILINEAR;
+    let few = |row: &Row| row.policy == EDGE || plain(row);
+    let light = |row: &Row| !quick || row.shape.large() && row.shape.kind() == "3" && few(row);
     let all = all().into_iter();
     all.filter(|row| asked(row) && light(row)).collect()
 }

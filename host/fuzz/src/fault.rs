@@ -1,0 +1,108 @@
+//! Where a run is, so that a fault in the callee can be told: the handler says which case it was and ends the process.
+
+use crate::sys;
+use std::ffi::c_int;
+use std::sync::atomic::{AtomicU64, Ordering::Relaxed};
+
+/// The status of a process that ends by a fault.
+pub const STATUS: i32 = 70;
+
+/// What the line of a fault starts with.
+pub const WORDS: &str = "fault: signal, seed, case, call:";
+
+static SEED: AtomicU64 = AtomicU64::new(0);
+static CASE: AtomicU64 = AtomicU64::new(0);
+static CALL: AtomicU64 = AtomicU64::new(0);
+
+/// The case that is made now.
+pub fn case(seed: u64, index: u64) {
+    SEED.store(seed, Relaxed);
+    CASE.store(index, Relaxed);
+}
+
+/// Which of a case's calls is made now; 0 for none.
+pub fn call(which: u64) {
+    CALL.store(which, Relaxed);
+}
+
+/// From now on a fault is told in one line and ends the process with `STATUS`.
+pub fn install() {
+    for number in sys::SIGNALS {
+        // SAFETY: the handler only reads atomics, writes to a file and ends the process.
+        unsafe { sys::signal(number, told) };
+    }
+}
+
+extern "C" fn told(number: c_int) {
+    let mut line = Line::default();
+    line.text(WORDS);
+    let [seed, case, call] = [&SEED, &CASE, &CALL].map(|n| n.load(Relaxed));
+    for n in [number as u64, seed, case, call] {
+        line.text(" ");
+        line.number(n);
+    }
+    line.text("\n");
+    // SAFETY: the bytes are the line's own.
+    unsafe { sys::write(2, line.bytes.as_ptr().cast(), line.length) };
+    sys::_exit(STATUS)
+}
+
+/// A line that is put together without memory of the heap's, which a handler may not ask for.
+struct Line {
+    bytes: [u8; 160],
+    length: usize,
+}
+
+impl Default for Line {
+    fn default() -> Self {
+        Self {
+            bytes: [0; 160],
+            length: 0,
+        }
+    }
+}
+
+impl Line {
+    fn text(&mut self, text: &str) {
+        for byte in text.bytes() {
+            if let Some(place) = self.bytes.get_mut(self.length) {
+                *place = byte;
+                self.length += 1;
+            }
+        }
+    }
+
+    fn number(&mut self, n: u64) {
+        if n >= 10 {
+            self.number(n / 10);
+        }
+        let digit = [b'0' + (n % 10) as u8];
+        self.text(std::str::from_utf8(&digit).unwrap_or("?"));
+    }
+}
+
+/// Seed, case and call of a line that the handler wrote.
+pub fn read(line: &str) -> Option<(u64, u64, u64)> {
+    let numbers = line.strip_prefix(WORDS)?;
+    let mut numbers = numbers.split_whitespace().skip(1).map(str::parse);
+    let mut next = || numbers.next()?.ok();
+    Some((next()?, next()?, next()?))
+}
+
+#[cfg(test)]
+mod tests {
+    use super::*;
+
+    #[test]
+    fn a_line_is_read_back() {
+        let mut line = Line::default();
+        line.text(WORDS);
+        for n in [11, 9_000, 0, 18_446_744_073_709_551_615] {
+            line.text(" ");
+            line.number(n);
+        }
+        let text = std::str::from_utf8(&line.bytes[..line.length]).unwrap();
+        assert_eq!(read(text), Some((9_000, 0, u64::MAX)));
+        assert_eq!(read("another line"), None);
+    }
+}

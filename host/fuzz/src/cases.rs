@@ -4,6 +4,7 @@
 use crate::arena::{Place, Side};
 use crate::damage;
 use crate::lent::Lent;
+use crate::sweep;
 use differential::random::Random;
 use differential::{Job, expected, generate};
 use reference::Reference;
@@ -39,6 +40,10 @@ pub struct Case {
 
 pub fn case(r: Option<Reference>, seed: u64, index: u64) -> Case {
     let mut random = Random::nth(seed ^ SALT, index);
+    if seed == sweep::SEED {
+        let (kind, lent) = sweep::case(index);
+        return Case { kind, lent, random };
+    }
     let kind = match random.below(16) {
         0..6 => Kind::Plain,
         6..11 => Kind::Damaged,

@@ -4,7 +4,7 @@ use crate::lent::{Lent, ROWS};
 use differential::random::Random;
 
 /// Numbers that no field may hold, or that look like a small one when they are cut.
-const HUGE: [u64; 9] = [
+pub const HUGE: [u64; 9] = [
     u64::MAX,
     u64::MAX - 1,
     1 << 63,

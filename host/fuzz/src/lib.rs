@@ -17,6 +17,7 @@ pub mod names;
 pub mod plants;
 pub mod run;
 pub mod stack;
+pub mod sweep;
 mod sys;
 
 /// The seed of the first piece; piece `k` has the seed `SEED + k`.

@@ -3,7 +3,7 @@
 
 use fuzz::plants::PLANTS;
 use fuzz::run::{self, Met};
-use fuzz::{SEED, cases};
+use fuzz::{SEED, cases, sweep};
 use std::path::Path;
 use std::thread;
 
@@ -34,6 +34,21 @@ fn nothing_is_touched_that_is_not_lent() {
     assert!(met.kinds.iter().all(|&n| n > 1_000), "a kind is missing");
     assert!(met.accepted[..5].iter().all(|&n| n > 100));
     assert!(met.readers > 10_000);
+}
+
+/// Of one good job for each method: every length one short and one long, every huge number in every field.
+#[test]
+fn every_length_and_every_field() {
+    let met = match run::child(program(), sweep::SEED, 0..sweep::CASES, "") {
+        Ok(met) => met,
+        Err(words) => panic!("{words}"),
+    };
+    println!("{met}");
+    assert_eq!(met.cases(), sweep::CASES);
+    // The good jobs, their lengths by 2, 4 and 11, and what is huge by the row of its field.
+    assert!(met.accepted[0] == 10 && met.accepted[2] == 0 && met.kinds[2] == 60);
+    assert!([1, 3, 9, 10].iter().all(|&n| met.answers[n] > 100));
+    assert_eq!([2, 4, 11].map(|n| met.answers[n]), [20; 3]);
 }
 
 #[test]

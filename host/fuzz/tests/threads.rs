@@ -2,6 +2,7 @@
 
 use differential::codes::{INTERPOLATIONS, POLICIES, PRESENT};
 use dihyravo::{Job, distort_into};
+use fuzz::sweep;
 use std::sync::Barrier;
 use std::thread;
 
@@ -10,22 +11,6 @@ const ROUNDS: usize = 3;
 const WIDTH: u64 = 61;
 const HEIGHT: u64 = 47;
 const CHANNELS: u64 = 4;
-
-/// Corner picks of a card, or what the method takes instead.
-fn arguments(method: u64) -> Vec<u8> {
-    let pairs = [
-        1.5, 2.25, 0.0, 0.0, 58.0, 1.75, 61.0, 0.0, 59.5, 44.0, 61.0, 47.0, 2.0, 45.5, 0.0, 47.0,
-        30.0, 24.5, 30.5, 23.5, 15.0, 22.0, 14.5, 23.0,
-    ];
-    let values = match method {
-        1 => vec![1.1, 0.05, -0.04, 1.2, -2.0, 3.0],
-        4 => vec![1.1, 0.05, -2.0, -0.04, 1.2, 1.0, 0.002, -0.001],
-        7 => [&[2.0], &pairs[..]].concat(),
-        11 | 12 => vec![0.02, -0.03, 0.01],
-        _ => pairs.to_vec(),
-    };
-    values.iter().flat_map(|x: &f64| x.to_le_bytes()).collect()
-}
 
 /// A job of a picture: every method with every interpolation, the policies in turn.
 fn jobs<'a>(picture: &'a [u8], arguments: &'a [Vec<u8>]) -> Vec<Job<'a>> {
@@ -70,7 +55,12 @@ fn eight_threads_give_the_same_bits() {
     let count = WIDTH * HEIGHT * CHANNELS;
     let sample = |k: u64| (k * 7_919 % 10_007) as f32 / 10_006.0;
     let picture: Vec<u8> = (0..count).flat_map(|k| sample(k).to_le_bytes()).collect();
-    let arguments: Vec<Vec<u8>> = PRESENT.into_iter().map(arguments).collect();
+    let bytes = |method| {
+        sweep::arguments(method)
+            .into_iter()
+            .flat_map(f64::to_le_bytes)
+    };
+    let arguments: Vec<Vec<u8>> = PRESENT.into_iter().map(|m| bytes(m).collect()).collect();
     let jobs = jobs(&picture, &arguments);
     let alone: Vec<_> = jobs.iter().map(left).collect();
     assert!(alone.windows(2).all(|two| two[0] != two[1]));

@@ -1,5 +1,5 @@
 //! Nanoseconds an output pixel of the whole distort call: the product's through its archive, whole and in bands of 16
-//! rows, and the original's `distort`; on one thread, of each the best of many rounds, in turns. The pictures must be the
+//! rows, and the original's `distort`; the time of one thread, of each the best of many rounds, in turns. The pictures must be the
 //! same, bit for bit. And what the test of all samples costs alone, beside a copy of the picture.
 //!
 //! Words choose rows: `bench_call Perspective Bilinear 3` measures the rows that have all three in their names.
@@ -60,7 +60,7 @@ fn asked() -> Result<Asked, String> {
 }
 
 fn run(r: Reference, asked: &Asked) {
-    println!("Nanoseconds an output pixel, one thread, best of the rounds:\n");
+    println!("Nanoseconds of one thread an output pixel, best of the rounds:\n");
     println!(
         "| picture | channels | method | interpolation | policy | whole | in bands | reference | times as fast | rounds |"
     );

@@ -1,5 +1,6 @@
 //! One row of the table: the product whole and in bands, and the original's `distort`, in turns; the best of many rounds.
 
+use super::clock;
 use super::rows::{EDGE, Row, Shape};
 use dihyravo::{Job, distort_into};
 use reference::{Call, Picture, Prepared, Reference};
@@ -164,9 +165,9 @@ fn in_bands(mut job: Job, picture: &mut [u8]) {
 }
 
 fn timed<T>(round: impl FnOnce() -> T) -> (f64, T) {
-    let start = Instant::now();
+    let start = clock::now();
     let made = round();
-    (start.elapsed().as_nanos() as f64, made)
+    (clock::now() - start, made)
 }
 
 /// Nanoseconds of one round.

@@ -1,4 +1,5 @@
-//! Where a run is, so that a fault in the callee can be told: the handler says which case it was and ends the process.
+//! Where a run is, so that a fault in the callee, or a call that does not end, can be told: the handler says which case it
+//! was and ends the process.
 
 use crate::sys;
 use std::ffi::c_int;
@@ -14,10 +15,16 @@ static SEED: AtomicU64 = AtomicU64::new(0);
 static CASE: AtomicU64 = AtomicU64::new(0);
 static CALL: AtomicU64 = AtomicU64::new(0);
 
-/// The case that is made now.
-pub fn case(seed: u64, index: u64) {
+/// The case that is made now; it may take so many seconds.
+pub fn case(seed: u64, index: u64, seconds: u32) {
     SEED.store(seed, Relaxed);
     CASE.store(index, Relaxed);
+    sys::alarm(seconds);
+}
+
+/// No case is made any more.
+pub fn done() {
+    sys::alarm(0);
 }
 
 /// Which of a case's calls is made now; 0 for none.
@@ -81,12 +88,27 @@ impl Line {
     }
 }
 
-/// Seed, case and call of a line that the handler wrote.
-pub fn read(line: &str) -> Option<(u64, u64, u64)> {
+/// What a line of the handler tells.
+#[derive(Clone, Copy, Debug, PartialEq, Eq)]
+pub struct Told {
+    /// Whether the time was up.
+    pub late: bool,
+    pub seed: u64,
+    pub case: u64,
+    pub call: u64,
+}
+
+/// Reads a line that the handler wrote.
+pub fn read(line: &str) -> Option<Told> {
     let numbers = line.strip_prefix(WORDS)?;
-    let mut numbers = numbers.split_whitespace().skip(1).map(str::parse);
+    let mut numbers = numbers.split_whitespace().map(str::parse::<u64>);
     let mut next = || numbers.next()?.ok();
-    Some((next()?, next()?, next()?))
+    Some(Told {
+        late: next()? == sys::ALARM as u64,
+        seed: next()?,
+        case: next()?,
+        call: next()?,
+    })
 }
 
 #[cfg(test)]
@@ -102,7 +124,13 @@ mod tests {
             line.number(n);
         }
         let text = std::str::from_utf8(&line.bytes[..line.length]).unwrap();
-        assert_eq!(read(text), Some((9_000, 0, u64::MAX)));
+        let told = Told {
+            late: false,
+            seed: 9_000,
+            case: 0,
+            call: u64::MAX,
+        };
+        assert_eq!(read(text), Some(told));
         assert_eq!(read("another line"), None);
     }
 }

@@ -8,7 +8,7 @@
 //! tests: `--here SEED FIRST END PLANT` runs cases in this process, `--heap SEED FIRST END` over blocks of the heap.
 
 use fuzz::callee::dihyravo_distort;
-use fuzz::run::{self, Met};
+use fuzz::run::{self, Met, PATIENCE};
 use fuzz::{heap, plants};
 use std::ops::Range;
 use std::process::ExitCode;
@@ -55,7 +55,9 @@ fn here(seed: &str, first: &str, end: &str, plant: &str) -> Result<String, Strin
         "" => dihyravo_distort,
         name => plants::named(name).ok_or_else(|| format!("no plant {name}"))?,
     };
-    let met = run::here(callee, number(seed)?, range(first, end)?)?;
+    // A planted callee that does not end is waited for a few seconds only.
+    let seconds = if plant.is_empty() { PATIENCE } else { 4 };
+    let met = run::here(callee, number(seed)?, range(first, end)?, seconds)?;
     Ok(met.numbers())
 }
 
@@ -76,7 +78,7 @@ fn on_heap(seed: &str, first: &str, end: &str, plant: &str) -> Result<String, St
 fn show(seed: &str, case: &str) -> Result<String, String> {
     let (seed, case) = (number(seed)?, number(case)?);
     println!("{}", run::told(seed, case, "as it is"));
-    let met = run::here(dihyravo_distort, seed, case..case + 1)?;
+    let met = run::here(dihyravo_distort, seed, case..case + 1, PATIENCE)?;
     Ok(met.to_string())
 }
 

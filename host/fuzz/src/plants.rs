@@ -9,7 +9,7 @@ pub type Plant = (&'static str, Distort, &'static str);
 
 const FAULT: &str = "fault:";
 
-pub const PLANTS: [Plant; 16] = [
+pub const PLANTS: [Plant; 17] = [
     ("writes beyond the band", planted::<0>, ""),
     ("writes before the band", planted::<1>, ""),
     ("writes beyond the answer", planted::<2>, ""),
@@ -42,10 +42,11 @@ pub const PLANTS: [Plant; 16] = [
         planted::<15>,
         "the answer's bytes are not the same twice",
     ),
+    ("does not end", planted::<16>, "no end:"),
 ];
 
 /// A callee that looks at the band's bytes before it writes them: found where these are not initialised.
-pub const READS_THE_BAND: Distort = planted::<16>;
+pub const READS_THE_BAND: Distort = planted::<17>;
 
 /// The callee of a plant.
 pub fn named(name: &str) -> Option<Distort> {
@@ -90,6 +91,9 @@ unsafe fn wrong(which: usize, number: u64, last: u8, p: &Pointers) -> u64 {
         13 if number == 4 => return 5,
         14 if accepted && rows => write(p.band.0.wrapping_add(p.band.1 - 1), last),
         15 if accepted && rows => write(p.answer.wrapping_add(40), CALLS.load(Relaxed) as u8 & 1),
+        16 if accepted => loop {
+            black_box(());
+        },
         _ => (),
     }
     number
@@ -170,7 +174,7 @@ fn last(which: usize, p: &Pointers) -> u8 {
     }
     // SAFETY: a byte of the band.
     let byte = unsafe { p.band.0.add(p.band.1 - 1).read_volatile() };
-    if which == 16 && byte == 0x33 {
+    if which == 17 && byte == 0x33 {
         CALLS.fetch_add(1, Relaxed);
     }
     byte

@@ -15,6 +15,9 @@ use std::thread;
 /// Calls that a case makes.
 const TWICE: u64 = 2;
 
+/// Seconds that a case may take.
+pub const PATIENCE: u32 = 300;
+
 /// One case of so many asks the name readers too.
 const NAMES: u64 = 16;
 
@@ -98,14 +101,14 @@ impl fmt::Display for Met {
     }
 }
 
-/// Runs the cases of a seed here. A fault ends the process, see `fault`.
-pub fn here(callee: Distort, seed: u64, indices: Range<u64>) -> Result<Met, String> {
+/// Runs the cases of a seed here. A fault, or a case that takes more than so many seconds, ends the process: see `fault`.
+pub fn here(callee: Distort, seed: u64, indices: Range<u64>, seconds: u32) -> Result<Met, String> {
     let reference = reference::open();
     let (mut rooms, mut readers) = (Rooms::default(), Names::default());
     let mut met = Met::default();
     fault::install();
     for index in indices {
-        fault::case(seed, index);
+        fault::case(seed, index, seconds);
         let mut case = case(reference, seed, index);
         let asked = asked(reference, &case.lent.job());
         let checked = rooms.check(callee, &case.lent, asked, &mut case.random);
@@ -121,6 +124,7 @@ pub fn here(callee: Distort, seed: u64, indices: Range<u64>) -> Result<Met, Stri
             met.readers += names::CALLS;
         }
     }
+    fault::done();
     Ok(met)
 }
 
@@ -147,8 +151,10 @@ pub fn child(program: &Path, seed: u64, indices: Range<u64>, plant: &str) -> Res
         String::from_utf8_lossy(&run.stdout),
         String::from_utf8_lossy(&run.stderr),
     );
-    if let Some((seed, index, call)) = err.lines().find_map(fault::read) {
-        return Err(told(seed, index, &format!("fault: in call {call}")));
+    if let Some(at) = err.lines().find_map(fault::read) {
+        let what = if at.late { "no end" } else { "fault" };
+        let words = format!("{what}: in call {}", at.call);
+        return Err(told(at.seed, at.case, &words));
     }
     match (out.lines().find_map(Met::read), err.strip_prefix("fuzz: ")) {
         (Some(met), _) if run.status.success() => Ok(met),

@@ -11,8 +11,9 @@ pub const MAP_FIXED: c_int = 0x10;
 pub const MAP_ANONYMOUS: c_int = 0x20;
 const SC_PAGESIZE: c_int = 30;
 
-/// Numbers of the signals that a wrong access or instruction ends with, and their names.
-pub const SIGNALS: [c_int; 4] = [11, 7, 4, 8];
+/// Signals of a wrong access, instruction or number, of a trap and an abort, and of the alarm.
+pub const SIGNALS: [c_int; 7] = [11, 7, 4, 8, 5, 6, ALARM];
+pub const ALARM: c_int = 14;
 
 /// Room for any C library's `pthread_attr_t`.
 #[repr(C, align(16))]
@@ -35,6 +36,7 @@ unsafe extern "C" {
     pub fn signal(number: c_int, handler: extern "C" fn(c_int)) -> usize;
     pub fn write(file: c_int, bytes: *const c_void, length: usize) -> isize;
     pub safe fn _exit(status: c_int) -> !;
+    pub safe fn alarm(seconds: c_uint) -> c_uint;
     pub fn pthread_attr_init(attributes: *mut Attributes) -> c_int;
     pub fn pthread_attr_setstack(
         attributes: *mut Attributes,

@@ -110,9 +110,26 @@ impl Arenas {
         Self { all }
     }
 
+    /// One arena that holds `length` bytes, however many.
+    pub fn of(length: usize, read_only: bool) -> Self {
+        let length = length.next_multiple_of(sys::page());
+        let all = vec![Arena::new(length, read_only)];
+        Self { all }
+    }
+
     /// Puts `bytes` into an arena. Everything else there is `place.around`.
     pub fn lend(&mut self, bytes: &[u8], place: Place) -> Lending {
-        let (length, shift) = (bytes.len(), place.shift);
+        self.lend_filled(bytes.len(), place, |room| room.copy_from_slice(bytes))
+    }
+
+    /// The same with so many bytes that `fill` writes.
+    pub fn lend_filled(
+        &mut self,
+        length: usize,
+        place: Place,
+        fill: impl FnOnce(&mut [u8]),
+    ) -> Lending {
+        let shift = place.shift;
         let arena = self.all.iter().position(|a| a.length >= length + shift);
         let arena = arena.expect("an arena is large enough");
         let room = &mut self.all[arena];
@@ -122,7 +139,7 @@ impl Arenas {
         };
         let all = room.bytes_mut();
         all[..first].fill(place.around);
-        all[first..first + length].copy_from_slice(bytes);
+        fill(&mut all[first..first + length]);
         all[first + length..].fill(place.around);
         let inside = room.lent.wrapping_add(first);
         let pointer = match place.nowhere {

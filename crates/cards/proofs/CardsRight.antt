@@ -23,16 +23,16 @@ use Rattle.fit.specs.Mapping as Mappings
 use Rattle.fit.specs.declared.mapping.Fitted.{Fitted}
 use Rattle.inverse.specs.Inverse as Inverse
 use Rattle.inverse.specs.Point as Point
-use Rattle.sampler.specs.At.{at}
-use Rattle.sampler.specs.Cubic.{catrom, pieces}
-use Rattle.sampler.specs.Index as Index
+use Rattle.pixels.specs.At.{at}
+use Rattle.cubic.specs.Cubic.{catrom, pieces}
+use Rattle.policies.specs.Index as Index
 use Rattle.sampler.specs.Interpolate.{interpolate}
-use Rattle.sampler.specs.Interpolation.{interpolation}
-use Rattle.sampler.specs.Named.{named, policy}
-use Rattle.sampler.specs.Pixel.{widened, pixelAt}
-use Rattle.sampler.specs.Taps.{taps}
-use Rattle.sampler.specs.Weighted.{weighted, mean, added, quotient}
-use Rattle.sampler.specs.declared.named.Tap.the-variants as Tap
+use Rattle.taps.specs.Interpolation.{interpolation}
+use Rattle.policies.specs.Named.{named, policy}
+use Rattle.pixels.specs.Pixel.{widened, pixelAt}
+use Rattle.taps.specs.Taps.{taps}
+use Rattle.taps.specs.Weighted.{weighted, mean, added, quotient}
+use Rattle.policies.specs.declared.named.Tap.the-variants as Tap
 use Rattle.window.specs.Bestfit as Bestfit
 use Rattle.window.specs.Ceil as Ceil
 use Rattle.window.specs.Edges as Edges

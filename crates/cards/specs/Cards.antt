@@ -13,12 +13,12 @@ use Rattle.fit.specs.declared.mapping.Fitted.{Fitted}
 use Rattle.fit.specs.declared.mapping.Mapping.{Mapping}
 use Rattle.inverse.specs.Inverse.{inverse}
 use Rattle.inverse.specs.declared.point.Point.{Point}
-use Rattle.sampler.specs.Cubic.{catrom}
+use Rattle.cubic.specs.Cubic.{catrom}
 use Rattle.sampler.specs.Interpolate.{interpolate}
-use Rattle.sampler.specs.Named.{named}
-use Rattle.sampler.specs.declared.colour.Rgba.{Rgba}
-use Rattle.sampler.specs.declared.named.Tap.{Tap}
-use Rattle.sampler.specs.declared.named.Tap.the-variants as Tap
+use Rattle.policies.specs.Named.{named}
+use Rattle.pixels.specs.declared.colour.Rgba.{Rgba}
+use Rattle.policies.specs.declared.named.Tap.{Tap}
+use Rattle.policies.specs.declared.named.Tap.the-variants as Tap
 use Rattle.window.specs.declared.window.Placed.{Placed}
 use Rattle.window.specs.declared.window.Placed.the-variants as Placed
 use Rattle.distort.specs.Job.{Image, Given, Call}

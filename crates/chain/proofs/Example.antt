@@ -16,8 +16,8 @@ use Rattle.fit.specs.declared.mapping.Fitted.{Fitted}
 use Rattle.fit.specs.declared.mapping.Mapping.{Mapping}
 use Rattle.inverse.specs.Conditions.{Terms, Meets}
 use Rattle.inverse.specs.ExactPoint.{monomialsF, exactPoint}
-use Rattle.sampler.specs.Colour.{one}
-use Rattle.sampler.specs.Pixel as Pixel
+use Rattle.pixels.specs.Colour.{one}
+use Rattle.pixels.specs.Pixel as Pixel
 use Rattle.distort.specs.Job.{Image, Given, Call, colourOf}
 use Rattle.distort.specs.Refusal.{fitOf}
 use Rattle.distort.specs.declared.answer.Answer.the-variants.{Accepted}

@@ -14,9 +14,9 @@ use Rattle.exact.proofs.Near.{within-same}
 use Rattle.exact.proofs.Products.{eq-refl}
 use Rattle.exact.proofs.Samples.{one-value}
 use Rattle.number.specs.Bytes.{sampleAt, u32At}
-use Rattle.sampler.specs.Colour.{one}
+use Rattle.pixels.specs.Colour.{one}
 use Rattle.sampler.specs.Opaque.{OpaquePicture}
-use Rattle.sampler.specs.Pixel.{Picture}
+use Rattle.pixels.specs.Pixel.{Picture}
 use Rattle.distort.specs.Job.{Image}
 use Rattle.chain.specs.Demand.{InUnit, First, Near, sampleOf}
 use Rattle.chain.specs.Exact.{ExactImage, place, exactly}

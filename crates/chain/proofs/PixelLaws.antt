@@ -27,11 +27,11 @@ use Rattle.inverse.specs.Conditions as Conditions
 use Rattle.inverse.specs.ExactPoint.{exactPoint}
 use Rattle.inverse.specs.declared.point.Point.{Point}
 use Rattle.inverse.proofs.PointNear.{asked-near}
-use Rattle.sampler.specs.Colour.{one}
+use Rattle.pixels.specs.Colour.{one}
 use Rattle.sampler.specs.Interpolate.{interpolate}
 use Rattle.sampler.specs.Opaque.{NearSample}
-use Rattle.sampler.specs.Pixel.{Picture}
-use Rattle.sampler.specs.declared.colour.Rgba.{Rgba}
+use Rattle.pixels.specs.Pixel.{Picture}
+use Rattle.pixels.specs.declared.colour.Rgba.{Rgba}
 use Rattle.sampler.proofs.BilinearOpaque.{sampled-near}
 use Rattle.window.specs.Window.{xOf, yOf}
 use Rattle.distort.specs.Band.{pointAt, shown, colourAt}

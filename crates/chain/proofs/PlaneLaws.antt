@@ -16,17 +16,17 @@ use Rattle.exact.specs.Fraction.{Fraction, frac, value, _≈_, Within, Unit01}
 use Rattle.exact.proofs.Near.{within-same}
 use Rattle.exact.proofs.Products.{eq-refl, back, unit-one, unit-same}
 use Rattle.number.specs.Bytes.{sampleAt}
-use Rattle.sampler.specs.At.{samples, at}
-use Rattle.sampler.specs.Colour as Colour
-use Rattle.sampler.specs.Named.{Policy, Transparent, policies, policy, named, Lies}
+use Rattle.pixels.specs.At.{samples, at}
+use Rattle.pixels.specs.Colour as Colour
+use Rattle.policies.specs.Named.{Policy, Transparent, policies, policy, named, Lies}
 use Rattle.sampler.specs.Opaque.{OpaquePlace, Exact, UnitExact, NearExact}
-use Rattle.sampler.specs.Pixel.{Picture, widened, pixelAt}
-use Rattle.sampler.specs.Weighted.{Opaque}
-use Rattle.sampler.specs.declared.colour.Rgba.{Rgba}
-use Rattle.sampler.specs.declared.named.Tap.{Tap}
-use Rattle.sampler.specs.declared.named.Tap.the-variants as Tap
+use Rattle.pixels.specs.Pixel.{Picture, widened, pixelAt}
+use Rattle.taps.specs.Weighted.{Opaque}
+use Rattle.pixels.specs.declared.colour.Rgba.{Rgba}
+use Rattle.policies.specs.declared.named.Tap.{Tap}
+use Rattle.policies.specs.declared.named.Tap.the-variants as Tap
 use Rattle.sampler.proofs.AtOpaque.{at-opaque}
-use Rattle.sampler.proofs.NamedLaws.{named-lies}
+use Rattle.policies.proofs.NamedLaws.{named-lies}
 use Rattle.distort.specs.Job.{Image, Given, colourOf}
 use Rattle.distort.specs.Refusal.{transparent}
 use Rattle.distort.proofs.SampleLaws.{part as component}

@@ -11,10 +11,10 @@ use lib.Ieee.{Float}
 use Rattle.exact.specs.Fraction.{frac}
 use Rattle.exact.specs.Weighted.{Unit32, Sample}
 use Rattle.number.specs.Bytes.{sampleAt}
-use Rattle.sampler.specs.Colour.{one}
+use Rattle.pixels.specs.Colour.{one}
 use Rattle.sampler.specs.Finite.{BoundedPicture}
-use Rattle.sampler.specs.Pixel.{Picture}
-use Rattle.sampler.specs.declared.colour.Rgba.{Rgba}
+use Rattle.pixels.specs.Pixel.{Picture}
+use Rattle.pixels.specs.declared.colour.Rgba.{Rgba}
 use Rattle.window.specs.Window.{xOf, yOf}
 use Rattle.distort.specs.Band.{colourAt}
 use Rattle.distort.specs.Call.{outWidth, outHeight, frameOf, sourceOf, rowsOf}

@@ -15,8 +15,8 @@ use Rattle.arguments.specs.Method as Method
 use Rattle.fit.specs.declared.mapping.Fitted.{Fitted}
 use Rattle.fit.specs.declared.mapping.Mapping.{Mapping}
 use Rattle.inverse.specs.Conditions.{Meets}
-use Rattle.sampler.specs.Colour.{one}
-use Rattle.sampler.specs.declared.colour.Rgba.{Rgba}
+use Rattle.pixels.specs.Colour.{one}
+use Rattle.pixels.specs.declared.colour.Rgba.{Rgba}
 use Rattle.distort.specs.Job.{Image, Given, Call, colourOf}
 use Rattle.distort.specs.Refusal.{transparent, fitOf}
 use Rattle.distort.specs.declared.answer.Answer.{Answer}

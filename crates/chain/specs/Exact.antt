@@ -11,11 +11,11 @@ use Rattle.fit.specs.Build.{build}
 use Rattle.fit.specs.declared.mapping.Fitted.{Fitted}
 use Rattle.fit.specs.declared.mapping.Mapping.{Mapping}
 use Rattle.inverse.specs.ExactPoint.{exactPoint}
-use Rattle.sampler.specs.Colour as Colour
-use Rattle.sampler.specs.Named.{named}
-use Rattle.sampler.specs.declared.colour.Rgba.{Rgba}
-use Rattle.sampler.specs.declared.named.Tap.{Tap}
-use Rattle.sampler.specs.declared.named.Tap.the-variants.{Pixel, Background, Black, White, Gray, Transparent}
+use Rattle.pixels.specs.Colour as Colour
+use Rattle.policies.specs.Named.{named}
+use Rattle.pixels.specs.declared.colour.Rgba.{Rgba}
+use Rattle.policies.specs.declared.named.Tap.{Tap}
+use Rattle.policies.specs.declared.named.Tap.the-variants.{Pixel, Background, Black, White, Gray, Transparent}
 use Rattle.distort.specs.Job.{Image, Given, colourOf}
 use Rattle.distort.specs.declared.answer.Answer.{Answer}
 use Rattle.chain.specs.Warps.{Warp, widthIn, heightIn, xIn, yIn}

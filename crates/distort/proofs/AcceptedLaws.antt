@@ -24,10 +24,10 @@ use Rattle.window.specs.Window.{refusalOf, widthOf, heightOf, xOf, yOf}
 use Rattle.window.specs.declared.window.Placed.{Placed}
 use Rattle.window.specs.declared.window.Placed.the-variants.{Window, Refused}
 use Rattle.window.proofs.WindowLaws.{Side, Limits, window-limits}
-use Rattle.sampler.specs.Colour.{one}
+use Rattle.pixels.specs.Colour.{one}
 use Rattle.sampler.specs.Finite.{BoundedPicture}
-use Rattle.sampler.specs.Weighted.{BoundedBy}
-use Rattle.sampler.specs.declared.colour.Rgba.{Rgba}
+use Rattle.taps.specs.Weighted.{BoundedBy}
+use Rattle.pixels.specs.declared.colour.Rgba.{Rgba}
 use Rattle.distort.specs.Job.{Image, Given, Call, yes, colourOf}
 use Rattle.distort.specs.Refusal.{fitOf, windowOf, transparent, widest, channelsOf, badSize, badStock, badCode, large, badNumber, degenerate, badWindow, badRows, badTray, ofJob, unfit, jobRefusal, refusal}
 use Rattle.distort.specs.Call.{outWidth, outHeight}

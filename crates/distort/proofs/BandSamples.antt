@@ -7,10 +7,10 @@ use native.Mathlib.Nat.{le-trans, add-zero, mul-le-mul-right, mod-lt, div-add-mo
 use native.Mathlib.Omega.{arith}
 use lib.Ieee.{Float}
 use Rattle.number.specs.Bytes.{sampleAt}
-use Rattle.sampler.specs.Colour.{one, luma}
+use Rattle.pixels.specs.Colour.{one, luma}
 use Rattle.sampler.specs.Finite.{FitsBy}
-use Rattle.sampler.specs.Pixel.{Picture, widened, pixelAt}
-use Rattle.sampler.specs.declared.colour.Rgba.{Rgba}
+use Rattle.pixels.specs.Pixel.{Picture, widened, pixelAt}
+use Rattle.pixels.specs.declared.colour.Rgba.{Rgba}
 use Rattle.distort.specs.Band.{Frame, Source, colourAt, pixelBytes, rowBytes, rowsBytes}
 use Rattle.distort.specs.Call.{outWidth, frameOf, sourceOf, rowsOf}
 use Rattle.distort.specs.Job.{Image, Given}

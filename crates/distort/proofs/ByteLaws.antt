@@ -6,8 +6,8 @@ use Prim.Native.Nat.{ℕ, zero, suc, _+_, _/_, _<_, zero-le}
 use native.Mathlib.Nat.{mod-lt, zero-lt-suc}
 use lib.Ieee.{Float, binary32, toBits}
 use lib.ListN.{getD}
-use Rattle.sampler.specs.Colour.{luma}
-use Rattle.sampler.specs.declared.colour.Rgba.{Rgba}
+use Rattle.pixels.specs.Colour.{luma}
+use Rattle.pixels.specs.declared.colour.Rgba.{Rgba}
 use Rattle.exact.proofs.Loop.{upTo-keep}
 use Rattle.distort.specs.Band.{colourAt, pixelBytes, rowBytes, rowsBytes}
 use Rattle.distort.specs.Call.{outWidth, frameOf, sourceOf, rowsOf}

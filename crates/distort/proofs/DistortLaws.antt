@@ -18,8 +18,8 @@ use Rattle.window.specs.Window.{window, refusalOf, widthOf, heightOf, xOf, yOf}
 use Rattle.window.specs.declared.window.Placed.{Placed}
 use Rattle.window.specs.declared.window.Placed.the-variants.{Window}
 use Rattle.window.specs.declared.window.Placed.the-variants as Placed
-use Rattle.sampler.specs.Pixel.{Picture}
-use Rattle.sampler.specs.declared.colour.Rgba.{Rgba}
+use Rattle.pixels.specs.Pixel.{Picture}
+use Rattle.pixels.specs.declared.colour.Rgba.{Rgba}
 use Rattle.distort.specs.declared.answer.Answer.{Answer}
 use Rattle.distort.specs.declared.answer.Answer.the-variants.{Refused}
 use Rattle.distort.specs.Call.{sourceOf, answer, left}

@@ -12,8 +12,8 @@ use Rattle.exact.proofs.Loop.{upTo-next, upTo-keep, upTo-join}
 use Rattle.number.specs.Bytes.{sampleAt}
 use Rattle.number.specs.Magnitude.{within}
 use Rattle.sampler.proofs.AtFinite.{limit, within-bounded}
-use Rattle.sampler.specs.Pixel.{widened, pixelAt}
-use Rattle.sampler.specs.Weighted.{Bounded, BoundedBy}
+use Rattle.pixels.specs.Pixel.{widened, pixelAt}
+use Rattle.taps.specs.Weighted.{Bounded, BoundedBy}
 use Rattle.distort.specs.Job.{colourOf}
 use Rattle.distort.specs.Refusal.{large}
 

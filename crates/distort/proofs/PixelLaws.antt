@@ -10,10 +10,10 @@ use lib.Ieee.{Float, binary32, toBits}
 use lib.ListN.{length, set, take, drop, replicate, length-append, length-drop, length-replicate, take-append-drop}
 use lib.Seq.{sets, sets-eq, length-take-le, take-at, drop-at, drop-drop}
 use Rattle.number.specs.Bytes.{putNumber}
-use Rattle.sampler.specs.Colour.{luma}
-use Rattle.sampler.specs.Store.{putSample, putRgb, narrowed, putPixel}
-use Rattle.sampler.specs.declared.colour.Rgba.{Rgba}
-use Rattle.sampler.proofs.StoreLaws.{put-pixel-length}
+use Rattle.pixels.specs.Colour.{luma}
+use Rattle.pixels.specs.Store.{putSample, putRgb, narrowed, putPixel}
+use Rattle.pixels.specs.declared.colour.Rgba.{Rgba}
+use Rattle.pixels.proofs.StoreLaws.{put-pixel-length}
 use Rattle.distort.specs.Band.{pixelBytes}
 
 -- the channels that an output can have

@@ -7,8 +7,8 @@ use Prim.Native.Nat.{ℕ, _+_, _*_, _≤_, _<_, zero-le}
 use native.Mathlib.Nat.{le-refl, le-trans, mul-one, mul-le-mul-left, mul-le-mul-right}
 use native.Mathlib.Omega.{arith}
 use lib.ListN.{length, take, drop, drop-of-length-le}
-use Rattle.sampler.specs.Store.{putPixel}
-use Rattle.sampler.specs.declared.colour.Rgba.{Rgba}
+use Rattle.pixels.specs.Store.{putPixel}
+use Rattle.pixels.specs.declared.colour.Rgba.{Rgba}
 use Rattle.distort.specs.Band.{pixelBytes}
 use Rattle.distort.specs.Joined.{joined, totalled}
 use Rattle.distort.proofs.JoinedLaws.{joined-none, joined-next, totalled-none, totalled-next}

@@ -14,11 +14,11 @@ use lib.ListN.{length, getD, replicate}
 use Rattle.number.specs.Bytes.{numberAt, sampleAt}
 use Rattle.number.proofs.BytesLaws.{put-length}
 use Rattle.number.proofs.FloatBytes.{sample-put, sample-beside}
-use Rattle.sampler.specs.Colour.{luma}
+use Rattle.pixels.specs.Colour.{luma}
 use Rattle.sampler.specs.Finite.{FitsBy}
-use Rattle.sampler.specs.Pixel.{Picture, widened, pixelAt}
-use Rattle.sampler.specs.Store.{putSample, putRgb, narrowed, putPixel}
-use Rattle.sampler.specs.declared.colour.Rgba.{Rgba}
+use Rattle.pixels.specs.Pixel.{Picture, widened, pixelAt}
+use Rattle.pixels.specs.Store.{putSample, putRgb, narrowed, putPixel}
+use Rattle.pixels.specs.declared.colour.Rgba.{Rgba}
 use Rattle.sampler.proofs.InterpolateFinite.{interpolate-fits}
 use Rattle.inverse.specs.declared.point.Point.{Point}
 use Rattle.distort.specs.Band.{Frame, Source, pointAt, shown, colourAt, pixelBytes}

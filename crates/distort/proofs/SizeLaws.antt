@@ -10,7 +10,7 @@ use lib.Dec.{eqb, ltb, lit≤}
 use lib.ListN.{length}
 use borrow.Author.Tests.{eqb-true, eqb-false, ltb-false, not-false}
 use Rattle.arguments.proofs.CountLaws.{neither, either}
-use Rattle.sampler.specs.Pixel.{Picture, Inside}
+use Rattle.pixels.specs.Pixel.{Picture, Inside}
 use Rattle.distort.specs.Job.{Image}
 use Rattle.distort.specs.Refusal.{badSide, badChannels, badSize, badStock}
 

@@ -21,7 +21,7 @@ use Rattle.matrix.specs.Invert.{invertAffine}
 use Rattle.fit.specs.Mapping.{mapping, refused, solvedOr8}
 use Rattle.window.specs.Span.{goodOffset, goodLength, held}
 use Rattle.window.specs.Window.{joined, window}
-use Rattle.sampler.specs.Pixel.{widened, pixelAt}
+use Rattle.pixels.specs.Pixel.{widened, pixelAt}
 use Rattle.distort.specs.Job.{Image, Call, imageOf, callOf}
 use Rattle.distort.specs.Refusal.{fitOf, windowOf, widest, badSide, badChannels, badSize, badStock, badCode, large, badNumber, degenerate, badWindow, badRows, badTray, refusal}
 

@@ -12,8 +12,8 @@ use Rattle.matrix.specs.Matrix.{Vector}
 use Rattle.inverse.specs.Inverse.{inverse}
 use Rattle.inverse.specs.declared.point.Point.{Point}
 use Rattle.sampler.specs.Interpolate.{interpolate}
-use Rattle.sampler.specs.Store.{putPixel}
-use Rattle.sampler.specs.declared.colour.Rgba.{Rgba}
+use Rattle.pixels.specs.Store.{putPixel}
+use Rattle.pixels.specs.declared.colour.Rgba.{Rgba}
 use Rattle.distort.specs.Job.{Image}
 use Rattle.distort.specs.Joined.{joined, totalled}
 

@@ -4,8 +4,8 @@ use mathlib.Core.Bool.{Bool, not, cond}
 use mathlib.Core.List.{List}
 use lib.Dec.{eqb}
 use lib.IntN.{ℤ, pos}
-use Rattle.sampler.specs.Pixel.{pixelAt}
-use Rattle.sampler.specs.declared.colour.Rgba.{Rgba}
+use Rattle.pixels.specs.Pixel.{pixelAt}
+use Rattle.pixels.specs.declared.colour.Rgba.{Rgba}
 
 -- a picture: f32 samples in bytes, row by row
 pub record Image : Type 0 where

@@ -15,8 +15,8 @@ use Rattle.arguments.specs.Refusal as Arguments
 use Rattle.fit.specs.Build.{build}
 use Rattle.fit.specs.declared.mapping.Fitted.{Fitted}
 use Rattle.fit.specs.declared.mapping.Mapping.{Mapping}
-use Rattle.sampler.specs.Colour.{one}
-use Rattle.sampler.specs.declared.colour.Rgba.{Rgba}
+use Rattle.pixels.specs.Colour.{one}
+use Rattle.pixels.specs.declared.colour.Rgba.{Rgba}
 use Rattle.window.specs.Window.{window, refusalOf, widthOf, heightOf}
 use Rattle.window.specs.declared.window.Placed.{Placed}
 use Rattle.distort.specs.Job.{Image, Given, Call, yes, colourOf}

@@ -5,17 +5,17 @@ ghost use mathlib.Core.Bool.{true, cond};
 ghost use Prim.Native.Nat.{_+_, _*_, _≤_, _<_};
 ghost use lib.IntN.{natAbs};
 ghost use lib.ListN.{length};
-ghost use Rattle.sampler.specs.Pixel.{Picture};
-ghost use Rattle.sampler.specs.Store.{putPixel};
+ghost use Rattle.pixels.specs.Pixel.{Picture};
+ghost use Rattle.pixels.specs.Store.{putPixel};
 ghost use Rattle.inverse.specs.Point as Points;
 ghost use Rattle.distort.specs.Band as Band;
 ghost use Rattle.distort.specs.Band.{colourAt, matteAt};
 use inverse::pixel::asked;
 use inverse::point::Point;
 use inverse::source::inverse;
-use sampler::colour::Rgba;
+use pixels::colour::Rgba;
+use pixels::store::put_pixel;
 use sampler::interpolate::interpolate;
-use sampler::store::put_pixel;
 
 // The colour at a source point, whose mark says that its coordinates can be used.
 fn shown(

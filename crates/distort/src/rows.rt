@@ -6,10 +6,10 @@ ghost use mathlib.Core.List.{_++_};
 ghost use Prim.Native.Nat.{_+_, _*_, _≤_};
 ghost use lib.IntN.{natAbs};
 ghost use lib.ListN.{length, take, drop};
-ghost use Rattle.sampler.specs.Pixel.{Picture};
+ghost use Rattle.pixels.specs.Pixel.{Picture};
 ghost use Rattle.distort.specs.Band.{rowBytes, rowsBytes, rowMatte, rowsMatte};
 use crate::pixel::put_one;
-use sampler::colour::Rgba;
+use pixels::colour::Rgba;
 
 // Row j of a window of width `span`, put `depth` samples a pixel from the band's pixel numbered `place` on; and its matte pixels.
 fn put_row(

@@ -4,7 +4,7 @@ ghost use mathlib.Core.Bool.{not};
 ghost use Prim.Native.Nat.{_+_, _*_, _≤_};
 ghost use lib.Dec.{eqb, ltb};
 ghost use Rattle.distort.specs.Refusal as Refusal;
-use sampler::colour::Rgba;
+use pixels::colour::Rgba;
 
 // The code of the policy `Transparent`.
 const TRANSPARENT: u64 = 5;

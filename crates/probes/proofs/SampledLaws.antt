@@ -11,8 +11,8 @@ use lib.Ieee.{binary64, ofBits}
 use borrow.Author.Tests.{eqb-true, eqb-false, ltb-false, not-false}
 use Rattle.number_probes.specs.Size.{wrongSize}
 use Rattle.probes.specs.Sampled.{wrongChannels, wrongPicture, wrongCodes, large, beyond, outside}
-use Rattle.sampler.specs.Cell.{reach, Reached}
-use Rattle.sampler.specs.Pixel.{Picture, Inside}
+use Rattle.taps.specs.Cell.{reach, Reached}
+use Rattle.pixels.specs.Pixel.{Picture, Inside}
 use Rattle.number.specs.Magnitude.{within}
 
 or-false : (a b : Bool) → (a || b) ≡ false → (a ≡ false) × (b ≡ false)

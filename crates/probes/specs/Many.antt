@@ -7,8 +7,8 @@ use lib.ListN.{length}
 use Rattle.exact.specs.Loop.{upTo}
 use Rattle.number.specs.Bytes.{u64At}
 use Rattle.probes.specs.Sampled.{beyond, outside, putColour}
-use Rattle.sampler.specs.Pixel.{pixelAt}
-use Rattle.sampler.specs.declared.colour.Rgba.{Rgba}
+use Rattle.pixels.specs.Pixel.{pixelAt}
+use Rattle.pixels.specs.declared.colour.Rgba.{Rgba}
 
 -- the bits of the coordinates of the point numbered k
 abbrev pub xOf : List ℕ → ℕ → ℕ

@@ -9,14 +9,14 @@ use Rattle.exact.specs.Loop.{upTo}
 use Rattle.number.specs.Bytes.{sampleAt, putF32}
 use Rattle.number.specs.Magnitude.{within}
 use Rattle.number_probes.specs.Size.{wrongSize}
-use Rattle.sampler.specs.Cell.{reach}
-use Rattle.sampler.specs.Colour.{zero, half, one}
-use Rattle.sampler.specs.Cubic.{cubicWeights}
+use Rattle.taps.specs.Cell.{reach}
+use Rattle.pixels.specs.Colour.{zero, half, one}
+use Rattle.cubic.specs.Cubic.{cubicWeights}
 use Rattle.sampler.specs.Interpolate.{interpolate}
-use Rattle.sampler.specs.Pixel.{pixelAt}
-use Rattle.sampler.specs.Store.{putPixel}
-use Rattle.sampler.specs.Weighted.{weightAt}
-use Rattle.sampler.specs.declared.colour.Rgba.{Rgba}
+use Rattle.pixels.specs.Pixel.{pixelAt}
+use Rattle.pixels.specs.Store.{putPixel}
+use Rattle.taps.specs.Weighted.{weightAt}
+use Rattle.pixels.specs.declared.colour.Rgba.{Rgba}
 
 -- ---- what is outside the domain
 -- neither 1, 3 nor 4

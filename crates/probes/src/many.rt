@@ -4,13 +4,13 @@ ghost use Prim.Native.Nat.{_+_, _*_, _/_, _≤_};
 ghost use lib.ListN.{length};
 ghost use Rattle.exact.specs.Loop.{upTo};
 ghost use Rattle.probes.specs.Many.{putSampled, putSamples, probeSamples};
-ghost use Rattle.sampler.specs.Pixel.{Picture};
+ghost use Rattle.pixels.specs.Pixel.{Picture};
 use crate::sampled::beyond;
 use crate::sampled::outside;
 use crate::sampled::put_colour;
 use number::bytes::u64_at;
-use sampler::colour::Rgba;
-use sampler::pixel::pixel;
+use pixels::colour::Rgba;
+use pixels::pixel::pixel;
 
 // The colour at the point numbered k, as the pixel numbered k. A point beyond the domain is passed over.
 fn put_sampled(

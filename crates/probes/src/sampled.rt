@@ -5,19 +5,19 @@ ghost use Prim.Native.Nat.{_+_, _*_, _≤_};
 ghost use lib.ListN.{length};
 ghost use lib.Ieee.{binary64, ofBits};
 ghost use Rattle.probes.specs.Sampled.{wrongChannels, wrongPicture, wrongCodes, large, beyond, outside, noFraction, putColour, putWeights, probeInterpolate, probeCubic};
-ghost use Rattle.sampler.specs.Cell.{Reached};
-ghost use Rattle.sampler.specs.Pixel.{Picture};
+ghost use Rattle.taps.specs.Cell.{Reached};
+ghost use Rattle.pixels.specs.Pixel.{Picture};
+use cubic::cubic::cubic_weights;
 use number::bytes::f32_within;
 use number::bytes::put_f32;
 use number::pattern::f32_of_bits;
 use number::pattern::f64_bits_within;
 use number::pattern::f64_of_bits;
 use number_probes::size::wrong_size;
-use sampler::colour::Rgba;
-use sampler::cubic::cubic_weights;
+use pixels::colour::Rgba;
+use pixels::pixel::pixel;
+use pixels::store::put_pixel;
 use sampler::interpolate::interpolate;
-use sampler::pixel::pixel;
-use sampler::store::put_pixel;
 
 fn wrong_channels(n: u64) -> bool
     ensures { λ r. ⌜ r ≡ wrongChannels n ⌝ }

@@ -20,15 +20,15 @@ use Rattle.exact.proofs.Signed.{le-value}
 use Rattle.number.specs.Bytes.{sampleAt}
 use Rattle.number.specs.Magnitude.{abs, within}
 use Rattle.number.proofs.MagnitudeLaws.{abs-limited}
-use Rattle.sampler.specs.At.{at}
-use Rattle.sampler.specs.Colour.{zero, half, one, grey}
+use Rattle.pixels.specs.At.{at}
+use Rattle.pixels.specs.Colour.{zero, half, one, grey}
 use Rattle.sampler.specs.Finite.{BoundedPicture, FitsBy}
-use Rattle.sampler.specs.Pixel.{Picture, widened, pixelAt}
-use Rattle.sampler.specs.Weighted.{Bounded, BoundedBy}
-use Rattle.sampler.specs.declared.colour.Rgba.{Rgba}
-use Rattle.sampler.proofs.AtLaws.{at-keep}
-use Rattle.sampler.proofs.PixelCode.{number-lt}
-use Rattle.sampler.proofs.Sizes.{abs-magnitude}
+use Rattle.pixels.specs.Pixel.{Picture, widened, pixelAt}
+use Rattle.taps.specs.Weighted.{Bounded, BoundedBy}
+use Rattle.pixels.specs.declared.colour.Rgba.{Rgba}
+use Rattle.pixels.proofs.AtLaws.{at-keep}
+use Rattle.pixels.proofs.PixelCode.{number-lt}
+use Rattle.cubic.proofs.Sizes.{abs-magnitude}
 
 -- ---- numbers of bounded magnitude
 -- the limit of a sample, 65,536

@@ -14,18 +14,18 @@ use lib.Signed.{mag}
 use lib.Ieee.{ofBits, fits}
 use Rattle.exact.specs.Weighted.{Unit32}
 use Rattle.number.specs.Bytes.{sampleAt, twosComplement}
-use Rattle.sampler.specs.At.{at}
-use Rattle.sampler.specs.Colour.{zero, half, one}
-use Rattle.sampler.specs.Index.{within, tile, parity}
-use Rattle.sampler.specs.Named.{Policy, Edge, Background, Black, White, Gray, Transparent, Tile, Mirror, HorizontalTile, VerticalTile, HorizontalTileEdge, VerticalTileEdge, CheckerTile, Random, policy, picked, outside, named}
+use Rattle.pixels.specs.At.{at}
+use Rattle.pixels.specs.Colour.{zero, half, one}
+use Rattle.policies.specs.Index.{within, tile, parity}
+use Rattle.policies.specs.Named.{Policy, Edge, Background, Black, White, Gray, Transparent, Tile, Mirror, HorizontalTile, VerticalTile, HorizontalTileEdge, VerticalTileEdge, CheckerTile, Random, policy, picked, outside, named}
 use Rattle.sampler.specs.Opaque.{OpaquePicture, OpaquePlace}
-use Rattle.sampler.specs.Pixel.{widened, pixelAt}
-use Rattle.sampler.specs.Weighted.{Opaque}
-use Rattle.sampler.specs.declared.colour.Rgba.{Rgba}
-use Rattle.sampler.specs.declared.named.Tap.{Tap}
-use Rattle.sampler.specs.declared.named.Tap.the-variants as Tap
-use Rattle.sampler.proofs.AtLaws.{Solid, at-keep}
-use Rattle.sampler.proofs.PixelCode.{number-lt}
+use Rattle.pixels.specs.Pixel.{widened, pixelAt}
+use Rattle.taps.specs.Weighted.{Opaque}
+use Rattle.pixels.specs.declared.colour.Rgba.{Rgba}
+use Rattle.policies.specs.declared.named.Tap.{Tap}
+use Rattle.policies.specs.declared.named.Tap.the-variants as Tap
+use Rattle.pixels.proofs.AtLaws.{Solid, at-keep}
+use Rattle.pixels.proofs.PixelCode.{number-lt}
 
 -- ---- what is named is not the clear colour
 either : (t : Bool) (p q : Tap) → Solid p → Solid q → Solid (cond t p q)

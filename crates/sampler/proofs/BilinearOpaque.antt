@@ -14,20 +14,20 @@ use Rattle.exact.specs.Weighted.{w00, w10, w01, w11, colour, alpha, Unit32, Sam
 use Rattle.exact.proofs.Weighted.{alpha-one}
 use Rattle.exact.proofs.Warp.{warp-demand}
 use Rattle.number.specs.Floor.{floorI64}
-use Rattle.sampler.specs.At.{at}
-use Rattle.sampler.specs.Cell.{Reached, fraction, cell}
-use Rattle.sampler.specs.Colour.{one}
+use Rattle.pixels.specs.At.{at}
+use Rattle.taps.specs.Cell.{Reached, fraction, cell}
+use Rattle.pixels.specs.Colour.{one}
 use Rattle.sampler.specs.Interpolate.{several, interpolate}
-use Rattle.sampler.specs.Interpolation.{Bilinear, interpolation}
+use Rattle.taps.specs.Interpolation.{Bilinear, interpolation}
 use Rattle.sampler.specs.Opaque.{OpaquePlace, Exact, UnitExact, NearExact, NearSample}
-use Rattle.sampler.specs.Taps.{Plane, tap, taps}
-use Rattle.sampler.specs.Weighted.{mean, weighted, Opaque}
-use Rattle.sampler.specs.Weights.{corners, weights}
-use Rattle.sampler.specs.declared.colour.Rgba.{Rgba}
+use Rattle.taps.specs.Taps.{Plane, tap, taps}
+use Rattle.taps.specs.Weighted.{mean, weighted, Opaque}
+use Rattle.taps.specs.Weights.{corners, weights}
+use Rattle.pixels.specs.declared.colour.Rgba.{Rgba}
 use Rattle.sampler.proofs.AtOpaque.{at-opaque}
-use Rattle.sampler.proofs.CellFloor.{cell-law, less-half-reached}
-use Rattle.sampler.proofs.TapsLaws.{four-corners}
-use Rattle.sampler.proofs.WeightedOpaque.{four, summed-four, opaque-four}
+use Rattle.taps.proofs.CellFloor.{cell-law, less-half-reached}
+use Rattle.taps.proofs.TapsLaws.{four-corners}
+use Rattle.taps.proofs.WeightedOpaque.{four, summed-four, opaque-four}
 
 -- ---- the four taps by name
 module _ (plane : Plane) (x y : Float) where

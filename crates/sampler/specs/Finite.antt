@@ -5,9 +5,9 @@ use lib.Dec.{T}
 use lib.Ieee.{binary32, fits}
 use Rattle.exact.specs.Fraction.{frac}
 use Rattle.number.specs.Bytes.{sampleAt}
-use Rattle.sampler.specs.Pixel.{Picture}
-use Rattle.sampler.specs.Weighted.{Bounded, BoundedBy}
-use Rattle.sampler.specs.declared.colour.Rgba.{Rgba}
+use Rattle.pixels.specs.Pixel.{Picture}
+use Rattle.taps.specs.Weighted.{Bounded, BoundedBy}
+use Rattle.pixels.specs.declared.colour.Rgba.{Rgba}
 
 pub record BoundedPicture (bytes : List ℕ) (width height channels : ℕ) : Type 0 where
   pub picture : Picture bytes width height channels

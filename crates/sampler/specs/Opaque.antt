@@ -9,12 +9,12 @@ use Rattle.exact.specs.Fraction.{Fraction, Unit01}
 use Rattle.exact.specs.Warp.{exactSample}
 use Rattle.exact.specs.Weighted.{Unit32, Sample}
 use Rattle.number.specs.Bytes.{sampleAt}
-use Rattle.sampler.specs.Colour.{one}
-use Rattle.sampler.specs.Named.{Transparent, policy}
-use Rattle.sampler.specs.Pixel.{Picture}
-use Rattle.sampler.specs.Taps.{Plane}
-use Rattle.sampler.specs.Weighted.{Opaque}
-use Rattle.sampler.specs.declared.colour.Rgba.{Rgba}
+use Rattle.pixels.specs.Colour.{one}
+use Rattle.policies.specs.Named.{Transparent, policy}
+use Rattle.pixels.specs.Pixel.{Picture}
+use Rattle.taps.specs.Taps.{Plane}
+use Rattle.taps.specs.Weighted.{Opaque}
+use Rattle.pixels.specs.declared.colour.Rgba.{Rgba}
 
 -- three channels, or four with every alpha 1
 pub record OpaquePicture (bytes : List ℕ) (width height channels : ℕ) : Type 0 where

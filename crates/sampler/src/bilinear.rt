@@ -4,23 +4,23 @@ ghost use mathlib.Core.Path.{_≡_};
 ghost use mathlib.Core.List.{[], _∷_};
 ghost use Prim.Native.Nat.{_+_, _≤_, _<_};
 ghost use lib.Signed.{mag};
-ghost use Rattle.sampler.specs.At.{at};
-ghost use Rattle.sampler.specs.Cell.{Reached};
+ghost use Rattle.pixels.specs.At.{at};
+ghost use Rattle.taps.specs.Cell.{Reached};
 ghost use Rattle.sampler.specs.Interpolate as Interpolate;
-ghost use Rattle.sampler.specs.Interpolation.{Bilinear};
-ghost use Rattle.sampler.specs.Pixel.{Picture, pixelAt};
-ghost use Rattle.sampler.specs.Taps.{taps};
-ghost use Rattle.sampler.specs.Weighted.{weighted};
-ghost use Rattle.sampler.specs.Weights.{corners, weights};
-use crate::cell::first;
-use crate::cell::fraction;
-use crate::colour::Rgba;
-use crate::pixel::pixel;
-use crate::taps::tap;
-use crate::weighted::added;
-use crate::weighted::mean;
-use crate::weighted::nothing;
+ghost use Rattle.taps.specs.Interpolation.{Bilinear};
+ghost use Rattle.pixels.specs.Pixel.{Picture, pixelAt};
+ghost use Rattle.taps.specs.Taps.{taps};
+ghost use Rattle.taps.specs.Weighted.{weighted};
+ghost use Rattle.taps.specs.Weights.{corners, weights};
 use number::pattern::bits_of_i64;
+use pixels::colour::Rgba;
+use pixels::pixel::pixel;
+use taps::cell::first;
+use taps::cell::fraction;
+use taps::taps::tap;
+use taps::weighted::added;
+use taps::weighted::mean;
+use taps::weighted::nothing;
 
 // The weighted mean of the four taps of `Bilinear`.
 fn blended(a: Rgba, b: Rgba, c: Rgba, d: Rgba, tx: f32, ty: f32) -> Rgba

@@ -1,16 +1,16 @@
 // The colour at a point of index space, by the interpolation's code: one tap alone, the weighted mean of several, or the background. Assumes
 // that the bytes are a picture's, and the point's coordinates at most 2^30 + 1 in magnitude.
 ghost use mathlib.Core.Path.{_≡_};
-ghost use Rattle.sampler.specs.At.{at};
-ghost use Rattle.sampler.specs.Cell.{Reached, cell};
+ghost use Rattle.pixels.specs.At.{at};
+ghost use Rattle.taps.specs.Cell.{Reached, cell};
 ghost use Rattle.sampler.specs.Interpolate as Interpolate;
-ghost use Rattle.sampler.specs.Interpolation.{interpolation};
-ghost use Rattle.sampler.specs.Pixel.{Picture};
-use crate::at::at;
+ghost use Rattle.taps.specs.Interpolation.{interpolation};
+ghost use Rattle.pixels.specs.Pixel.{Picture};
 use crate::bilinear::bilinear;
-use crate::cell::first;
-use crate::colour::Rgba;
 use crate::square::several;
+use pixels::at::at;
+use pixels::colour::Rgba;
+use taps::cell::first;
 
 // One tap alone.
 fn single(

@@ -3,23 +3,23 @@
 ghost use mathlib.Core.Path.{_≡_};
 ghost use Prim.Native.Nat.{_*_, _≤_, _<_};
 ghost use lib.Signed.{mag};
-ghost use Rattle.sampler.specs.At.{at};
-ghost use Rattle.sampler.specs.Cell.{Reached};
+ghost use Rattle.pixels.specs.At.{at};
+ghost use Rattle.taps.specs.Cell.{Reached};
 ghost use Rattle.sampler.specs.Interpolate as Interpolate;
-ghost use Rattle.sampler.specs.Interpolation.{interpolation};
-ghost use Rattle.sampler.specs.Pixel.{Picture};
-ghost use Rattle.sampler.specs.Taps.{taps};
-ghost use Rattle.sampler.specs.Weighted.{lined, weighted};
-use crate::cell::first;
-use crate::cell::fraction;
-use crate::colour::Rgba;
-use crate::taps::nearby;
-use crate::taps::side;
-use crate::weighted::Sums;
-use crate::weighted::added;
-use crate::weighted::mean;
-use crate::weighted::nothing;
-use crate::weights::weights;
+ghost use Rattle.taps.specs.Interpolation.{interpolation};
+ghost use Rattle.pixels.specs.Pixel.{Picture};
+ghost use Rattle.taps.specs.Taps.{taps};
+ghost use Rattle.taps.specs.Weighted.{lined, weighted};
+use pixels::colour::Rgba;
+use taps::cell::first;
+use taps::cell::fraction;
+use taps::taps::nearby;
+use taps::taps::side;
+use taps::weighted::Sums;
+use taps::weighted::added;
+use taps::weighted::mean;
+use taps::weighted::nothing;
+use taps::weights::weights;
 
 // The sums with a row of taps added, the row numbered j of n by n.
 fn line(

@@ -1,7 +1,7 @@
 -- `sampler::bilinear::anywhere` meets its contract: the four taps are those of the list. Assumes nothing.
 use mir.Facts.{toZ-ofZ}
-use Rattle.sampler.proofs.SignedCode.{small}
-use Rattle.sampler.proofs.TapsLaws.{four-corners}
+use Rattle.taps.proofs.SignedCode.{small}
+use Rattle.taps.proofs.TapsLaws.{four-corners}
 use borrow.Author.Needs.{needs}
 use Rattle.sampler.proofs.bilinear.anywhere.Statement.{statement}
 use Rattle.sampler.proofs.bilinear.anywhere.Tie as tie

@@ -4,9 +4,9 @@ use native.Mathlib.Omega.{arith}
 use mir.Facts.{toZ-ofZ}
 use borrow.Author.Tests.{ltb-true}
 use Prim.Native.Nat.{ℕ, _+_, _-_, _<_}
-use Rattle.sampler.proofs.IndexCode.{argument, bits-before}
-use Rattle.sampler.proofs.SignedCode.{small}
-use Rattle.sampler.proofs.TapsLaws.{inside-corners}
+use Rattle.policies.proofs.IndexCode.{argument, bits-before}
+use Rattle.taps.proofs.SignedCode.{small}
+use Rattle.taps.proofs.TapsLaws.{inside-corners}
 use borrow.Author.Needs.{needs}
 use Rattle.sampler.proofs.bilinear.around.Statement.{statement}
 use Rattle.sampler.proofs.bilinear.around.Tie as tie

@@ -1,8 +1,9 @@
 -- `sampler::interpolate::interpolate` meets its contract: each way serves its own codes, and the background is left for the others. Assumes nothing.
 use mathlib.Core.Path.{sym, _∙_}
 use Rattle.sampler.specs.Interpolate.{interpolate}
-use Rattle.sampler.specs.Interpolation.{interpolation}
-use Rattle.sampler.proofs.InterpolationCode.{single-code, several-code, background-code}
+use Rattle.taps.specs.Interpolation.{interpolation}
+use Rattle.taps.proofs.InterpolationCode.{background-code}
+use Rattle.sampler.proofs.InterpolateCode.{single-code, several-code}
 use borrow.Author.Needs.{needs}
 use Rattle.sampler.proofs.interpolate.interpolate.Statement.{statement}
 use Rattle.sampler.proofs.interpolate.interpolate.Tie as tie

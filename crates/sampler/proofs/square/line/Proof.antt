@@ -6,9 +6,9 @@ use mir.Syntax.{w64}
 use mir.Val.{toZ}
 use mir.Facts.{toZ-ofZ}
 use Rattle.exact.specs.Loop.{upTo}
-use Rattle.sampler.specs.At.{at}
-use Rattle.sampler.proofs.SignedCode.{small}
-use Rattle.sampler.proofs.TapsLaws.{number-small, step, started, grown, row-done}
+use Rattle.pixels.specs.At.{at}
+use Rattle.taps.proofs.SignedCode.{small}
+use Rattle.taps.proofs.TapsLaws.{number-small, step, started, grown, row-done}
 use borrow.Author.Needs.{needs}
 use Rattle.sampler.proofs.square.line.Statement.{statement}
 use Rattle.sampler.proofs.square.line.Tie as tie

@@ -4,11 +4,11 @@ use Prim.Native.Nat.{_-_, _*_, _≤_}
 use mir.Syntax.{w64}
 use mir.Val.{toZ}
 use mir.Facts.{toZ-ofZ}
-use Rattle.sampler.specs.At.{at}
-use Rattle.sampler.specs.Taps.{taps}
-use Rattle.sampler.specs.Weighted.{summed}
-use Rattle.sampler.proofs.SignedCode.{small}
-use Rattle.sampler.proofs.TapsLaws.{none-lined, lined-next, finished}
+use Rattle.pixels.specs.At.{at}
+use Rattle.taps.specs.Taps.{taps}
+use Rattle.taps.specs.Weighted.{summed}
+use Rattle.taps.proofs.SignedCode.{small}
+use Rattle.taps.proofs.TapsLaws.{none-lined, lined-next, finished}
 use borrow.Author.Needs.{needs}
 use Rattle.sampler.proofs.square.square.Statement.{statement}
 use Rattle.sampler.proofs.square.square.Tie as tie

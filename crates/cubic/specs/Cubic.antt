@@ -1,0 +1,78 @@
+-- The cubic kernels: the Rust's `cubic_weights`, rounded once per operation in the order written. Assumes nothing.
+use mathlib.Core.Bool.{cond}
+use mathlib.Core.List.{List, [], _∷_}
+use lib.Ieee.{Float, binary32, neg, ofBits, lt}
+use Rattle.exact.specs.Single.{_⊕_, _⊖_, _⊗_, _⊘_}
+use Rattle.number.specs.Magnitude.{abs}
+
+-- ---- the constants
+abbrev pub zero : Float
+zero = ofBits binary32 0x0000_0000  -- 0.0
+
+abbrev pub half : Float
+half = ofBits binary32 0x3f00_0000  -- 0.5
+
+abbrev pub one : Float
+one = ofBits binary32 0x3f80_0000  -- 1.0
+
+abbrev pub two : Float
+two = ofBits binary32 0x4000_0000  -- 2.0
+
+abbrev pub six : Float
+six = ofBits binary32 0x40c0_0000  -- 6.0
+
+abbrev pub eight : Float
+eight = ofBits binary32 0x4100_0000  -- 8.0
+
+abbrev pub nine : Float
+nine = ofBits binary32 0x4110_0000  -- 9.0
+
+abbrev pub twelve : Float
+twelve = ofBits binary32 0x4140_0000  -- 12.0
+
+abbrev pub eighteen : Float
+eighteen = ofBits binary32 0x4190_0000  -- 18.0
+
+abbrev pub twentyFour : Float
+twentyFour = ofBits binary32 0x41c0_0000  -- 24.0
+
+abbrev pub thirty : Float
+thirty = ofBits binary32 0x41f0_0000  -- 30.0
+
+abbrev pub fortyEight : Float
+fortyEight = ofBits binary32 0x4240_0000  -- 48.0
+
+-- ---- the two pieces, of a magnitude ax
+-- a * ax * ax * ax + b * ax * ax + d
+abbrev pub withoutLinear : Float → Float → Float → Float → Float
+withoutLinear a b d ax = a ⊗ ax ⊗ ax ⊗ ax ⊕ b ⊗ ax ⊗ ax ⊕ d
+
+-- a * ax * ax * ax + b * ax * ax + c * ax + d
+abbrev pub withLinear : Float → Float → Float → Float → Float → Float
+withLinear a b c d ax = a ⊗ ax ⊗ ax ⊗ ax ⊕ b ⊗ ax ⊗ ax ⊕ c ⊗ ax ⊕ d
+
+-- below 1
+abbrev pub nearPiece : Float → Float → Float → Float
+nearPiece b c ax = withoutLinear (twelve ⊖ nine ⊗ b ⊖ six ⊗ c) (neg eighteen ⊕ twelve ⊗ b ⊕ six ⊗ c) (six ⊖ two ⊗ b) ax
+
+-- from 1 to 2
+abbrev pub farPiece : Float → Float → Float → Float
+farPiece b c ax = withLinear (neg b ⊖ six ⊗ c) (six ⊗ b ⊕ thirty ⊗ c) (neg twelve ⊗ b ⊖ fortyEight ⊗ c) (eight ⊗ b ⊕ twentyFour ⊗ c) ax
+
+unfoldable pub pieces : Float → Float → Float → Float
+pieces b c ax = cond (lt ax one) (nearPiece b c ax) (cond (lt ax two) (farPiece b c ax) zero)
+
+-- the kernel, six times too large in its pieces
+abbrev pub kernel : Float → Float → Float → Float
+kernel b c x = pieces b c (abs x) ⊘ six
+
+-- the weights of the four taps around a point, t being its fraction between the second and the third
+abbrev pub cubicWeights : Float → Float → Float → List Float
+cubicWeights t b c = kernel b c (t ⊕ one) ∷ kernel b c t ∷ kernel b c (t ⊖ one) ∷ kernel b c (t ⊖ two) ∷ []
+
+-- ---- the two kernels
+abbrev pub catrom : Float → List Float
+catrom t = cubicWeights t zero half
+
+abbrev pub spline : Float → List Float
+spline t = cubicWeights t one zero

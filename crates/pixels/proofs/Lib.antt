@@ -1,0 +1,4 @@
+-- The laws of pixels, a file for each subject.
+pub mod AtLaws
+pub mod PixelCode
+pub mod StoreLaws

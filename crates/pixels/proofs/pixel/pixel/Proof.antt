@@ -1,0 +1,25 @@
+-- `sampler::pixel::pixel` meets its contract: the numbers of a pixel's samples are small, and lie inside. Assumes nothing.
+use native.Mathlib.Omega.{arith}
+use Rattle.pixels.specs.Pixel.{pixelAt}
+use Rattle.pixels.proofs.PixelCode.{room, number-small, sample-small}
+use Rattle.pixels.proofs.pixel.pixel.Statement.{statement}
+use Rattle.pixels.proofs.pixel.pixel.Tie as tie
+
+mul-widened : tie.Need-mul-widened
+mul-widened c = omega (arith, number-small _ _ _ _ _ (c .before .pre))
+
+add-widened : tie.Need-add-widened
+add-widened c = omega (arith, number-small _ _ _ _ _ (c .before .pre))
+
+mul-widened-2 : tie.Need-mul-widened-2
+mul-widened-2 c = omega (arith, sample-small _ _ _ _ _ (c .before .pre))
+
+widened-requires : tie.Need-widened-requires
+widened-requires c κs = (c .before .pre .picture .channels-least, room _ _ _ _ _ (c .before .pre))
+
+returns : tie.Need-returns
+unfolding pixelAt
+returns c = c .widened .ensures
+
+pub pixel-spec : {M : Type 1} → statement M
+pixel-spec = tie.close (tie.spec mul-widened add-widened mul-widened-2 widened-requires returns)

@@ -1,0 +1,38 @@
+-- A picture in bytes: f32 samples, four bytes each, row by row, 1 to 4 to a pixel; and its pixels as colours. Assumes nothing.
+use Prim.Native.Nat.{ℕ, _+_, _*_, _≤_, _<_}
+use mathlib.Core.Path.{_≡_}
+use mathlib.Core.Bool.{cond}
+use mathlib.Core.List.{List}
+use lib.Dec.{eqb}
+use lib.ListN.{length}
+use Rattle.number.specs.Bytes.{sampleAt}
+use Rattle.pixels.specs.Colour.{one, grey}
+use Rattle.pixels.specs.declared.colour.Rgba.{Rgba}
+pub use Rattle.policies.specs.Named.{Sizes}
+
+-- the bytes are those of a picture of these sizes
+pub record Picture (bytes : List ℕ) (width height channels : ℕ) : Type 0 where
+  pub sizes : Sizes width height
+  pub channels-least : 0 < channels
+  pub channels-most : channels ≤ 4
+  pub whole : length bytes ≡ width * height * channels * 4
+
+-- column x, row y lies in the bytes of a picture, whatever its height
+pub record Inside (bytes : List ℕ) (width channels x y : ℕ) : Type 0 where
+  pub height : ℕ
+  pub picture : Picture bytes width height channels
+  pub column : x < width
+  pub row : y < height
+
+-- the Rust's `to_rgba`, of the pixel whose first sample is numbered k: grey three times, and alpha 1 where there is none
+unfoldable pub widened : List ℕ → ℕ → ℕ → Rgba
+widened bytes channels k =
+    cond (eqb channels 4)
+    (record { r = sampleAt bytes k; g = sampleAt bytes (k + 1); b = sampleAt bytes (k + 2); a = sampleAt bytes (k + 3) })
+    (cond (eqb channels 3)
+    (record { r = sampleAt bytes k; g = sampleAt bytes (k + 1); b = sampleAt bytes (k + 2); a = one })
+    (grey (sampleAt bytes k) one))
+
+-- the colour at column x, row y
+unfoldable pub pixelAt : List ℕ → ℕ → ℕ → ℕ → ℕ → Rgba
+pixelAt bytes width channels x y = widened bytes channels ((y * width + x) * channels)

@@ -1,0 +1,6 @@
+// Pixels in bytes: the colour at an index, virtual outside, and a colour stored in a band. Pictures are lent bytes, little-endian f32 samples row by
+// row, and nothing is converted up front.
+pub mod at;
+pub mod colour;
+pub mod pixel;
+pub mod store;

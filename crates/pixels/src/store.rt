@@ -1,0 +1,52 @@
+// A colour stored as a pixel of a band. Assumes that the band has room for the pixel.
+ghost use mathlib.Core.Path.{_≡_};
+ghost use Prim.Native.Nat.{_+_, _*_, _≤_, _<_};
+ghost use lib.ListN.{length};
+ghost use Rattle.pixels.specs.Store as Store;
+ghost use Rattle.pixels.specs.Store.{putSample, putRgb, putPixel};
+use crate::colour::Rgba;
+use crate::colour::luma;
+use number::bytes::put_f32;
+
+// The sample numbered k.
+fn put_sample(band: &mut [u8], k: u64, v: f32)
+    requires { ⌜ (k + 1) * 4 ≤ length (now band) ⌝ }
+    ensures { λ _. ⌜ now (band .exit) ≡ putSample (now (band .entry)) k v ⌝ }
+{
+    put_f32(band, 4 * k as usize, v);
+}
+
+// The colour without its alpha, from the sample numbered k on.
+fn put_rgb(band: &mut [u8], k: u64, c: Rgba)
+    requires { ⌜ (k + 3) * 4 ≤ length (now band) ⌝ }
+    ensures { λ _. ⌜ now (band .exit) ≡ putRgb (now (band .entry)) k c ⌝ }
+{
+    put_sample(band, k, c.r);
+    put_sample(band, k + 1, c.g);
+    put_sample(band, k + 2, c.b);
+}
+
+// From the sample numbered k on, as many samples as there are channels.
+fn narrowed(band: &mut [u8], channels: u64, k: u64, c: Rgba)
+    requires { ⌜ (0 < channels) × ((k + channels) * 4 ≤ length (now band)) ⌝ }
+    ensures { λ _. ⌜ now (band .exit) ≡ Store.narrowed (now (band .entry)) channels k c ⌝ }
+{
+    if channels == 4 {
+        put_rgb(band, k, c);
+        put_sample(band, k + 3, c.a);
+        return;
+    }
+    if channels == 3 {
+        put_rgb(band, k, c);
+        return;
+    }
+    put_sample(band, k, luma(c));
+}
+
+// The pixel numbered p.
+pub fn put_pixel(band: &mut [u8], channels: u64, p: u64, c: Rgba)
+    requires { ⌜ (0 < channels) × ((p * channels + channels) * 4 ≤ length (now band)) ⌝ }
+    ensures { λ _. ⌜ now (band .exit) ≡ putPixel (now (band .entry)) channels p c ⌝ }
+{
+    narrowed(band, channels, p * channels, c);
+}

@@ -1,0 +1,4 @@
+// The fourteen virtual pixel policies: which pixel of a picture, or which colour, each names at an index. No picture is read here.
+pub mod index;
+pub mod named;
+pub mod random;

@@ -1,0 +1,132 @@
+// Which pixel of the picture, or which colour, a policy names at an index, for every i64: a function for each rule. The
+// rules take an index as its 64 bits. A picture has 1 to 4,096 columns and rows.
+ghost use mathlib.Core.Path.{_≡_};
+ghost use Prim.Native.Nat.{_<_};
+ghost use Rattle.policies.specs.Index.{signed};
+ghost use Rattle.policies.specs.Named as Named;
+ghost use Rattle.policies.specs.Named.{Sizes, Policy, outside};
+use crate::index::clamped;
+use crate::index::mirror;
+use crate::index::parity;
+use crate::index::tile;
+use crate::random::mix;
+use number::pattern::bits_of_i64;
+
+// A pixel by its column and row, or a colour by its kind.
+pub enum Tap {
+    Pixel(u64, u64),
+    Background,
+    Black,
+    White,
+    Gray,
+    Transparent,
+}
+
+fn edge(w: u64, h: u64, x: u64, y: u64) -> Tap
+    requires { ⌜ Sizes w h ⌝ }
+    ensures { λ r. ⌜ r ≡ outside Policy.Edge w h (signed x) (signed y) ⌝ }
+{
+    Tap::Pixel(clamped(x, w), clamped(y, h))
+}
+
+fn tiled(w: u64, h: u64, x: u64, y: u64) -> Tap
+    requires { ⌜ Sizes w h ⌝ }
+    ensures { λ r. ⌜ r ≡ outside Policy.Tile w h (signed x) (signed y) ⌝ }
+{
+    Tap::Pixel(tile(x, w), tile(y, h))
+}
+
+fn mirrored(w: u64, h: u64, x: u64, y: u64) -> Tap
+    requires { ⌜ Sizes w h ⌝ }
+    ensures { λ r. ⌜ r ≡ outside Policy.Mirror w h (signed x) (signed y) ⌝ }
+{
+    Tap::Pixel(mirror(x, w), mirror(y, h))
+}
+
+fn horizontal_tile(w: u64, h: u64, x: u64, y: u64) -> Tap
+    requires { ⌜ Sizes w h ⌝ }
+    ensures { λ r. ⌜ r ≡ outside Policy.HorizontalTile w h (signed x) (signed y) ⌝ }
+{
+    if y < h {
+        return Tap::Pixel(tile(x, w), y);
+    }
+    Tap::Background
+}
+
+fn vertical_tile(w: u64, h: u64, x: u64, y: u64) -> Tap
+    requires { ⌜ Sizes w h ⌝ }
+    ensures { λ r. ⌜ r ≡ outside Policy.VerticalTile w h (signed x) (signed y) ⌝ }
+{
+    if x < w {
+        return Tap::Pixel(x, tile(y, h));
+    }
+    Tap::Background
+}
+
+fn horizontal_tile_edge(w: u64, h: u64, x: u64, y: u64) -> Tap
+    requires { ⌜ Sizes w h ⌝ }
+    ensures { λ r. ⌜ r ≡ outside Policy.HorizontalTileEdge w h (signed x) (signed y) ⌝ }
+{
+    Tap::Pixel(tile(x, w), clamped(y, h))
+}
+
+fn vertical_tile_edge(w: u64, h: u64, x: u64, y: u64) -> Tap
+    requires { ⌜ Sizes w h ⌝ }
+    ensures { λ r. ⌜ r ≡ outside Policy.VerticalTileEdge w h (signed x) (signed y) ⌝ }
+{
+    Tap::Pixel(clamped(x, w), tile(y, h))
+}
+
+fn checker_tile(w: u64, h: u64, x: u64, y: u64) -> Tap
+    requires { ⌜ Sizes w h ⌝ }
+    ensures { λ r. ⌜ r ≡ outside Policy.CheckerTile w h (signed x) (signed y) ⌝ }
+{
+    if parity(x, w) == parity(y, h) {
+        return Tap::Pixel(tile(x, w), tile(y, h));
+    }
+    Tap::Background
+}
+
+fn random(w: u64, h: u64, x: u64, y: u64) -> Tap
+    requires { ⌜ Sizes w h ⌝ }
+    ensures { λ r. ⌜ r ≡ outside Policy.Random w h (signed x) (signed y) ⌝ }
+{
+    let z = mix(x, y);
+    Tap::Pixel(z % w, z / 4294967296 % h)
+}
+
+// The codes count from 0 in the order of the Rust's `VirtualPixel`.
+fn named_outside(policy: u64, w: u64, h: u64, x: u64, y: u64) -> Tap
+    requires { ⌜ Sizes w h ⌝ }
+    ensures { λ r. ⌜ r ≡ outside (Named.policy policy) w h (signed x) (signed y) ⌝ }
+{
+    match policy {
+        0 => edge(w, h, x, y),
+        1 => Tap::Background,
+        2 => Tap::Black,
+        3 => Tap::White,
+        4 => Tap::Gray,
+        5 => Tap::Transparent,
+        6 => tiled(w, h, x, y),
+        7 => mirrored(w, h, x, y),
+        8 => horizontal_tile(w, h, x, y),
+        9 => vertical_tile(w, h, x, y),
+        10 => horizontal_tile_edge(w, h, x, y),
+        11 => vertical_tile_edge(w, h, x, y),
+        12 => checker_tile(w, h, x, y),
+        _ => random(w, h, x, y),
+    }
+}
+
+// The inside test comes before any rule. The bits of an index below 0 are a number above every size.
+pub fn named(policy: u64, w: u64, h: u64, x: i64, y: i64) -> Tap
+    requires { ⌜ Sizes w h ⌝ }
+    ensures { λ r. ⌜ r ≡ Named.named policy w h x y ⌝ }
+{
+    let i = bits_of_i64(x);
+    let j = bits_of_i64(y);
+    if i < w && j < h {
+        return Tap::Pixel(i, j);
+    }
+    named_outside(policy, w, h, i, j)
+}

@@ -1,0 +1,47 @@
+// Where an interpolation places its taps for a point in index space, and the point's fractions. Assumes that the point's coordinates
+// are at most 2^30 + 1 in magnitude, where a cell is asked for.
+ghost use mathlib.Core.Path.{_≡_};
+ghost use Prim.Native.Nat.{_≤_};
+ghost use lib.IntN.{pos, _+ℤ_, _-ℤ_};
+ghost use lib.Signed.{mag};
+ghost use Rattle.taps.specs.Cell.{Reached, fraction, rounded, first};
+ghost use Rattle.taps.specs.Interpolation.{interpolation};
+use number::floor::floor;
+use number::floor::floor_i64;
+use number::narrow::narrow;
+
+// How far the point lies beyond the whole number below it. It can round to 1.
+pub fn fraction(x: f64) -> f32
+    ensures { λ r. ⌜ r ≡ fraction x ⌝ }
+{
+    narrow(x - floor(x))
+}
+
+fn rounded(x: f64) -> i64
+    ensures { λ r. ⌜ r ≡ rounded x ⌝ }
+{
+    floor_i64(x + 0.5)
+}
+
+fn before(v: i64) -> i64
+    requires { ⌜ mag v ≤ 2147483648 ⌝ }
+    ensures { λ r. ⌜ r ≡ v -ℤ pos 1 ⌝ }
+{
+    v - 1
+}
+
+// The first of the columns, or of the rows, that taps come from: both together are the cell. The codes count from 0 in the order of
+// the Rust's `PixelInterpolate`.
+pub fn first(code: u64, x: f64) -> i64
+    requires { ⌜ Reached x ⌝ }
+    ensures { λ r. ⌜ r ≡ first (interpolation code) x ⌝ }
+{
+    match code {
+        1 => rounded(x),
+        3 => before(rounded(x)),
+        4 => before(floor_i64(x)),
+        6 => before(floor_i64(x)),
+        7 => before(floor_i64(x)),
+        _ => floor_i64(x),
+    }
+}

@@ -1,0 +1,101 @@
+// The taps of an interpolation: a square of indexes from its cell on, numbered row by row. Assumes that the bytes are a picture's,
+// and the cell that of a point whose coordinates are small.
+ghost use mathlib.Core.Path.{_≡_};
+ghost use Prim.Native.Nat.{_≤_};
+ghost use lib.IntN.{pos, _+ℤ_};
+ghost use lib.Signed.{mag};
+ghost use Rattle.pixels.specs.At.{at};
+ghost use Rattle.taps.specs.Interpolation.{interpolation};
+ghost use Rattle.pixels.specs.Pixel.{Picture};
+ghost use Rattle.taps.specs.Taps.{side};
+use number::pattern::bits_of_i64;
+use pixels::at::samples;
+use pixels::colour::Rgba;
+use pixels::pixel::pixel;
+use policies::named::named;
+
+// How many taps stand side by side.
+pub fn side(code: u64) -> usize
+    ensures { λ r. ⌜ r ≡ side (interpolation code) ⌝ }
+{
+    match code {
+        0 => 1,
+        1 => 1,
+        2 => 2,
+        3 => 3,
+        4 => 4,
+        5 => 2,
+        6 => 4,
+        7 => 4,
+        _ => 0,
+    }
+}
+
+// The index k further on.
+pub fn moved(v: i64, k: usize) -> i64
+    requires { ⌜ (mag v ≤ 2147483649) × (k ≤ 4) ⌝ }
+    ensures { λ r. ⌜ r ≡ v +ℤ pos k ⌝ }
+{
+    v + k as i64
+}
+
+// The tap i columns and j rows from the cell. It is `at` written out, so that the compiler keeps a tap's components in registers.
+pub fn tap(
+    picture: &[u8],
+    width: u64,
+    height: u64,
+    channels: u64,
+    policy: u64,
+    background: Rgba,
+    column: i64,
+    row: i64,
+    i: usize,
+    j: usize,
+) -> Rgba
+    requires { ⌜ Picture (now picture) width height channels ⌝ }
+    requires { ⌜ (mag column ≤ 2147483649) × (mag row ≤ 2147483649) ⌝ }
+    requires { ⌜ (i ≤ 4) × (j ≤ 4) ⌝ }
+    ensures { λ r. ⌜ r ≡ at (now (picture .entry)) width height channels policy background (column +ℤ pos i) (row +ℤ pos j) ⌝ }
+{
+    samples(
+        picture,
+        width,
+        channels,
+        background,
+        named(policy, width, height, moved(column, i), moved(row, j)),
+    )
+}
+
+// The same for a square, most of whose taps lie inside: there no policy is asked.
+pub fn nearby(
+    picture: &[u8],
+    width: u64,
+    height: u64,
+    channels: u64,
+    policy: u64,
+    background: Rgba,
+    column: i64,
+    row: i64,
+    i: usize,
+    j: usize,
+) -> Rgba
+    requires { ⌜ Picture (now picture) width height channels ⌝ }
+    requires { ⌜ (mag column ≤ 2147483649) × (mag row ≤ 2147483649) ⌝ }
+    requires { ⌜ (i ≤ 4) × (j ≤ 4) ⌝ }
+    ensures { λ r. ⌜ r ≡ at (now (picture .entry)) width height channels policy background (column +ℤ pos i) (row +ℤ pos j) ⌝ }
+{
+    let x = moved(column, i);
+    let y = moved(row, j);
+    let p = bits_of_i64(x);
+    let q = bits_of_i64(y);
+    if p < width && q < height {
+        return pixel(picture, width, channels, p, q);
+    }
+    samples(
+        picture,
+        width,
+        channels,
+        background,
+        named(policy, width, height, x, y),
+    )
+}

@@ -19,50 +19,35 @@ const SLACK: f64 = 1.05;
 
 type Measured = [(Row, Times)];
 
+/// Whether a row is `Perspective` by one of some interpolations on a large picture under `Edge`.
+fn named(row: &Row, interpolations: &[u64]) -> bool {
+    let plain = row.shape.large() && row.policy == EDGE && row.method == codes::PERSPECTIVE;
+    plain && interpolations.contains(&row.interpolation)
+}
+
+/// What most people ask for.
+fn common(row: &Row) -> bool {
+    named(row, &[codes::BILINEAR]) && row.shape.channels == 3
+}
+
 /// Prints every goal with `met`, `not met` or `not measured`.
 pub fn print(rows: &Measured, memories: &[(Shape, Memory)], opencv: f64) {
-    println!("\nGoals:\n");
-    let large = |row: &Row| row.shape.large() && row.policy == EDGE;
-    let named = |row: &Row, all: &[u64]| {
-        large(row) && row.method == codes::PERSPECTIVE && all.contains(&row.interpolation)
-    };
-    let plain = |row: &Row| named(row, &[codes::BILINEAR]) && row.shape.channels == 3;
-    let fast = "times as fast as the reference";
-    least(
-        &format!("Perspective, Bilinear, 3 channels: 4 {fast}"),
-        4.0,
-        rows,
-        &plain,
-    );
+    println!("\nGoals, times as fast as the reference where nothing else is said:\n");
+    least("Perspective, Bilinear, 3 channels: 4", 4.0, rows, &common);
     let near = |row: &Row| named(row, &[INTEGER, NEAREST]);
-    least(
-        &format!("Perspective, Integer and Nearest: 4 {fast}"),
-        4.0,
-        rows,
-        &near,
-    );
+    least("Perspective, Integer and Nearest: 4", 4.0, rows, &near);
     let cubic = |row: &Row| named(row, &[CATROM, SPLINE]);
-    least(
-        &format!("Perspective, Catrom and Spline: 5 {fast}"),
-        5.0,
-        rows,
-        &cubic,
-    );
-    least("no row slower than the reference", 1.0, rows, &|_| true);
+    least("Perspective, Catrom and Spline: 5", 5.0, rows, &cubic);
+    least("every row: 1", 1.0, rows, &|_| true);
     samples(memories);
     bands(rows, memories);
     let limit = WITHIN * opencv;
-    let took = rows
-        .iter()
-        .find(|(row, _)| plain(row))
-        .map(|(_, t)| t.whole);
-    let words = format!(
-        "Perspective, Bilinear, 3 channels: at most {limit:.1} ns a pixel, {WITHIN} times {opencv:.1}"
+    let found = rows.iter().find(|(row, _)| common(row));
+    let found = found.map(|(_, t)| (t.whole <= limit, format!("{:.1} ns", t.whole)));
+    let goal = format!(
+        "Perspective, Bilinear, 3 channels: {limit:.1} ns a pixel, {WITHIN} times {opencv:.1}"
     );
-    say(
-        &words,
-        took.map(|t| (t <= limit, format!("{t:.1} ns a pixel"))),
-    );
+    say(&goal, found);
 }
 
 fn say(goal: &str, found: Option<(bool, String)>) {

@@ -92,7 +92,7 @@ fn effort(row: &Row, quick: bool) -> Effort {
         (true, true) => (2, 0.6),
         (true, false) if row.policy == rows::EDGE => (3, 3.0),
         (true, false) => (2, 1.2),
-        (false, _) => (5, 0.2),
+        (false, _) => (15, 0.2),
     };
     Effort { least, seconds }
 }

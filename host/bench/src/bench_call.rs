@@ -3,8 +3,8 @@
 //! same, bit for bit. And what the test of all samples costs alone, beside a copy of the picture.
 //!
 //! Words choose rows: `bench_call Perspective Bilinear 3` measures the rows that have all three in their names.
-//! `--quick` is the large picture of 3 channels under `Edge`, with few rounds: a minute. `opencv=NS` is what OpenCV takes
-//! a pixel here.
+//! `--quick` makes few rounds, and without words measures the large picture of 3 channels under `Edge` alone: a minute.
+//! `opencv=NS` is what OpenCV takes a pixel here.
 
 mod call;
 

@@ -156,14 +156,18 @@ fn pairs_of(every: bool) -> impl Iterator<Item = (u64, u64)> {
     all.filter(move |&(m, i)| every || i == plain || m == named)
 }
 
-/// The rows that have every word in their names, case ignored.
+/// The rows that have every word in their names, case ignored. A quick run without words is of one picture, mostly `Edge`.
 pub fn chosen(words: &[String], quick: bool) -> Vec<Row> {
     let has = |row: &Row, word: &String| row.words().iter().any(|w| w.eq_ignore_ascii_case(word));
     let asked = |row: &Row| words.iter().all(|word| has(row, word));
-    let plain =
-        |row: &Row| row.method == codes::PERSPECTIVE && row.interpolation == codes::BILINEAR;
-    let few = |row: &Row| row.policy == EDGE || plain(row);
-    let light = |row: &Row| !quick || row.shape.large() && row.shape.kind() == "3" && few(row);
+    let light = |row: &Row| row.shape.large() && row.shape.kind() == "3" && common(row);
+    let few = quick && words.is_empty();
     let all = all().into_iter();
-    all.filter(|row| asked(row) && light(row)).collect()
+    all.filter(|row| asked(row) && (!few || light(row)))
+        .collect()
+}
+
+fn common(row: &Row) -> bool {
+    let plain = row.method == codes::PERSPECTIVE && row.interpolation == codes::BILINEAR;
+    row.policy == EDGE || plain
 }

@@ -209,6 +209,7 @@ mod tests {
                 // SAFETY: three bytes of the arena are on the side of the unmapped page, more on the other.
                 unsafe { byte.write(0x12) };
                 assert!(!arenas.clean(&lending));
+                // SAFETY: the same byte.
                 unsafe { byte.write(0x11) };
             }
             // SAFETY: inside the buffer.

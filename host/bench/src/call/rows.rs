@@ -171,3 +171,44 @@ fn common(row: &Row) -> bool {
     let plain = row.method == codes::PERSPECTIVE && row.interpolation == codes::BILINEAR;
     row.policy == EDGE || plain
 }
+
+#[cfg(test)]
+mod tests {
+    use super::*;
+
+    fn count(words: &str) -> usize {
+        let words: Vec<String> = words.split_whitespace().map(String::from).collect();
+        chosen(&words, false).len()
+    }
+
+    #[test]
+    fn every_method_interpolation_and_policy_is_there() {
+        for shape in [
+            "2000x1500 1",
+            "2000x1500 3",
+            "2000x1500 4",
+            "256x256 1",
+            "256x256 4",
+        ] {
+            for policy in ["Edge", "Tile", "Random"] {
+                let words = format!("{shape} {policy}");
+                assert_eq!(count(&format!("{words} Bilinear")), codes::PRESENT.len());
+                assert_eq!(count(&format!("{words} Perspective")), INTERPOLATIONS.len());
+            }
+        }
+        let pairs = codes::PRESENT.len() * INTERPOLATIONS.len();
+        assert_eq!(count("256x256 3 Edge"), pairs);
+    }
+
+    #[test]
+    fn words_are_whole_and_case_is_ignored() {
+        assert_eq!(count("perspective BILINEAR 3"), 6);
+        assert_eq!(count("Persp"), 0);
+        let few = chosen(&[], true);
+        assert!(
+            few.iter()
+                .all(|row| row.shape.large() && row.shape.channels == 3)
+        );
+        assert_eq!(few.len(), 20);
+    }
+}

@@ -15,16 +15,16 @@ static SEED: AtomicU64 = AtomicU64::new(0);
 static CASE: AtomicU64 = AtomicU64::new(0);
 static CALL: AtomicU64 = AtomicU64::new(0);
 
-/// The case that is made now; it may take so many seconds.
+/// The case that is made now; it may run for so many seconds.
 pub fn case(seed: u64, index: u64, seconds: u32) {
     SEED.store(seed, Relaxed);
     CASE.store(index, Relaxed);
-    sys::alarm(seconds);
+    sys::limit(seconds);
 }
 
 /// No case is made any more.
 pub fn done() {
-    sys::alarm(0);
+    sys::limit(0);
 }
 
 /// Which of a case's calls is made now; 0 for none.
@@ -104,7 +104,7 @@ pub fn read(line: &str) -> Option<Told> {
     let mut numbers = numbers.split_whitespace().map(str::parse::<u64>);
     let mut next = || numbers.next()?.ok();
     Some(Told {
-        late: next()? == sys::ALARM as u64,
+        late: next()? == sys::TIME_IS_UP as u64,
         seed: next()?,
         case: next()?,
         call: next()?,

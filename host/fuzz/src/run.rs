@@ -15,8 +15,8 @@ use std::thread;
 /// Calls that a case makes.
 const TWICE: u64 = 2;
 
-/// Seconds that a case may take.
-pub const PATIENCE: u32 = 300;
+/// Seconds that a case may run, by the process's own time.
+pub const PATIENCE: u32 = 60;
 
 /// One case of so many asks the name readers too.
 const NAMES: u64 = 16;
@@ -101,7 +101,7 @@ impl fmt::Display for Met {
     }
 }
 
-/// Runs the cases of a seed here. A fault, or a case that takes more than so many seconds, ends the process: see `fault`.
+/// Runs the cases of a seed here. A fault, or a case that runs for more than so many seconds, ends the process: see `fault`.
 pub fn here(callee: Distort, seed: u64, indices: Range<u64>, seconds: u32) -> Result<Met, String> {
     let reference = reference::open();
     let (mut rooms, mut readers) = (Rooms::default(), Names::default());

@@ -11,9 +11,12 @@ pub const MAP_FIXED: c_int = 0x10;
 pub const MAP_ANONYMOUS: c_int = 0x20;
 const SC_PAGESIZE: c_int = 30;
 
-/// Signals of a wrong access, instruction or number, of a trap and an abort, and of the alarm.
-pub const SIGNALS: [c_int; 7] = [11, 7, 4, 8, 5, 6, ALARM];
-pub const ALARM: c_int = 14;
+/// Signals of a wrong access, instruction or number, of a trap and an abort, and of the timer.
+pub const SIGNALS: [c_int; 7] = [11, 7, 4, 8, 5, 6, TIME_IS_UP];
+pub const TIME_IS_UP: c_int = 26;
+
+/// The timer of the time that the process itself has run: it waits while the process does.
+const VIRTUAL: c_int = 1;
 
 /// Room for any C library's `pthread_attr_t`.
 #[repr(C, align(16))]
@@ -36,7 +39,7 @@ unsafe extern "C" {
     pub fn signal(number: c_int, handler: extern "C" fn(c_int)) -> usize;
     pub fn write(file: c_int, bytes: *const c_void, length: usize) -> isize;
     pub safe fn _exit(status: c_int) -> !;
-    pub safe fn alarm(seconds: c_uint) -> c_uint;
+    fn setitimer(which: c_int, new: *const [c_long; 4], old: *mut c_void) -> c_int;
     pub fn pthread_attr_init(attributes: *mut Attributes) -> c_int;
     pub fn pthread_attr_setstack(
         attributes: *mut Attributes,
@@ -57,6 +60,15 @@ unsafe extern "C" {
 /// Bytes of a page.
 pub fn page() -> usize {
     usize::try_from(sysconf(SC_PAGESIZE)).expect("a page has a size")
+}
+
+/// Sends `TIME_IS_UP` once the process has run for so many seconds more; for 0, never.
+pub fn limit(seconds: u32) {
+    // Seconds and microseconds of the interval, which is none, and of the first time.
+    let new = [0, 0, seconds as c_long, 0];
+    // SAFETY: the four numbers are read, and nothing is written.
+    let set = unsafe { setitimer(VIRTUAL, &new, std::ptr::null_mut()) };
+    assert_eq!(set, 0, "a timer can be set");
 }
 
 /// A new mapping that nothing may touch yet. It stays until the process ends.

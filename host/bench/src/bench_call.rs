@@ -1,153 +1,144 @@
-//! Nanoseconds an output pixel of the whole distort call: the product's through its archive, whole and in bands of 16 rows, and the original's
-//! `distort`. Every method with `Bilinear`, and every interpolation with `Perspective`, under `Edge`, on one thread; of each, the best of
-//! many rounds, in turns. The pictures must be the same, bit for bit.
+//! Nanoseconds an output pixel of the whole distort call: the product's through its archive, whole and in bands of 16
+//! rows, and the original's `distort`; the time of one thread, of each the best of many rounds, in turns. The pictures must be the
+//! same, bit for bit. And what the test of all samples costs alone, beside a copy of the picture.
+//!
+//! Words choose rows: `bench_call Perspective Bilinear 3` measures the rows that have all three in their names.
+//! `--quick` makes few rounds, and without words measures the large picture of 3 channels under `Edge` alone: a minute.
+//! `opencv=NS` is what OpenCV takes a pixel here.
 
-use differential::codes;
-use dihyravo::{Job, distort_into};
-use reference::{Call, Picture, Reference};
-use std::hint::black_box;
-use std::time::Instant;
+mod call;
 
-const WIDTH: u64 = 512;
-const HEIGHT: u64 = 384;
-const CHANNELS: u64 = 3;
-const BAND: u64 = 16;
-const PIXELS: f64 = (WIDTH * HEIGHT) as f64;
+use call::goals;
+use call::measure::{self, Effort, Source, Times};
+use call::memory::{self, Memory};
+use call::rows::{self, Row, Shape};
+use reference::Reference;
+use std::process::ExitCode;
 
-fn main() {
+/// What the command line asks for.
+struct Asked {
+    rows: Vec<Row>,
+    quick: bool,
+    opencv: f64,
+}
+
+fn main() -> ExitCode {
     let Some(reference) = reference::open() else {
         println!("left out: the reference is not there");
-        return;
+        return ExitCode::SUCCESS;
     };
-    let samples: Vec<f32> = (0..WIDTH * HEIGHT * CHANNELS)
-        .map(|k| ((k * 2_654_435_761) % 1_000_003) as f32 / 1_000_003.0)
-        .collect();
-    println!("ns a pixel                    product  in bands      Rust     ratio");
-    for (name, method, args) in methods() {
-        let label = format!("{name}, Bilinear");
-        report(reference, &label, method, &args, codes::BILINEAR, &samples);
-    }
-    let names = ["Integer", "Nearest", "Average", "Average9", "Average16", "Bilinear", "Catrom", "Spline", "Background"];
-    for (code, name) in names.iter().enumerate() {
-        let label = format!("Perspective, {name}");
-        report(reference, &label, codes::PERSPECTIVE, &pairs(2, 2), code as u64, &samples);
-    }
-}
-
-/// Pairs in a grid over the picture, each picked a few pixels off, inwards.
-fn pairs(across: u64, down: u64) -> Vec<f64> {
-    let off = |a: u64, b: u64| ((a * 7 + b * 13) % 11) as f64 - 5.0;
-    let place = |k: u64, n: u64, side: u64| (k * side) as f64 / (n - 1) as f64;
-    let inwards = |x: f64, side: u64| side as f64 * 0.04 + x * 0.92;
-    let grid = (0..down).flat_map(|j| (0..across).map(move |i| (i, j)));
-    grid.flat_map(|(i, j)| {
-        let (x, y) = (place(i, across, WIDTH), place(j, down, HEIGHT));
-        [inwards(x, WIDTH) + off(i, j), inwards(y, HEIGHT) + off(j, i), x, y]
-    })
-    .collect()
-}
-
-fn methods() -> Vec<(&'static str, u64, Vec<f64>)> {
-    let polynomial = [vec![2.0], pairs(4, 4)].concat();
-    let barrel = vec![0.01, -0.02, 0.03];
-    vec![
-        ("Affine", codes::AFFINE, pairs(2, 2)),
-        ("Perspective", codes::PERSPECTIVE, pairs(2, 2)),
-        ("BilinearReverse", codes::BILINEAR_REVERSE, pairs(2, 2)),
-        ("BilinearForward", codes::BILINEAR_FORWARD, pairs(2, 2)),
-        ("Polynomial 2", codes::POLYNOMIAL, polynomial),
-        ("Barrel", codes::BARREL, barrel.clone()),
-        ("BarrelInverse", codes::BARREL_INVERSE, barrel),
-        ("Shepards, 4 pairs", codes::SHEPARDS, pairs(2, 2)),
-    ]
-}
-
-/// A colour as the call takes it.
-fn colour(components: [f32; 4]) -> [u8; 16] {
-    let mut bytes = [0; 16];
-    for (part, x) in bytes.chunks_exact_mut(4).zip(components) {
-        part.copy_from_slice(&x.to_le_bytes());
-    }
-    bytes
-}
-
-fn report(r: Reference, name: &str, method: u64, args: &[f64], interpolation: u64, samples: &[f32]) {
-    let picture: Vec<u8> = samples.iter().flat_map(|x| x.to_le_bytes()).collect();
-    let arguments: Vec<u8> = args.iter().flat_map(|x| x.to_le_bytes()).collect();
-    let black = [0.0, 0.0, 0.0, 1.0];
-    let job = Job {
-        picture: &picture,
-        width: WIDTH,
-        height: HEIGHT,
-        channels: CHANNELS,
-        method,
-        arguments: &arguments,
-        policy: 0,
-        interpolation,
-        background: colour(black),
-        matte: colour(black),
-        bestfit: 0,
-        viewport: 0,
-        view_width: 0,
-        view_height: 0,
-        view_x: 0,
-        view_y: 0,
-        first_row: 0,
-        rows: HEIGHT,
+    let asked = match asked() {
+        Ok(asked) => asked,
+        Err(words) => {
+            eprintln!("bench_call: {words}");
+            return ExitCode::from(2);
+        }
     };
-    let call = Call {
-        method: method as u8,
-        args,
-        bestfit: false,
-        viewport: None,
-        policy: 0,
-        interpolation: interpolation as u8,
-        background: black,
-        undefined: black,
-        picture: Picture {
-            width: WIDTH as u32,
-            height: HEIGHT as u32,
-            channels: CHANNELS as usize,
-            samples,
-        },
-    };
-    let mut whole = vec![1; picture.len()];
-    let mut bands = vec![1; picture.len()];
-    let mut output = Vec::new();
-    let (mut product, mut banded, mut rust) = (f64::INFINITY, f64::INFINITY, f64::INFINITY);
-    let start = Instant::now();
-    for _ in 0..40 {
-        product = product.min(time(|| own(&job, &mut whole)));
-        banded = banded.min(time(|| in_bands(job, &mut bands)));
-        rust = rust.min(time(|| output = r.distort(black_box(&call)).expect("the job is fit").samples));
-        if start.elapsed().as_secs() >= 2 {
-            break;
+    keep_memory();
+    run(reference, &asked);
+    ExitCode::SUCCESS
+}
+
+fn asked() -> Result<Asked, String> {
+    let (mut words, mut quick, mut opencv) = (Vec::new(), false, goals::OPENCV);
+    for word in std::env::args().skip(1) {
+        match word.strip_prefix("opencv=") {
+            Some(text) => opencv = text.parse().map_err(|_| format!("{text} is no number"))?,
+            None if word == "--quick" => quick = true,
+            None => words.push(word),
         }
     }
-    let originals: Vec<u8> = output.iter().flat_map(|x| x.to_le_bytes()).collect();
-    assert!(whole == originals && bands == originals, "{name}: the pictures differ");
-    let (product, banded, rust) = (product / PIXELS, banded / PIXELS, rust / PIXELS);
-    println!("{name:26}{product:10.1}{banded:10.1}{rust:10.1}{:10.2}", product / rust);
+    let rows = rows::chosen(&words, quick);
+    if rows.is_empty() {
+        return Err(format!("no row has the words {}", words.join(" ")));
+    }
+    Ok(Asked {
+        rows,
+        quick,
+        opencv,
+    })
 }
 
-fn own(job: &Job, band: &mut [u8]) {
-    let mut answer = [0; 48];
-    assert_eq!(distort_into(black_box(job), band, &mut answer), 0, "the job is fit");
-    black_box(band);
+fn run(r: Reference, asked: &Asked) {
+    println!("Nanoseconds of one thread an output pixel, best of the rounds:\n");
+    println!(
+        "| picture | channels | method | interpolation | policy | whole | in bands | reference | times as fast | rounds |"
+    );
+    println!("|---|---|---|---|---|---:|---:|---:|---:|---:|");
+    let mut measured: Vec<(Row, Times)> = Vec::new();
+    let mut memories: Vec<(Shape, Memory)> = Vec::new();
+    let mut held: Option<Source> = None;
+    for row in &asked.rows {
+        let source = match held.take_if(|source| source.shape == row.shape) {
+            Some(source) => source,
+            None => {
+                let source = Source::new(row.shape);
+                let seconds = if asked.quick { 0.5 } else { 1.0 };
+                memories.push((row.shape, memory::measure(&source, seconds)));
+                source
+            }
+        };
+        let source = held.insert(source);
+        let times = measure::row(r, row, source, effort(row, asked.quick));
+        print_row(row, &times);
+        measured.push((*row, times));
+    }
+    print_memories(&memories);
+    goals::print(&measured, &memories, asked.opencv);
 }
 
-fn in_bands(mut job: Job, picture: &mut [u8]) {
-    let row = (WIDTH * CHANNELS * 4) as usize;
-    for (k, band) in picture.chunks_mut(row * BAND as usize).enumerate() {
-        job.first_row = k as u64 * BAND;
-        job.rows = (band.len() / row) as u64;
-        own(&job, band);
+fn effort(row: &Row, quick: bool) -> Effort {
+    let (least, seconds) = match (row.shape.large(), quick) {
+        (true, true) => (2, 0.6),
+        (true, false) if row.policy == rows::EDGE => (3, 3.0),
+        (true, false) => (2, 1.2),
+        (false, _) => (15, 0.2),
+    };
+    Effort { least, seconds }
+}
+
+fn print_row(row: &Row, t: &Times) {
+    println!(
+        "| {} | {:.1} | {:.1} | {:.1} | {:.2} | {} |",
+        row.words().join(" | "),
+        t.whole,
+        t.banded,
+        t.reference,
+        t.ratio(),
+        t.rounds
+    );
+}
+
+fn print_memories(memories: &[(Shape, Memory)]) {
+    println!(
+        "\nThe test of all samples alone, GB of the picture a second (a copied byte counts once):\n"
+    );
+    println!("| picture | channels | MB | test | memcpy | plain read | test / memcpy |");
+    println!("|---|---|---:|---:|---:|---:|---:|");
+    for (shape, m) in memories {
+        println!(
+            "| {} | {} | {:.1} | {:.2} | {:.2} | {:.2} | {:.2} |",
+            shape.size(),
+            shape.kind(),
+            m.bytes / 1e6,
+            m.speed(m.test),
+            m.speed(m.copy),
+            m.speed(m.read),
+            m.copy / m.test
+        );
     }
 }
 
-/// Nanoseconds of one round.
-fn time(round: impl FnOnce()) -> f64 {
-    let start = Instant::now();
-    round();
-    start.elapsed().as_nanos() as f64
+/// Memory that is given back is kept and taken again, so that the original's output is touched before, as ours is.
+fn keep_memory() {
+    #[cfg(target_env = "gnu")]
+    {
+        unsafe extern "C" {
+            safe fn mallopt(parameter: i32, value: i32) -> i32;
+        }
+        const TRIM_THRESHOLD: i32 = -1;
+        const MMAP_MAX: i32 = -4;
+        mallopt(TRIM_THRESHOLD, i32::MAX);
+        mallopt(MMAP_MAX, 0);
+    }
 }

@@ -18,6 +18,9 @@ pub struct Mapping(Never);
 #[derive(Clone, Debug)]
 pub struct Sampler(Never);
 
+#[derive(Clone, Debug)]
+pub struct Prepared(Never);
+
 /// The reference was not there when this crate was built.
 pub fn open() -> Option<Reference> {
     None
@@ -52,6 +55,10 @@ impl Reference {
         match self.0 {}
     }
 
+    pub fn prepare(self, _: &Call) -> Result<Prepared, String> {
+        match self.0 {}
+    }
+
     pub fn method_from_name(self, _: &str) -> Option<u8> {
         match self.0 {}
     }
@@ -61,6 +68,12 @@ impl Reference {
     }
 
     pub fn interpolation_from_name(self, _: &str) -> Option<u8> {
+        match self.0 {}
+    }
+}
+
+impl Prepared {
+    pub fn distort(&self) -> Result<Output, String> {
         match self.0 {}
     }
 }

@@ -21,9 +21,9 @@ mod types;
 pub mod sha256;
 
 #[cfg(not(reference_present))]
-pub use absent::{Mapping, ORIGINALS, Reference, Sampler, open};
+pub use absent::{Mapping, ORIGINALS, Prepared, Reference, Sampler, open};
 #[cfg(reference_present)]
-pub use present::{Mapping, Reference, Sampler, open};
+pub use present::{Mapping, Prepared, Reference, Sampler, open};
 pub use skip::name_of;
 pub use types::{Call, Output, Picture, Window};
 

@@ -19,6 +19,13 @@ pub struct Mapping(Fitted);
 #[derive(Clone, Debug)]
 pub struct Sampler(Widened);
 
+/// A call with its own copy of the picture.
+#[derive(Clone, Debug)]
+pub struct Prepared {
+    job: DistortImage,
+    image: FloatImage,
+}
+
 /// The reference, if it was there when this crate was built.
 pub fn open() -> Option<Reference> {
     Some(Reference(()))
@@ -60,6 +67,11 @@ impl Reference {
 
     /// `DistortImage::distort`. It has no limit of its own on the window: ask `Mapping::bestfit` first.
     pub fn distort(self, call: &Call) -> Result<Output, String> {
+        self.prepare(call)?.distort()
+    }
+
+    /// All that `distort` is given, so that it can be timed alone.
+    pub fn prepare(self, call: &Call) -> Result<Prepared, String> {
         let mut job = DistortImage::new(named("method", &METHODS, call.method)?, call.args);
         job.bestfit = call.bestfit;
         job.viewport = call.viewport;
@@ -68,15 +80,8 @@ impl Reference {
         job.resampling = Resampling::Point(interpolation);
         job.background = call.background;
         job.matte = call.undefined;
-        let made = job.distort(&image(call.picture)?).map_err(said)?;
-        Ok(Output {
-            width: made.image.width(),
-            height: made.image.height(),
-            x: made.offset.0,
-            y: made.offset.1,
-            channels: made.image.channels(),
-            samples: made.image.into_samples(),
-        })
+        let image = image(call.picture)?;
+        Ok(Prepared { job, image })
     }
 
     /// The code of a method's name.
@@ -92,6 +97,21 @@ impl Reference {
     /// The code of an interpolation's name.
     pub fn interpolation_from_name(self, name: &str) -> Option<u8> {
         PixelInterpolate::from_name(name).map(|interpolation| interpolation as u8)
+    }
+}
+
+impl Prepared {
+    /// `DistortImage::distort`.
+    pub fn distort(&self) -> Result<Output, String> {
+        let made = self.job.distort(&self.image).map_err(said)?;
+        Ok(Output {
+            width: made.image.width(),
+            height: made.image.height(),
+            x: made.offset.0,
+            y: made.offset.1,
+            channels: made.image.channels(),
+            samples: made.image.into_samples(),
+        })
     }
 }
 

@@ -1,0 +1,93 @@
+//! The stack that a call needs, measured over every method and interpolation and a few thousand cases: below 64 KiB.
+
+use differential::codes::{INTERPOLATIONS, METHODS, PRESENT};
+use differential::{Job, expected, generate};
+use fuzz::SEED;
+use fuzz::callee::{Distort, dihyravo_distort};
+use fuzz::cases;
+use fuzz::lent::Lent;
+use fuzz::stack::Stack;
+use std::hint::black_box;
+
+const LIMIT: usize = 64 * 1024;
+const CASES: u64 = 3_000;
+
+/// Good jobs, one at least for every method with every interpolation, and any cases.
+fn calls() -> Vec<Lent> {
+    let r = reference::open();
+    let window = |job: &Job| r.and_then(|r| expected::window_of(r, job));
+    let mut calls = Vec::new();
+    for index in 0..CASES {
+        let case = cases::case(r, SEED, index);
+        calls.push(case.lent);
+        let mut job = generate::call(SEED + 1, index, &window);
+        job.interpolation = index % INTERPOLATIONS.len() as u64;
+        calls.push(Lent::of(&job, &mut case.random.clone()));
+    }
+    calls
+}
+
+#[test]
+fn a_call_needs_less_than_64_kib() {
+    let mut stack = Stack::default();
+    let mut deepest = [[0; INTERPOLATIONS.len()]; METHODS.len()];
+    let (mut refused, mut accepted) = (0, 0);
+    for lent in calls() {
+        let (bytes, number) = stack.of_call(dihyravo_distort, &lent);
+        if number == 0 {
+            let place = &mut deepest[lent.numbers[3] as usize][lent.numbers[5] as usize];
+            *place = bytes.max(*place);
+            accepted = bytes.max(accepted);
+        } else {
+            refused = bytes.max(refused);
+        }
+    }
+    for method in PRESENT {
+        let row = deepest[method as usize];
+        println!("{:>22}: {row:?}", METHODS[method as usize]);
+        assert!(row.iter().all(|&bytes| bytes > 0), "a pair is missing");
+    }
+    println!(
+        "bytes of stack that a call needs: {accepted} at most where it is accepted, {refused} where it is refused"
+    );
+    assert!(accepted < LIMIT && refused < LIMIT);
+}
+
+/// A callee that needs 64 KiB.
+unsafe extern "C" fn deep(
+    _: *const u8,
+    _: usize,
+    _: u64,
+    _: u64,
+    _: u64,
+    _: u64,
+    _: *const u8,
+    _: usize,
+    _: u64,
+    _: u64,
+    _: *const u8,
+    _: *const u8,
+    _: u64,
+    _: u64,
+    _: u64,
+    _: u64,
+    _: i64,
+    _: i64,
+    _: u64,
+    _: u64,
+    _: *mut u8,
+    _: usize,
+    _: *mut u8,
+) -> u64 {
+    let bytes = black_box([1u8; LIMIT]);
+    u64::from(bytes[0])
+}
+
+#[test]
+fn a_callee_that_needs_more_is_found() {
+    let callee: Distort = deep;
+    let lent = cases::case(reference::open(), SEED, 0).lent;
+    let (bytes, number) = Stack::default().of_call(callee, &lent);
+    assert_eq!(number, 1);
+    assert!((LIMIT..LIMIT + 4_096).contains(&bytes), "{bytes}");
+}

@@ -34,7 +34,7 @@ use Rattle.pixels.specs.Pixel.{Picture}
 use Rattle.pixels.specs.declared.colour.Rgba.{Rgba}
 use Rattle.sampler.proofs.BilinearOpaque.{sampled-near}
 use Rattle.window.specs.Window.{xOf, yOf}
-use Rattle.distort.specs.Band.{pointAt, shown, colourAt}
+use Rattle.band.specs.Band.{pointAt, shown, colourAt}
 use Rattle.distort.specs.Call.{outWidth, outHeight, frameOf, sourceOf}
 use Rattle.distort.specs.Job.{Image, Given, colourOf}
 use Rattle.distort.specs.Refusal.{transparent, fitOf, windowOf, widest, channelsOf}

@@ -37,8 +37,8 @@ use Rattle.policies.specs.Random as Random
 use Rattle.pixels.specs.Store as Stored
 use Rattle.taps.specs.Taps as Taps
 use Rattle.taps.specs.Weighted as Weighted
-use Rattle.distort.specs.Band as Band
-use Rattle.distort.specs.Joined as Joined
+use Rattle.band.specs.Band as Band
+use Rattle.band.specs.Joined as Joined
 use Rattle.distort.specs.Refusal as Refusal
 use Rattle.distort.specs.Call.{left, answer, rowsOf, matteOf}
 use Rattle.distort.specs.Refusal.{refusal}

@@ -1,5 +1,6 @@
 -- The laws of the cubic weights, a file for each subject.
 pub mod CubicBounds
+pub mod CubicCode
 pub mod CubicError
 pub mod CubicExact
 pub mod CubicExamples

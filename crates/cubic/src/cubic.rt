@@ -1,7 +1,7 @@
 // The cubic kernels' weights. Assumes nothing.
 ghost use mathlib.Core.Path.{_≡_};
 ghost use Rattle.cubic.specs.Cubic as Cubic;
-ghost use Rattle.cubic.specs.Cubic.{catrom, spline, nearPiece, farPiece, kernel, cubicWeights};
+ghost use Rattle.cubic.specs.Cubic.{catrom, spline, outer, between, middle, nearPiece, farPiece, kernel, cubicWeights};
 use number::magnitude::abs_f32;
 
 // Below 1 in magnitude.
@@ -54,25 +54,54 @@ pub fn cubic_weights(t: f32, b: f32, c: f32) -> [f32; 4]
     ]
 }
 
+// From 1 to below 2.
+fn outer(ax: f32) -> bool
+    ensures { λ r. ⌜ r ≡ outer ax ⌝ }
+{
+    !(ax < 1.0) & (ax < 2.0)
+}
+
+fn between(p: f32, q: f32, r: f32, s: f32) -> bool
+    ensures { λ b. ⌜ b ≡ between p q r s ⌝ }
+{
+    (outer(p) & (q < 1.0)) & ((r < 1.0) & outer(s))
+}
+
+// The weights of four magnitudes of which the outer two are in the outer piece: no test for each.
+fn middle(b: f32, c: f32, p: f32, q: f32, r: f32, s: f32) -> [f32; 4]
+    ensures { λ w. ⌜ w ≡ middle b c p q r s ⌝ }
+{
+    [
+        far_piece(b, c, p) / 6.0,
+        near_piece(b, c, q) / 6.0,
+        near_piece(b, c, r) / 6.0,
+        far_piece(b, c, s) / 6.0,
+    ]
+}
+
 // The two kernels with B and C in place, so that their coefficients are worked out by the compiler.
 pub fn catrom(t: f32) -> [f32; 4]
     ensures { λ r. ⌜ r ≡ catrom t ⌝ }
 {
-    [
-        weight(0.0, 0.5, t + 1.0),
-        weight(0.0, 0.5, t),
-        weight(0.0, 0.5, t - 1.0),
-        weight(0.0, 0.5, t - 2.0),
-    ]
+    let p = abs_f32(t + 1.0);
+    let q = abs_f32(t);
+    let r = abs_f32(t - 1.0);
+    let s = abs_f32(t - 2.0);
+    if between(p, q, r, s) {
+        return middle(0.0, 0.5, p, q, r, s);
+    }
+    cubic_weights(t, 0.0, 0.5)
 }
 
 pub fn spline(t: f32) -> [f32; 4]
     ensures { λ r. ⌜ r ≡ spline t ⌝ }
 {
-    [
-        weight(1.0, 0.0, t + 1.0),
-        weight(1.0, 0.0, t),
-        weight(1.0, 0.0, t - 1.0),
-        weight(1.0, 0.0, t - 2.0),
-    ]
+    let p = abs_f32(t + 1.0);
+    let q = abs_f32(t);
+    let r = abs_f32(t - 1.0);
+    let s = abs_f32(t - 2.0);
+    if between(p, q, r, s) {
+        return middle(1.0, 0.0, p, q, r, s);
+    }
+    cubic_weights(t, 1.0, 0.0)
 }

@@ -169,7 +169,7 @@ module _ (p : Image) (g : Given) where
       let known = size-fit (p .width) (p .height) (p .channels) (t .size) .channels-known in
       record {
         channels = known;
-        picture = record { picture = picture-fit p (t .size) (t .stock); samples = all-bounded (p .bytes) (p .width * p .height * p .channels) (s .samples) };
+        picture = record { picture = picture-fit p (t .size) (t .stock) (s .samples); samples = all-bounded (p .bytes) (p .width * p .height * p .channels) (s .samples) };
         policy = codes p g t .1 .0;
         interpolation = codes p g t .1 .1;
         arguments = accepted (g .method) (g .arguments) (arguments-passed p g t);

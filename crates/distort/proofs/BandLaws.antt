@@ -8,29 +8,15 @@ use native.Mathlib.Nat.{add-assoc, zero-add, mul-one}
 use native.Mathlib.Omega.{arith}
 use lib.Dec.{eqb}
 use lib.ListN.{length, take, drop}
-use Rattle.distort.specs.Band.{Frame, Source, pointAt, colourAt, matteAt, pixelBytes, rowBytes, rowsBytes, rowMatte, rowsMatte}
+use Rattle.band.specs.Band.{Frame, Source, pointAt, colourAt, matteAt, pixelBytes, rowBytes, rowsBytes, rowMatte, rowsMatte}
 use Rattle.distort.specs.Call.{outWidth, frameOf, sourceOf, rowsOf, matteOf, left}
 use Rattle.distort.specs.Job.{Image, Given, Call}
-use Rattle.distort.specs.Joined.{joined, totalled}
+use Rattle.band.specs.Joined.{joined, totalled}
 use Rattle.distort.specs.Refusal.{channelsOf, refusal}
-use Rattle.distort.proofs.JoinedLaws.{joined-length, joined-part, joined-cut, joined-same, totalled-cut, totalled-same, totalled-most}
-use Rattle.distort.proofs.PixelLaws.{pixel-length}
-use Rattle.distort.proofs.RowLaws.{bit-most}
+use Rattle.band.proofs.JoinedLaws.{joined-length, joined-part, joined-cut, joined-same, totalled-cut, totalled-same, totalled-most}
+use Rattle.band.proofs.LengthLaws.{row-length, row-matte-most}
 
 -- ---- of a source and a frame
-pub row-length : (s : Source) (f : Frame) (channels width j : ℕ) → length (rowBytes s f channels width j) ≡ width * channels * 4
-unfolding rowBytes
-row-length s f channels width j =
-    joined-length (λ (i : ℕ). pixelBytes channels (colourAt s f i j)) (channels * 4) (λ i. pixel-length channels (colourAt s f i j)) width ∙ grouped width channels
-  where
-    grouped : (w c : ℕ) → w * (c * 4) ≡ w * c * 4
-    grouped w c = omega arith
-
-pub row-matte-most : (f : Frame) (width j : ℕ) → rowMatte f width j ≤ width
-unfolding rowMatte
-row-matte-most f width j =
-    subst (λ (n : ℕ). totalled (λ (i : ℕ). matteAt f i j) width ≤ n) (mul-one width) (totalled-most (λ (i : ℕ). matteAt f i j) 1 (λ i. bit-most (pointAt f i j .usable)) width)
-
 module _ (s : Source) (f : Frame) (channels width : ℕ) where
   bytes-length : (first rows : ℕ) → length (rowsBytes s f channels width first rows) ≡ rows * width * channels * 4
   unfolding rowsBytes

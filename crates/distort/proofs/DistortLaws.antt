@@ -8,6 +8,7 @@ use Prim.Native.Nat.{ℕ, _<_}
 use native.Mathlib.Omega.{arith}
 use lib.Dec.{eqb, lit≤}
 use lib.IntN.{ℤ}
+use lib.ListN.{length}
 use borrow.Author.Tests.{eq-eqb, ne-eqb}
 use Rattle.exact.specs.Table.{firstOf}
 use Rattle.exact.proofs.TableLaws.{row-holds, row-passed, no-rows}
@@ -18,7 +19,7 @@ use Rattle.window.specs.Window.{window, refusalOf, widthOf, heightOf, xOf, yOf}
 use Rattle.window.specs.declared.window.Placed.{Placed}
 use Rattle.window.specs.declared.window.Placed.the-variants.{Window}
 use Rattle.window.specs.declared.window.Placed.the-variants as Placed
-use Rattle.pixels.specs.Pixel.{Picture}
+use Rattle.pixels.specs.Pixel.{Picture, Inside}
 use Rattle.pixels.specs.declared.colour.Rgba.{Rgba}
 use Rattle.distort.specs.declared.answer.Answer.{Answer}
 use Rattle.distort.specs.declared.answer.Answer.the-variants.{Refused}
@@ -26,9 +27,9 @@ use Rattle.distort.specs.Call.{sourceOf, answer, left}
 use Rattle.distort.specs.Job.{Image, Given, Call, plainly, yes, colourOf}
 use Rattle.distort.specs.Placed.{inWindow, windowed}
 use Rattle.distort.specs.Refusal.{fitOf, windowOf, widest, channelsOf, degenerate, badWindow, unfit, jobRefusal, refusal}
-use Rattle.distort.proofs.AcceptedLaws.{Passed, unfit-passed, fit-8, widest-known, unfit-job, fit-job, job-call}
+use Rattle.distort.proofs.AcceptedLaws.{Passed, unfit-passed, small, fit-8, widest-known, unfit-job, fit-job, job-call}
 use Rattle.distort.proofs.CallLaws.{done, refused-answer, placed-answer}
-use Rattle.distort.proofs.SizeLaws.{OneThreeFour, size-fit, picture-fit}
+use Rattle.distort.proofs.SizeLaws.{OneThreeFour, size-fit, picture-fit, one-pixel}
 use Rattle.distort.proofs.ViewLaws.{Viewed, view-read}
 
 above : (n : ℕ) → (n ≡ 0 → ⊥) → 0 < n
@@ -75,7 +76,14 @@ module _ (c : Call) where
       passed = unfit-passed p g passes
 
       pub picture-known : Picture (p .bytes) (p .width) (p .height) (p .channels)
-      picture-known = picture-fit p (passed .size) (passed .stock)
+      picture-known = picture-fit p (passed .size) (passed .stock) (small p g passed .samples)
+
+      -- the background and the matte
+      pub background-known : length (g .background) ≡ 16 → Inside (g .background) 1 4 0 0
+      background-known e = one-pixel (g .background) e (small p g passed .background)
+
+      pub matte-known : length (g .matte) ≡ 16 → Inside (g .matte) 1 4 0 0
+      matte-known e = one-pixel (g .matte) e (small p g passed .matte)
 
       pub channels-known : {n : ℕ} (background : Rgba) → n ≡ widest (p .channels) (g .policy) background → OneThreeFour n
       channels-known background e =

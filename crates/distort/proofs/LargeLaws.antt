@@ -1,45 +1,30 @@
--- Where the test of the samples fails, every one of them is a number of at most 65,536: one that is not would have made the test true
--- for good, since no turn makes it false again. Assumes nothing.
-use mathlib.Core.Path.{_≡_, refl, sym, ap, _∙_, subst}
-use mathlib.Core.Bool.{Bool, true, false, not, _||_, true≢false}
+-- Where the test of the samples fails, every one of them is a number of at most 65,536, by the laws of that test. Assumes nothing.
+use mathlib.Core.Path.{_≡_, sym, subst}
+use mathlib.Core.Bool.{true, false}
 use mathlib.Core.List.{List}
-use Prim.Native.Nat.{ℕ, _+_, _<_, zero-le}
-use native.Mathlib.Omega.{arith}
+use Prim.Native.Nat.{ℕ, _*_, _<_}
 use lib.Dec.{T, lit≤}
+use lib.ListN.{length}
 use Rattle.exact.specs.Fraction.{frac}
-use Rattle.exact.specs.Loop.{upTo}
-use Rattle.exact.proofs.Loop.{upTo-next, upTo-keep, upTo-join}
 use Rattle.number.specs.Bytes.{sampleAt}
 use Rattle.number.specs.Magnitude.{within}
 use Rattle.sampler.proofs.AtFinite.{limit, within-bounded}
-use Rattle.pixels.specs.Pixel.{widened, pixelAt}
+use Rattle.pixels.specs.Pixel.{Limited, widened, pixelAt}
+use Rattle.pixels.proofs.LimitedLaws as Limits
+use Rattle.pixels.proofs.LimitedLaws.{limited-by}
 use Rattle.taps.specs.Weighted.{Bounded, BoundedBy}
 use Rattle.distort.specs.Job.{colourOf}
 use Rattle.distort.specs.Refusal.{large}
 
-or-true : (b : Bool) → (b || true) ≡ true
-or-true true = refl
-or-true false = refl
-
 module _ (bytes : List ℕ) where
-  abbrev step : ℕ → Bool → Bool
-  step k t = t || not (within limit (sampleAt bytes k))
-
-  -- a large sample, and all later turns
-  spoilt : (k n : ℕ) → k < n → within limit (sampleAt bytes k) ≡ false → upTo step 0 n false ≡ true
-  spoilt k n h bad =
-      upTo-join step 0 false (k + 1) n zero-le (omega arith)
-      ∙ upTo-keep step (k + 1) (upTo step 0 (k + 1) false) (λ (b : Bool). b ≡ true) n (omega arith)
-      (λ j y a b p. ap (λ (t : Bool). t || not (within limit (sampleAt bytes j))) p)
-      (sym (upTo-next step 0 false k zero-le refl) ∙ ap (λ (t : Bool). upTo step 0 k false || not t) bad ∙ or-true (upTo step 0 k false))
-
   pub all-within : (n : ℕ) → large bytes n ≡ false → (k : ℕ) → k < n → within limit (sampleAt bytes k) ≡ true
   unfolding large
-  all-within n fine k h = go (within limit (sampleAt bytes k)) refl
-    where
-      go : (g : Bool) → within limit (sampleAt bytes k) ≡ g → g ≡ true
-      go true e = refl
-      go false e = absurd (true≢false (sym (spoilt k n h e) ∙ fine))
+  all-within n fine k h = Limits.all-within bytes n fine k h
+
+  -- so that no sample is a NaN
+  pub limited : (n : ℕ) → length bytes ≡ n * 4 → large bytes n ≡ false → Limited bytes
+  unfolding large
+  limited n e fine = limited-by bytes n e fine
 
   pub all-bounded : (n : ℕ) → large bytes n ≡ false → (k : ℕ) → k < n → Bounded (frac 65536 1) (sampleAt bytes k)
   all-bounded n fine k h = within-bounded (sampleAt bytes k) (subst T (sym (all-within n fine k h)) tt)

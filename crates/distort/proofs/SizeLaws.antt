@@ -1,4 +1,4 @@
--- Where refusals 1 and 2 do not apply, the picture is one of the sampler's, and its samples are few enough to count. Assumes nothing.
+-- Where refusals 1, 2 and 5 do not apply, the picture is one of the sampler's, and its samples are few enough to count. Assumes nothing.
 use mathlib.Core.Path.{_≡_}
 use mathlib.Core.Logic.{_⊎_, inl, inr, ⊎-elim}
 use mathlib.Core.Bool.{Bool, true, false, not, _||_}
@@ -12,7 +12,8 @@ use borrow.Author.Tests.{eqb-true, eqb-false, ltb-false, not-false}
 use Rattle.arguments.proofs.CountLaws.{neither, either}
 use Rattle.pixels.specs.Pixel.{Picture, Inside}
 use Rattle.distort.specs.Job.{Image}
-use Rattle.distort.specs.Refusal.{badSide, badChannels, badSize, badStock}
+use Rattle.distort.specs.Refusal.{badSide, badChannels, badSize, badStock, large}
+use Rattle.distort.proofs.LargeLaws.{limited}
 
 pub side-fit : (n : ℕ) → badSide n ≡ false → (0 < n) × (n ≤ 4096)
 unfolding badSide
@@ -67,8 +68,8 @@ pub stock-whole : (p : Image) → badStock p ≡ false → length (p .bytes) ≡
 unfolding badStock
 stock-whole p h = eqb-true (length (p .bytes)) (p .width * p .height * p .channels * 4) (not-false (eqb (length (p .bytes)) (p .width * p .height * p .channels * 4)) h)
 
-pub picture-fit : (p : Image) → badSize (p .width) (p .height) (p .channels) ≡ false → badStock p ≡ false → Picture (p .bytes) (p .width) (p .height) (p .channels)
-picture-fit p f g =
+pub picture-fit : (p : Image) → badSize (p .width) (p .height) (p .channels) ≡ false → badStock p ≡ false → large (p .bytes) (p .width * p .height * p .channels) ≡ false → Picture (p .bytes) (p .width) (p .height) (p .channels)
+picture-fit p f g l =
     let s = size-fit (p .width) (p .height) (p .channels) f in
     let c = channels-range (p .channels) (s .channels-known) in
     record {
@@ -76,17 +77,19 @@ picture-fit p f g =
       channels-least = c .0;
       channels-most = c .1;
       whole = stock-whole p g;
+      limited = limited (p .bytes) (p .width * p .height * p .channels) (stock-whole p g) l;
     }
 
 -- a background or a matte is a picture of one pixel
-pub one-pixel : (bytes : List ℕ) → length bytes ≡ 16 → Inside bytes 1 4 0 0
-one-pixel bytes e = record {
+pub one-pixel : (bytes : List ℕ) → length bytes ≡ 16 → large bytes 4 ≡ false → Inside bytes 1 4 0 0
+one-pixel bytes e l = record {
   height = 1;
   picture = record {
     sizes = record { wide = lit≤ tt; width-most = lit≤ tt; high = lit≤ tt; height-most = lit≤ tt };
     channels-least = lit≤ tt;
     channels-most = lit≤ tt;
     whole = e;
+    limited = limited bytes 4 e l;
   };
   column = lit≤ tt;
   row = lit≤ tt;

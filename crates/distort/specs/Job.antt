@@ -6,16 +6,7 @@ use lib.Dec.{eqb}
 use lib.IntN.{ℤ, pos}
 use Rattle.pixels.specs.Pixel.{pixelAt}
 use Rattle.pixels.specs.declared.colour.Rgba.{Rgba}
-
--- a picture: f32 samples in bytes, row by row
-pub record Image : Type 0 where
-  pub bytes : List ℕ
-  pub width : ℕ
-  pub height : ℕ
-  pub channels : ℕ
-
-abbrev pub imageOf : List ℕ → ℕ → ℕ → ℕ → Image
-imageOf bytes width height channels = record { bytes = bytes; width = width; height = height; channels = channels }
+pub use Rattle.band.specs.Image.{Image, imageOf}
 
 -- all that a call is given except picture, rows and band
 pub record Given : Type 0 where

@@ -4,4 +4,5 @@ pub mod ShepardsLaws
 pub mod PolynomialLaws
 pub mod UsableLaws
 pub mod MarkLaws
+pub mod PointsLaws
 pub mod BarrelExample

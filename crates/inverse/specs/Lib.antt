@@ -8,3 +8,4 @@ pub mod Forward
 pub mod Barrel
 pub mod Shepards
 pub mod Inverse
+pub mod Points

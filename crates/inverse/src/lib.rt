@@ -6,6 +6,7 @@ pub mod forward;
 pub mod perspective;
 pub mod pixel;
 pub mod point;
+pub mod points;
 pub mod polynomial;
 pub mod shepards;
 pub mod source;

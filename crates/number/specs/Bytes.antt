@@ -1,6 +1,6 @@
 -- How bytes are numbers and floats, for the whole product: a number has its lowest byte first, and a float is its
 -- IEEE 754 pattern as such a number. A list of bytes reads as 0 past its end. Assumes nothing.
-use Prim.Native.Nat.{ℕ, zero, suc, _+_, _-_, _*_, _/_, _%_, _^_}
+use Prim.Native.Nat.{ℕ, zero, suc, _+_, _-_, _*_, _/_, _%_, _^_, _≤_}
 use mathlib.Core.List.{List}
 use lib.IntN.{ℤ, pos, negsuc}
 use lib.ListN.{getD, set}
@@ -45,6 +45,10 @@ f32At s at = ofBits binary32 (u32At s at)
 
 abbrev pub f64At : List ℕ → ℕ → Float
 f64At s at = ofBits binary64 (u64At s at)
+
+-- the four bytes are no NaN's pattern: without the sign's bit they are at most the infinity's
+abbrev pub plainAt : List ℕ → ℕ → Type 0
+plainAt s at = u32At s at % 0x8000_0000 ≤ 0x7f80_0000
 
 abbrev pub putF32 : List ℕ → ℕ → Float → List ℕ
 putF32 s at x = putU32 s at (toBits binary32 x)

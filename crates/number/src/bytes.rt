@@ -3,8 +3,10 @@
 ghost use mathlib.Core.Path.{_≡_};
 ghost use Prim.Native.Nat.{_+_, _*_, _≤_};
 ghost use lib.ListN.{length};
-ghost use lib.Ieee.{binary32, binary64, ofBits};
-ghost use Rattle.number.specs.Bytes.{u32At, u64At, f32At, f64At, putU32, putU64, putI64, putF32, putF64};
+ghost use mathlib.Core.Bool.{not};
+ghost use lib.Dec.{T};
+ghost use lib.Ieee.{binary32, binary64, isNan, ofBits};
+ghost use Rattle.number.specs.Bytes.{u32At, u64At, f32At, f64At, plainAt, putU32, putU64, putI64, putF32, putF64};
 ghost use Rattle.number.specs.Magnitude.{within};
 use crate::pattern;
 
@@ -61,6 +63,15 @@ pub fn f32_at(s: &[u8], at: usize) -> f32
     pattern::f32_of_bits(u32_at(s, at))
 }
 
+// The same where the pattern is known to be no NaN's: no test.
+pub fn f32_plain_at(s: &[u8], at: usize) -> f32
+    requires { ⌜ at + 4 ≤ length (now s) ⌝ }
+    requires { ⌜ plainAt (now s) at ⌝ }
+    ensures { λ r. ⌜ r ≡ f32At (now (s .entry)) at ⌝ }
+{
+    f32::from_bits(u32_at(s, at))
+}
+
 pub fn f64_at(s: &[u8], at: usize) -> f64
     requires { ⌜ at + 8 ≤ length (now s) ⌝ }
     ensures { λ r. ⌜ r ≡ f64At (now (s .entry)) at ⌝ }
@@ -73,6 +84,14 @@ pub fn put_f32(s: &mut [u8], at: usize, x: f32)
     ensures { λ _. ⌜ now (s .exit) ≡ putF32 (now (s .entry)) at x ⌝ }
 {
     put_u32(s, at, pattern::bits_of_f32(x));
+}
+
+// The same for a float that is known to be no NaN: no test.
+pub fn put_f32_plain(s: &mut [u8], at: usize, x: f32)
+    requires { ⌜ (at + 4 ≤ length (now s)) × T (not (isNan x)) ⌝ }
+    ensures { λ _. ⌜ now (s .exit) ≡ putF32 (now (s .entry)) at x ⌝ }
+{
+    put_u32(s, at, f32::to_bits(x));
 }
 
 pub fn put_f64(s: &mut [u8], at: usize, x: f64)

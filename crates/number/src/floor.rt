@@ -1,5 +1,5 @@
 // Floor, toward minus infinity: -0.25 gives -1. The domain is the finite x of magnitude at most 2^31; outside it the
-// answer is i64::MIN, or NaN. Assumes nothing of x.
+// answer of `floor_i64` is i64::MIN. The others ask for an x in the domain.
 ghost use mathlib.Core.Path.{_≡_};
 ghost use mathlib.Core.Bool.{cond};
 ghost use lib.Dec.{T};
@@ -37,22 +37,29 @@ fn whole_below(x: f64) -> f64
     r - excess(x, r)
 }
 
+// Where x is known to be in the domain: no test.
+pub fn floor_i64_within(x: f64) -> i64
+    requires { ⌜ T (inDomain x) ⌝ }
+    ensures { λ n. ⌜ n ≡ floorI64 x ⌝ }
+{
+    whole_below(x) as i64
+}
+
 pub fn floor_i64(x: f64) -> i64
     ensures { λ n. ⌜ n ≡ floorI64 x ⌝ }
 {
     if !in_domain(x) {
         return i64::MIN;
     }
-    whole_below(x) as i64
+    floor_i64_within(x)
 }
 
-// The last choice is x only where the two are equal: it keeps the sign of a zero, as `f64::floor` of Rust does.
-pub fn floor(x: f64) -> f64
+// As a float, for x in the domain. The last choice is x only where the two are equal: it keeps the sign of a zero, as
+// `f64::floor` of Rust does. The compiler finds the one instruction for it.
+pub fn floor_within(x: f64) -> f64
+    requires { ⌜ T (inDomain x) ⌝ }
     ensures { λ r. ⌜ r ≡ floorF64 x ⌝ }
 {
-    if !in_domain(x) {
-        return 0.0 / 0.0;
-    }
     let f = whole_below(x);
     if f < x {
         return f;

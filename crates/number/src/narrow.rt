@@ -3,7 +3,9 @@
 // value, and a carry out of the digits goes into the exponent's field, up to the pattern of the infinity.
 ghost use mathlib.Core.Path.{_≡_};
 ghost use Prim.Native.Nat.{_+_, _*_, _%_, _≤_, _<_};
-ghost use lib.Ieee.{binary32, binary64, ofBits, toBits};
+ghost use mathlib.Core.Bool.{not};
+ghost use lib.Dec.{T};
+ghost use lib.Ieee.{binary32, binary64, isNan, ofBits, toBits};
 ghost use lib.Ieee.Nearest.{closest};
 ghost use Rattle.number.specs.Narrow.{narrow};
 
@@ -50,6 +52,29 @@ fn pattern(m: u64) -> u64
     }
 }
 
+// Any number, of either sign.
+fn signed(x: f64) -> f32
+    requires { ⌜ T (not (isNan x)) ⌝ }
+    ensures { λ r. ⌜ r ≡ narrow x ⌝ }
+{
+    let bits = f64::to_bits(x);
+    let p = pattern(bits % 0x8000000000000000);
+    f32::from_bits(((bits / 0x8000000000000000) * 0x80000000 + p) as u32)
+}
+
+// Of a number that is known to be none of the NaNs. From 2^-126 on, below 2^128, one test is all: what a coordinate has beyond its floor
+// lies there nearly always.
+pub fn narrow_number(x: f64) -> f32
+    requires { ⌜ T (not (isNan x)) ⌝ }
+    ensures { λ r. ⌜ r ≡ narrow x ⌝ }
+{
+    let bits = f64::to_bits(x);
+    if 0x3810000000000000 <= bits && bits < 0x47f0000000000000 {
+        return f32::from_bits(ordinary(bits) as u32);
+    }
+    signed(x)
+}
+
 // What Rust's `x as f32` is.
 pub fn narrow(x: f64) -> f32
     ensures { λ r. ⌜ r ≡ narrow x ⌝ }
@@ -58,7 +83,5 @@ pub fn narrow(x: f64) -> f32
         let zero: f32 = 0.0;
         return zero / zero;
     }
-    let bits = f64::to_bits(x);
-    let p = pattern(bits % 0x8000000000000000);
-    f32::from_bits(((bits / 0x8000000000000000) * 0x80000000 + p) as u32)
+    narrow_number(x)
 }

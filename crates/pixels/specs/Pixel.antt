@@ -1,21 +1,26 @@
 -- A picture in bytes: f32 samples, four bytes each, row by row, 1 to 4 to a pixel; and its pixels as colours. Assumes nothing.
-use Prim.Native.Nat.{ℕ, _+_, _*_, _≤_, _<_}
+use Prim.Native.Nat.{ℕ, _+_, _*_, _%_, _≤_, _<_}
 use mathlib.Core.Path.{_≡_}
 use mathlib.Core.Bool.{cond}
 use mathlib.Core.List.{List}
 use lib.Dec.{eqb}
 use lib.ListN.{length}
-use Rattle.number.specs.Bytes.{sampleAt}
+use Rattle.number.specs.Bytes.{u32At, sampleAt}
 use Rattle.pixels.specs.Colour.{one, grey}
 use Rattle.pixels.specs.declared.colour.Rgba.{Rgba}
 pub use Rattle.policies.specs.Named.{Sizes}
 
--- the bytes are those of a picture of these sizes
+-- each sample's pattern, its sign aside, is at most that of 65,536: it is a number's, and no NaN's
+pub record Limited (bytes : List ℕ) : Type 0 where
+  pub sample : (k : ℕ) → (k + 1) * 4 ≤ length bytes → u32At bytes (4 * k) % 0x8000_0000 ≤ 0x4780_0000
+
+-- the bytes are those of a picture of these sizes, and of numbers
 pub record Picture (bytes : List ℕ) (width height channels : ℕ) : Type 0 where
   pub sizes : Sizes width height
   pub channels-least : 0 < channels
   pub channels-most : channels ≤ 4
   pub whole : length bytes ≡ width * height * channels * 4
+  pub limited : Limited bytes
 
 -- column x, row y lies in the bytes of a picture, whatever its height
 pub record Inside (bytes : List ℕ) (width channels x y : ℕ) : Type 0 where

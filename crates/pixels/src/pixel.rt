@@ -5,22 +5,22 @@ ghost use Prim.Native.Nat.{_+_, _*_, _≤_, _<_};
 ghost use lib.ListN.{length};
 ghost use Rattle.number.specs.Bytes.{sampleAt};
 ghost use Rattle.pixels.specs.Pixel as Pixel;
-ghost use Rattle.pixels.specs.Pixel.{Inside, pixelAt};
+ghost use Rattle.pixels.specs.Pixel.{Limited, Inside, pixelAt};
 use crate::colour::Rgba;
 use crate::colour::grey;
-use number::bytes::f32_at;
+use number::bytes::f32_plain_at;
 
-// The sample numbered k.
-fn sample(picture: &[u8], k: u64) -> f32
-    requires { ⌜ (k + 1) * 4 ≤ length (now picture) ⌝ }
+// The sample numbered k, which is no NaN.
+pub fn sample(picture: &[u8], k: u64) -> f32
+    requires { ⌜ ((k + 1) * 4 ≤ length (now picture)) × Limited (now picture) ⌝ }
     ensures { λ r. ⌜ r ≡ sampleAt (now (picture .entry)) k ⌝ }
 {
-    f32_at(picture, 4 * k as usize)
+    f32_plain_at(picture, 4 * k as usize)
 }
 
 // The pixel whose first sample is numbered k. A picture of one channel has no second sample to read.
 fn widened(picture: &[u8], channels: u64, k: u64) -> Rgba
-    requires { ⌜ (0 < channels) × ((k + channels) * 4 ≤ length (now picture)) ⌝ }
+    requires { ⌜ ((0 < channels) × ((k + channels) * 4 ≤ length (now picture))) × Limited (now picture) ⌝ }
     ensures { λ r. ⌜ r ≡ Pixel.widened (now (picture .entry)) channels k ⌝ }
 {
     if channels == 4 {

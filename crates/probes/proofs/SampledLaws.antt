@@ -12,7 +12,8 @@ use borrow.Author.Tests.{eqb-true, eqb-false, ltb-false, not-false}
 use Rattle.number_probes.specs.Size.{wrongSize}
 use Rattle.probes.specs.Sampled.{wrongChannels, wrongPicture, wrongCodes, large, beyond, outside}
 use Rattle.taps.specs.Cell.{reach, Reached}
-use Rattle.pixels.specs.Pixel.{Picture, Inside}
+use Rattle.pixels.specs.Pixel.{Sizes, Picture, Inside}
+use Rattle.pixels.proofs.LimitedLaws.{limited-by}
 use Rattle.number.specs.Magnitude.{within}
 
 or-false : (a b : Bool) → (a || b) ≡ false → (a ≡ false) × (b ≡ false)
@@ -45,9 +46,16 @@ area-small w h a b = mul-le-mul a b
 pub samples-small : (w h c : ℕ) → w ≤ 4096 → h ≤ 4096 → c ≤ 4 → w * h * c ≤ 67108864
 samples-small w h c a b d = mul-le-mul (area-small w h a b) d
 
-pub picture-fit : (bytes : List ℕ) (w h c : ℕ) → wrongPicture bytes w h c ≡ false → Picture bytes w h c
+-- the sizes of a picture, whatever its samples
+pub record Shaped (bytes : List ℕ) (width height channels : ℕ) : Type 0 where
+  pub sizes : Sizes width height
+  pub channels-least : 0 < channels
+  pub channels-most : channels ≤ 4
+  pub whole : length bytes ≡ width * height * channels * 4
+
+pub shape-fit : (bytes : List ℕ) (w h c : ℕ) → wrongPicture bytes w h c ≡ false → Shaped bytes w h c
 unfolding wrongPicture
-picture-fit bytes w h c f =
+shape-fit bytes w h c f =
     let t = or-false (wrongSize w) (wrongSize h || (wrongChannels c || not (eqb (length bytes) (w * h * c * 4)))) f in
     let u = or-false (wrongSize h) (wrongChannels c || not (eqb (length bytes) (w * h * c * 4))) (t .1) in
     let v = or-false (wrongChannels c) (not (eqb (length bytes) (w * h * c * 4))) (u .1) in
@@ -58,6 +66,12 @@ picture-fit bytes w h c f =
       whole = eqb-true (length bytes) (w * h * c * 4) (not-false (eqb (length bytes) (w * h * c * 4)) (v .1));
     }
 
+pub picture-fit : (bytes : List ℕ) (w h c : ℕ) → wrongPicture bytes w h c ≡ false → large bytes (w * h * c) ≡ false → Picture bytes w h c
+unfolding large
+picture-fit bytes w h c f l =
+    let s = shape-fit bytes w h c f in
+    record { sizes = s .sizes; channels-least = s .channels-least; channels-most = s .channels-most; whole = s .whole; limited = limited-by bytes (w * h * c) (s .whole) l }
+
 pub reached : (x : ℕ) → beyond x ≡ false → Reached (ofBits binary64 x)
 unfolding beyond
 reached x h = holds (within reach (ofBits binary64 x)) (not-false (within reach (ofBits binary64 x)) h)
@@ -67,7 +81,7 @@ reached x h = holds (within reach (ofBits binary64 x)) (not-false (within reach 
     holds false e = absurd (true≢false (sym e))
 
 pub outside-fit : (bytes : List ℕ) (w h c policy code : ℕ) (background : List ℕ) (x y : ℕ) → outside bytes w h c policy code background x y ≡ false
-    → Picture bytes w h c × (Reached (ofBits binary64 x) × Reached (ofBits binary64 y))
+    → Picture bytes w h c × ((large background 4 ≡ false) × (Reached (ofBits binary64 x) × Reached (ofBits binary64 y)))
 unfolding outside
 outside-fit bytes w h c policy code background x y f =
     let r : Bool = beyond x || beyond y in
@@ -78,17 +92,19 @@ outside-fit bytes w h c policy code background x y f =
     let v = or-false (large bytes (w * h * c)) q (u .1) in
     let k = or-false (large background 4) r (v .1) in
     let l = or-false (beyond x) (beyond y) (k .1) in
-    (picture-fit bytes w h c (t .0), (reached x (l .0), reached y (l .1)))
+    (picture-fit bytes w h c (t .0) (v .0), (k .0, (reached x (l .0), reached y (l .1))))
 
 -- the background is a picture of one pixel
-pub one-pixel : (bytes : List ℕ) → length bytes ≡ 16 → Inside bytes 1 4 0 0
-one-pixel bytes e = record {
+pub one-pixel : (bytes : List ℕ) → length bytes ≡ 16 → large bytes 4 ≡ false → Inside bytes 1 4 0 0
+unfolding large
+one-pixel bytes e l = record {
   height = 1;
   picture = record {
     sizes = record { wide = lit≤ tt; width-most = lit≤ tt; high = lit≤ tt; height-most = lit≤ tt };
     channels-least = lit≤ tt;
     channels-most = lit≤ tt;
     whole = e;
+    limited = limited-by bytes 4 e l;
   };
   column = lit≤ tt;
   row = lit≤ tt;

@@ -85,6 +85,13 @@ fn stored(head: &[u8; 144], answer: &mut [u8; 48], expected: &mut [u8], n: usize
     fill(expected, n)
 }
 
+// The word numbered k of a job's head.
+fn word(head: &[u8; 144], k: usize) -> u64
+    requires { ⌜ k ≤ 17 ⌝ }
+{
+    u64_at(head, 8 * k)
+}
+
 // The call of a job.
 fn call(
     head: &[u8; 144],
@@ -96,23 +103,23 @@ fn call(
 ) -> Answer {
     distort(
         picture,
-        u64_at(head, 0),
-        u64_at(head, 8),
-        u64_at(head, 16),
-        u64_at(head, 24),
+        word(head, 0),
+        word(head, 1),
+        word(head, 2),
+        word(head, 3),
         arguments,
-        u64_at(head, 32),
-        u64_at(head, 40),
+        word(head, 4),
+        word(head, 5),
         background,
         matte,
-        u64_at(head, 48),
-        u64_at(head, 56),
-        u64_at(head, 64),
-        u64_at(head, 72),
-        signed(u64_at(head, 80)),
-        signed(u64_at(head, 88)),
-        u64_at(head, 96),
-        u64_at(head, 104),
+        word(head, 6),
+        word(head, 7),
+        word(head, 8),
+        word(head, 9),
+        signed(word(head, 10)),
+        signed(word(head, 11)),
+        word(head, 12),
+        word(head, 13),
         band,
     )
 }

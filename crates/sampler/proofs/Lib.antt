@@ -4,3 +4,5 @@ pub mod AtOpaque
 pub mod BilinearOpaque
 pub mod InterpolateCode
 pub mod InterpolateFinite
+pub mod OpaqueCode
+pub mod SixteenCode

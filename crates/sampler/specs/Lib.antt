@@ -2,3 +2,4 @@
 pub mod Finite
 pub mod Interpolate
 pub mod Opaque
+pub mod Sixteen

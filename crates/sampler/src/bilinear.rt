@@ -15,7 +15,7 @@ ghost use Rattle.taps.specs.Weights.{corners, weights};
 use number::pattern::bits_of_i64;
 use pixels::colour::Rgba;
 use pixels::pixel::pixel;
-use taps::cell::first;
+use taps::cell::below;
 use taps::cell::fraction;
 use taps::taps::tap;
 use taps::weighted::added;
@@ -59,7 +59,7 @@ fn inside(
 }
 
 // Those of any cell.
-fn anywhere(
+pub fn anywhere(
     picture: &[u8],
     width: u64,
     height: u64,
@@ -183,9 +183,9 @@ pub fn bilinear(
     ensures { λ r.
         ⌜ r ≡ Interpolate.several Bilinear (at (now (picture .entry)) width height channels policy background) x y ⌝ }
 {
-    let column = first(5, x);
+    let column = below(x);
     let tx = fraction(x);
-    let row = first(5, y);
+    let row = below(y);
     let ty = fraction(y);
     around(
         picture,

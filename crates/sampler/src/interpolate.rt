@@ -1,12 +1,14 @@
 // The colour at a point of index space, by the interpolation's code: one tap alone, the weighted mean of several, or the background. Assumes
 // that the bytes are a picture's, and the point's coordinates at most 2^30 + 1 in magnitude.
 ghost use mathlib.Core.Path.{_≡_};
+ghost use Prim.Native.Nat.{_≤_, _<_};
 ghost use Rattle.pixels.specs.At.{at};
 ghost use Rattle.taps.specs.Cell.{Reached, cell};
 ghost use Rattle.sampler.specs.Interpolate as Interpolate;
 ghost use Rattle.taps.specs.Interpolation.{interpolation};
 ghost use Rattle.pixels.specs.Pixel.{Picture};
 use crate::bilinear::bilinear;
+use crate::sixteen::cubic3;
 use crate::square::several;
 use pixels::at::at;
 use pixels::colour::Rgba;
@@ -41,6 +43,39 @@ fn single(
     )
 }
 
+// `Catrom` and `Spline`. A picture of three channels has a way of its own.
+fn cubic(
+    picture: &[u8],
+    width: u64,
+    height: u64,
+    channels: u64,
+    policy: u64,
+    code: u64,
+    background: Rgba,
+    x: f64,
+    y: f64,
+) -> Rgba
+    requires { ⌜ Picture (now picture) width height channels ⌝ }
+    requires { ⌜ Reached x × Reached y ⌝ }
+    requires { ⌜ (6 ≤ code) × (code < 8) ⌝ }
+    ensures { λ r. ⌜ r ≡ Interpolate.interpolate (now (picture .entry)) width height channels policy code background x y ⌝ }
+{
+    if channels == 3 {
+        return cubic3(picture, width, height, policy, code, background, x, y);
+    }
+    several(
+        picture,
+        width,
+        height,
+        channels,
+        policy,
+        code,
+        background,
+        x,
+        y,
+    )
+}
+
 pub fn interpolate(
     picture: &[u8],
     width: u64,
@@ -68,7 +103,18 @@ pub fn interpolate(
             x,
             y,
         ),
-        2 | 3 | 4 | 6 | 7 => several(
+        6 | 7 => cubic(
+            picture,
+            width,
+            height,
+            channels,
+            policy,
+            code,
+            background,
+            x,
+            y,
+        ),
+        2 | 3 | 4 => several(
             picture,
             width,
             height,

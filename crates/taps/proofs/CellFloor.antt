@@ -1,6 +1,6 @@
 -- A point that is reached lies in the cell that the code gives it: the floor of a float is the floor of its value, by the laws of the division that both are; the
 -- floor as a float has that value too, and narrowing is one rounding. So the exact law of a cell applies.
--- Provides: `floor-value`, `narrow-rounds`, `cell-law`; `reached-of`, `less-half-reached`, `usable-reached` (a usable coordinate less 0.5 is reached). Assumes nothing.
+-- Provides: `floor-value`, `narrow-rounds`, `rest-number`, `cell-law`; `reached-of`, `less-half-reached`, `usable-reached` (a usable coordinate less 0.5 is reached). Assumes nothing.
 use mathlib.Core.Path.{_≡_, refl, sym, ap, _∙_, subst}
 use mathlib.Core.Bool.{Bool, true, false, not, cond}
 use Prim.Native.Nat.{ℕ, zero, suc, _+_, _*_, _^_, _≤_, _<_}
@@ -8,7 +8,7 @@ use native.Mathlib.Nat.{le-trans, zero-mul}
 use native.Mathlib.Omega.{arith}
 use lib.IntN.{ℤ, pos, negsuc, natAbs, sucℤ}
 use lib.Dec.{T, le→leb, lt→ltb, eqb→eq, lit≤}
-use lib.Ieee.{Float, nan, inf, fin, binary32, binary64, up, down, round, ofInt, inFloat, ofBits}
+use lib.Ieee.{Float, nan, inf, fin, binary32, binary64, up, down, round, ofInt, inFloat, isNan, ofBits}
 use lib.Ieee.Fits.{down-pos}
 use lib.Ieee.Scale.{finite}
 use Rattle.exact.specs.Double.{_⊖_}
@@ -125,6 +125,15 @@ module _ (x : Float) (r : Reached x) where
             subst (λ (y : Float). T (finite y)) (sym e) (v .0),
             subst (λ (y : Float). value y ≈ whole (floorF (value x))) (sym e) (subst (λ (j : ℤ). value (ofInt binary64 (floorℤ x)) ≈ whole j) (sym (floor-value x n)) (v .1)),
           )
+
+  -- what x has beyond its floor
+  pub rest-number : T (not (isNan (x ⊖ floorF64 x)))
+  rest-number = finite-number (x ⊖ floorF64 x) (cell-rest x (floorF64 x) (reached-number x r) (float-floor .0) (float-floor .1) .0)
+    where
+      finite-number : (y : Float) → T (finite y) → T (not (isNan y))
+      finite-number nan h = absurd h
+      finite-number (inf s) h = absurd h
+      finite-number (fin s m e) h = unfold isNan in tt
 
   pub cell-law : Cell x (floorI64 x) (fraction x)
   cell-law =

@@ -6,8 +6,7 @@ use mir.ValLaws.{toZ-ofZ}
 use borrow.Author.Needs.{needs}
 use denote.Ref.{now}
 use Rattle.distort.specs.Job.{Call, callOf}
-use Rattle.distort.proofs.DistortLaws.{by-tests, by-fit, by-window, picture-known, channels-known}
-use Rattle.distort.proofs.SizeLaws.{one-pixel}
+use Rattle.distort.proofs.DistortLaws.{by-tests, by-fit, by-window, picture-known, background-known, matte-known, channels-known}
 use Rattle.distort.proofs.ViewLaws.{yes-flag, read-if}
 use Rattle.distort.proofs.call.distort.Statement.{statement}
 use Rattle.distort.proofs.call.distort.Tie as tie
@@ -22,6 +21,12 @@ returns c = by-tests (made (c .before .before .before .before .before)) (c .befo
 
 returns-2 : tie.Need-returns-2
 returns-2 c = by-fit (made (c .before .before .before .before .before .before .before)) (c .before .before .before .unfit .ensures) (c .before .before .if1 .left) (c .before .build .ensures) (c .if2 .taken)
+
+pixel-requires : tie.Need-pixel-requires
+pixel-requires c κs = background-known (made (c .before .before .before .before .before .before .before .before .before .before)) (c .before .before .before .before .before .before .unfit .ensures) (c .before .before .before .before .before .if1 .left) (search needs)
+
+pixel-requires-2 : tie.Need-pixel-requires-2
+pixel-requires-2 c κs = matte-known (made (c .before .before .before .before .before .before .before .before .before .before .before .before)) (c .before .before .before .before .before .before .before .before .unfit .ensures) (c .before .before .before .before .before .before .before .if1 .left) (search needs)
 
 windowed-requires : tie.Need-windowed-requires
 windowed-requires c κs =
@@ -44,8 +49,8 @@ distort-spec =
     returns
     (λ c κs. search needs)
     returns-2
-    (λ c κs. one-pixel _ (search needs))
-    (λ c κs. one-pixel _ (search needs))
+    pixel-requires
+    pixel-requires-2
     (λ c κs. search needs)
     (λ c κs. search needs)
     (λ c κs. search needs)

@@ -15,7 +15,7 @@ mul-widened-2 : tie.Need-mul-widened-2
 mul-widened-2 c = omega (arith, sample-small _ _ _ _ _ (c .before .pre))
 
 widened-requires : tie.Need-widened-requires
-widened-requires c κs = (c .before .pre .picture .channels-least, room _ _ _ _ _ (c .before .pre))
+widened-requires c κs = ((c .before .pre .picture .channels-least, room _ _ _ _ _ (c .before .pre)), c .before .pre .picture .limited)
 
 returns : tie.Need-returns
 unfolding pixelAt

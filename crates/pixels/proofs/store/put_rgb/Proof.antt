@@ -1,38 +1,19 @@
--- `sampler::store::put_rgb` meets its contract: one sample after the other. Assumes nothing.
-use mathlib.Core.Path.{_∙_}
+-- `pixels::store::put_rgb` meets its contract: what equals itself is a number. Assumes nothing.
+use mathlib.Core.Path.{_≡_, ap, _∙_}
+use mathlib.Core.Bool.{true, false, not}
 use borrow.Author.Needs.{needs}
+use lib.Dec.{T}
+use lib.Ieee.{Float, eq, ne, isNan}
+use Rattle.exact.proofs.Nan.{number-test}
 use Rattle.pixels.proofs.store.put_rgb.Statement.{statement}
 use Rattle.pixels.proofs.store.put_rgb.Tie as tie
 
-put-sample-requires : tie.Need-put-sample-requires
-put-sample-requires c κs = search needs
+equals-itself : (x : Float) → eq x x ≡ true → T (not (isNan x))
+equals-itself x e = number-test x (unfold ne in ap not e)
 
-add-put-sample : tie.Need-add-put-sample
-add-put-sample c = search needs
-
-put-sample-requires-2 : tie.Need-put-sample-requires-2
-put-sample-requires-2 c κs = search needs
-
-add-put-sample-2 : tie.Need-add-put-sample-2
-add-put-sample-2 c = search needs
-
-put-sample-requires-3 : tie.Need-put-sample-requires-3
-put-sample-requires-3 c κs = search needs
-
-same-length : tie.Need-same-length
-same-length c = search needs
-
-returns : tie.Need-returns
-returns c = c .before .before .put-sample3 .ensures ∙ rw (c .before .before .before .before .before .before .put-sample2 .ensures, c .before .before .before .before .before .before .before .before .before .before .put-sample .ensures)
+put-numbers-requires : tie.Need-put-numbers-requires
+put-numbers-requires c κs =
+    (search needs, (equals-itself _ (c .before .before .before .before .before .if1 .taken), (equals-itself _ (c .before .before .before .if2 .taken), equals-itself _ (c .before .if3 .taken))))
 
 pub put-rgb-spec : {M : Type 1} → statement M
-put-rgb-spec =
-    tie.close
-    (tie.spec
-    put-sample-requires
-    add-put-sample
-    put-sample-requires-2
-    add-put-sample-2
-    put-sample-requires-3
-    same-length
-    returns)
+put-rgb-spec = tie.close (tie.spec put-numbers-requires (λ c. search needs) (λ c. search needs) (λ c κs. search needs) (λ c. search needs) (λ c. search needs))

@@ -19,7 +19,7 @@ unfolding probeSamples
 returns-2 c = rw (eq-eqb _ _ (c .before .before .if1 .left), ← c .before .outside .ensures, c .if2 .taken)
 
 pixel-requires : tie.Need-pixel-requires
-pixel-requires c κs = one-pixel _ (search needs)
+pixel-requires c κs = one-pixel _ (search needs) (outside-fit _ _ _ _ _ _ _ _ _ (sym (c .before .before .outside .ensures) ∙ c .before .if2 .left) .1 .0)
 
 put-samples-requires : tie.Need-put-samples-requires
 put-samples-requires c κs = (outside-fit _ _ _ _ _ _ _ _ _ (sym (c .before .before .before .before .outside .ensures) ∙ c .before .before .before .if2 .left) .0, c .before .before .before .before .before .if1 .left)

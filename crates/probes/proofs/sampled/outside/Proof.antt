@@ -2,7 +2,7 @@
 use mathlib.Core.Path.{sym, _∙_}
 use native.Mathlib.Omega.{arith}
 use Rattle.probes.specs.Sampled.{outside}
-use Rattle.probes.proofs.SampledLaws.{picture-fit, area-small, samples-small}
+use Rattle.probes.proofs.SampledLaws.{shape-fit, area-small, samples-small}
 use borrow.Author.Needs.{needs}
 use Rattle.probes.proofs.sampled.outside.Statement.{statement}
 use Rattle.probes.proofs.sampled.outside.Tie as tie
@@ -22,13 +22,13 @@ unfolding outside
 returns-2 c = rw (← c .before .before .before .wrong-picture .ensures, c .before .before .if1 .left, ← c .before .wrong-codes .ensures, c .if2 .taken)
 
 mul-large : tie.Need-mul-large
-mul-large c = let p = picture-fit _ _ _ _ (sym (c .before .before .before .wrong-picture .ensures) ∙ c .before .before .if1 .left) in omega (arith, area-small _ _ (p .sizes .width-most) (p .sizes .height-most))
+mul-large c = let p = shape-fit _ _ _ _ (sym (c .before .before .before .wrong-picture .ensures) ∙ c .before .before .if1 .left) in omega (arith, area-small _ _ (p .sizes .width-most) (p .sizes .height-most))
 
 mul-large-2 : tie.Need-mul-large-2
-mul-large-2 c = let p = picture-fit _ _ _ _ (sym (c .before .before .before .wrong-picture .ensures) ∙ c .before .before .if1 .left) in omega (arith, samples-small _ _ _ (p .sizes .width-most) (p .sizes .height-most) (p .channels-most))
+mul-large-2 c = let p = shape-fit _ _ _ _ (sym (c .before .before .before .wrong-picture .ensures) ∙ c .before .before .if1 .left) in omega (arith, samples-small _ _ _ (p .sizes .width-most) (p .sizes .height-most) (p .channels-most))
 
 large-requires : tie.Need-large-requires
-large-requires c κs = let p = picture-fit _ _ _ _ (sym (c .before .before .before .wrong-picture .ensures) ∙ c .before .before .if1 .left) in omega (arith, p .whole)
+large-requires c κs = let p = shape-fit _ _ _ _ (sym (c .before .before .before .wrong-picture .ensures) ∙ c .before .before .if1 .left) in omega (arith, p .whole)
 
 returns-3 : tie.Need-returns-3
 unfolding outside

@@ -15,10 +15,10 @@ unfolding probeInterpolate
 returns c = rw (← c .before .outside .ensures, c .if1 .taken)
 
 pixel-requires : tie.Need-pixel-requires
-pixel-requires c κs = one-pixel _ (search needs)
+pixel-requires c κs = one-pixel _ (search needs) (outside-fit _ _ _ _ _ _ _ _ _ (sym (c .before .before .outside .ensures) ∙ c .before .if1 .left) .1 .0)
 
 put-colour-requires : tie.Need-put-colour-requires
-put-colour-requires c κs = let f = outside-fit _ _ _ _ _ _ _ _ _ (sym (c .before .before .before .before .outside .ensures) ∙ c .before .before .before .if1 .left) in (f .0, (f .1, search needs))
+put-colour-requires c κs = let f = outside-fit _ _ _ _ _ _ _ _ _ (sym (c .before .before .before .before .outside .ensures) ∙ c .before .before .before .if1 .left) in (f .0, (f .1 .1, search needs))
 
 returns-2 : tie.Need-returns-2
 unfolding probeInterpolate

@@ -1,20 +1,20 @@
 -- `sampler::bilinear::bilinear` meets its contract: the cell and the fractions of the point. Assumes nothing.
 use mathlib.Core.Path.{_∙_}
-use Rattle.taps.specs.Interpolation.{interpolation}
+use Rattle.taps.specs.Interpolation.{Bilinear}
 use Rattle.taps.proofs.CellLaws.{first-small}
 use Rattle.taps.proofs.SignedCode.{again, asked}
 use borrow.Author.Needs.{needs}
 use Rattle.sampler.proofs.bilinear.bilinear.Statement.{statement}
 use Rattle.sampler.proofs.bilinear.bilinear.Tie as tie
 
-first-requires : tie.Need-first-requires
-first-requires c κs = search needs
+below-requires : tie.Need-below-requires
+below-requires c κs = search needs
 
 fraction-requires : tie.Need-fraction-requires
 fraction-requires c κs = search needs
 
-first-requires-2 : tie.Need-first-requires-2
-first-requires-2 c κs = search needs
+below-requires-2 : tie.Need-below-requires-2
+below-requires-2 c κs = search needs
 
 fraction-requires-2 : tie.Need-fraction-requires-2
 fraction-requires-2 c κs = search needs
@@ -22,24 +22,23 @@ fraction-requires-2 c κs = search needs
 around-requires : tie.Need-around-requires
 around-requires c κs =
     let a = c .before .before .before .before .before in
-    let i = c .before .before .before .first in
-    let j = c .before .first2 in
-    (search needs, (asked 2147483649 (i .result) (i .ok) (i .ensures) (first-small (interpolation 5) (a .args .x) (search needs)), asked 2147483649 (j .result) (j .ok) (j .ensures) (first-small (interpolation 5) (a .args .y) (search needs))))
+    let i = c .before .before .before .below in
+    let j = c .before .below2 in
+    (search needs, (asked 2147483649 (i .result) (i .ok) (i .ensures) (first-small Bilinear (a .args .x) (search needs)), asked 2147483649 (j .result) (j .ok) (j .ensures) (first-small Bilinear (a .args .y) (search needs))))
 
 returns : tie.Need-returns
-unfolding interpolation
 returns c =
-    let i = c .before .before .before .before .first in
-    let j = c .before .before .first2 in
+    let i = c .before .before .before .before .below in
+    let j = c .before .before .below2 in
     c .around .ensures ∙ rw (again (i .result) (i .ok) (i .ensures), again (j .result) (j .ok) (j .ensures), c .before .before .before .fraction .ensures, c .before .fraction2 .ensures)
 
 pub bilinear-spec : {M : Type 1} → statement M
 bilinear-spec =
     tie.close
     (tie.spec
-    first-requires
+    below-requires
     fraction-requires
-    first-requires-2
+    below-requires-2
     fraction-requires-2
     around-requires
     returns)

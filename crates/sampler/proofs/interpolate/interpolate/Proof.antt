@@ -1,12 +1,23 @@
 -- `sampler::interpolate::interpolate` meets its contract: each way serves its own codes, and the background is left for the others. Assumes nothing.
-use mathlib.Core.Path.{sym, _∙_}
-use Rattle.sampler.specs.Interpolate.{interpolate}
+use mathlib.Core.Path.{_≡_, sym, _∙_}
+use Prim.Native.Nat.{ℕ, _≤_, _<_}
+use native.Mathlib.Omega.{arith}
 use Rattle.taps.specs.Interpolation.{interpolation}
 use Rattle.taps.proofs.InterpolationCode.{background-code}
+use Rattle.sampler.specs.Interpolate.{interpolate}
 use Rattle.sampler.proofs.InterpolateCode.{single-code, several-code}
+use mathlib.Core.Path.{_≡_, refl, sym, ap, _∙_}
+use Prim.Native.Nat.{ℕ, _+_, _-_, _≤_, _<_}
+use native.Mathlib.Omega.{arith}
 use borrow.Author.Needs.{needs}
 use Rattle.sampler.proofs.interpolate.interpolate.Statement.{statement}
 use Rattle.sampler.proofs.interpolate.interpolate.Tie as tie
+
+six : (n : ℕ) → 5 ≤ n → (n ≡ 5 → ⊥) → 6 ≤ n
+six n h k = omega arith
+
+below : (n : ℕ) → n < 5 → n < 8
+below n h = omega arith
 
 bilinear-requires : tie.Need-bilinear-requires
 bilinear-requires c κs = search needs
@@ -16,6 +27,9 @@ single-requires c κs = search needs
 
 several-requires : tie.Need-several-requires
 several-requires c κs = search needs
+
+cubic-requires : tie.Need-cubic-requires
+cubic-requires c κs = (search needs, (search needs, (six _ (c .before .if2 .left) (c .before .before .before .match .rest .1), c .if3 .taken)))
 
 returns : tie.Need-returns
 unfolding interpolate interpolation
@@ -27,11 +41,14 @@ returns-2 c = c .single .ensures ∙ sym (single-code _ _ _ _ _ (c .before .if1 
 
 returns-3 : tie.Need-returns-3
 unfolding interpolate
-returns-3 c = c .several .ensures ∙ sym (several-code _ _ _ _ _ (c .before .before .if1 .left) (c .before .if2 .taken))
+returns-3 c = c .several .ensures ∙ sym (several-code _ _ _ _ _ (c .before .before .if1 .left) (below _ (c .before .if2 .taken)))
 
 returns-4 : tie.Need-returns-4
+returns-4 c = c .cubic .ensures
+
+returns-5 : tie.Need-returns-5
 unfolding interpolate
-returns-4 c = rw (background-code _ (c .if2 .left))
+returns-5 c = rw (background-code _ (c .if3 .left))
 
 pub interpolate-spec : {M : Type 1} → statement M
 interpolate-spec =
@@ -40,7 +57,9 @@ interpolate-spec =
     bilinear-requires
     single-requires
     several-requires
+    cubic-requires
     returns
     returns-2
     returns-3
-    returns-4)
+    returns-4
+    returns-5)

@@ -26,26 +26,26 @@ rounded-requires-2 c κs = search needs
 before-requires : tie.Need-before-requires
 before-requires c κs = asked 2147483648 (c .rounded2 .result) (c .rounded2 .ok) (c .rounded2 .ensures) (rounded-small _ (c .before .before .pre))
 
-floor-i64-requires : tie.Need-floor-i64-requires
-floor-i64-requires c κs = search needs
+below-requires : tie.Need-below-requires
+below-requires c κs = search needs
 
 before-requires-2 : tie.Need-before-requires-2
-before-requires-2 c κs = asked 2147483648 (c .floor-i64 .result) (c .floor-i64 .ok) (c .floor-i64 .ensures) (floor-small _ (c .before .before .pre))
+before-requires-2 c κs = asked 2147483648 (c .below .result) (c .below .ok) (c .below .ensures) (floor-small _ (c .before .before .pre))
 
-floor-i64-requires-2 : tie.Need-floor-i64-requires-2
-floor-i64-requires-2 c κs = search needs
+below-requires-2 : tie.Need-below-requires-2
+below-requires-2 c κs = search needs
 
 before-requires-3 : tie.Need-before-requires-3
-before-requires-3 c κs = asked 2147483648 (c .floor-i642 .result) (c .floor-i642 .ok) (c .floor-i642 .ensures) (floor-small _ (c .before .before .pre))
+before-requires-3 c κs = asked 2147483648 (c .below2 .result) (c .below2 .ok) (c .below2 .ensures) (floor-small _ (c .before .before .pre))
 
-floor-i64-requires-3 : tie.Need-floor-i64-requires-3
-floor-i64-requires-3 c κs = search needs
+below-requires-3 : tie.Need-below-requires-3
+below-requires-3 c κs = search needs
 
 before-requires-4 : tie.Need-before-requires-4
-before-requires-4 c κs = asked 2147483648 (c .floor-i643 .result) (c .floor-i643 .ok) (c .floor-i643 .ensures) (floor-small _ (c .before .before .pre))
+before-requires-4 c κs = asked 2147483648 (c .below3 .result) (c .below3 .ok) (c .below3 .ensures) (floor-small _ (c .before .before .pre))
 
-floor-i64-requires-4 : tie.Need-floor-i64-requires-4
-floor-i64-requires-4 c κs = search needs
+below-requires-4 : tie.Need-below-requires-4
+below-requires-4 c κs = search needs
 
 returns : tie.Need-returns
 unfolding interpolation
@@ -57,18 +57,18 @@ returns-2 c = rw (c .before .before .match .keys2) (step (c .before2 .result) (c
 
 returns-3 : tie.Need-returns-3
 unfolding interpolation
-returns-3 c = rw (c .before .before .match .keys3) (step (c .before3 .result) (c .before .floor-i64 .result) (c .before3 .ok) (c .before .floor-i64 .ok) (c .before .floor-i64 .ensures) (c .before3 .ensures))
+returns-3 c = rw (c .before .before .match .keys3) (step (c .before3 .result) (c .before .below .result) (c .before3 .ok) (c .before .below .ok) (c .before .below .ensures) (c .before3 .ensures))
 
 returns-4 : tie.Need-returns-4
 unfolding interpolation
-returns-4 c = rw (c .before .before .match .keys4) (step (c .before4 .result) (c .before .floor-i642 .result) (c .before4 .ok) (c .before .floor-i642 .ok) (c .before .floor-i642 .ensures) (c .before4 .ensures))
+returns-4 c = rw (c .before .before .match .keys4) (step (c .before4 .result) (c .before .below2 .result) (c .before4 .ok) (c .before .below2 .ok) (c .before .below2 .ensures) (c .before4 .ensures))
 
 returns-5 : tie.Need-returns-5
 unfolding interpolation
-returns-5 c = rw (c .before .before .match .keys5) (step (c .before5 .result) (c .before .floor-i643 .result) (c .before5 .ok) (c .before .floor-i643 .ok) (c .before .floor-i643 .ensures) (c .before5 .ensures))
+returns-5 c = rw (c .before .before .match .keys5) (step (c .before5 .result) (c .before .below3 .result) (c .before5 .ok) (c .before .below3 .ok) (c .before .below3 .ensures) (c .before5 .ensures))
 
 returns-6 : tie.Need-returns-6
-returns-6 c = again (c .floor-i644 .result) (c .floor-i644 .ok) (c .floor-i644 .ensures ∙ sym (first-plain _ _ (c .before .match .rest)))
+returns-6 c = again (c .below4 .result) (c .below4 .ok) (c .below4 .ensures ∙ sym (first-plain _ _ (c .before .match .rest)))
 
 pub first-spec : {M : Type 1} → statement M
 first-spec =
@@ -77,13 +77,13 @@ first-spec =
     rounded-requires
     rounded-requires-2
     before-requires
-    floor-i64-requires
+    below-requires
     before-requires-2
-    floor-i64-requires-2
+    below-requires-2
     before-requires-3
-    floor-i64-requires-3
+    below-requires-3
     before-requires-4
-    floor-i64-requires-4
+    below-requires-4
     returns
     returns-2
     returns-3

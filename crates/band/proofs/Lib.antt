@@ -1,0 +1,7 @@
+-- The laws of the band.
+pub mod JoinedLaws
+pub mod LengthLaws
+pub mod PixelLaws
+pub mod ReachLaws
+pub mod RowLaws
+pub mod StretchLaws

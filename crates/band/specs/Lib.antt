@@ -1,0 +1,4 @@
+-- The definitions of the band.
+pub mod Band
+pub mod Image
+pub mod Joined

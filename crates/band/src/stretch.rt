@@ -1,0 +1,202 @@
+// A stretch of a row: up to 64 neighbouring pixels, whose source points are worked out first and kept as two arrays of coordinates, and whose colours
+// come then. So each of the two is a loop that does one thing. Assumes that the bytes are a picture's and that the band has room for the stretch.
+ghost use mathlib.Core.Path.{_≡_};
+ghost use mathlib.Core.Logic.{_⊎_};
+ghost use mathlib.Core.List.{_++_};
+ghost use Prim.Native.Nat.{ℕ, _+_, _*_, _≤_};
+ghost use lib.IntN.{natAbs};
+ghost use lib.ListN.{length, take, drop};
+ghost use Rattle.matrix.specs.Matrix as Vectors;
+ghost use Rattle.pixels.specs.Pixel.{Picture};
+ghost use Rattle.band.specs.Band.{colourAt, matteAt, keptColour, keptMatte, pixelBytes};
+ghost use Rattle.band.specs.Joined.{joined, totalled};
+use crate::pixel::put_one;
+use crate::three::put_bilinear;
+use crate::three::put_single;
+use inverse::points::points;
+use pixels::colour::Rgba;
+
+// The colours of n pixels, by any interpolation, put `depth` samples a pixel from the band's pixel numbered `place` on; and how many are matte.
+fn put_any(
+    picture: &[u8],
+    width: u64,
+    height: u64,
+    channels: u64,
+    policy: u64,
+    interpolation: u64,
+    background: Rgba,
+    matte: Rgba,
+    depth: u64,
+    us: &[f64; 64],
+    vs: &[f64; 64],
+    n: usize,
+    place: u64,
+    band: &mut [u8],
+) -> u64
+    requires { ⌜ Picture (now picture) width height channels ⌝ }
+    requires { ⌜ (depth ≡ 1) ⊎ ((depth ≡ 3) ⊎ (depth ≡ 4)) ⌝ }
+    requires { ⌜ n ≤ 64 ⌝ }
+    requires { ⌜ (place + n) * depth * 4 ≤ length (now band) ⌝ }
+    ensures { λ r.
+        ⌜ (r ≡ totalled (λ (k : ℕ). keptMatte (Vectors.at (now (us .entry)) k) (Vectors.at (now (vs .entry)) k)) n) × (now (band .exit) ≡ take (place * depth * 4) (now (band .entry)) ++ joined (λ (k : ℕ). pixelBytes depth (keptColour (record { image = record { bytes = now (picture .entry); width = width; height = height; channels = channels }; policy = policy; interpolation = interpolation; background = background; matte = matte }) (Vectors.at (now (us .entry)) k) (Vectors.at (now (vs .entry)) k))) n ++ drop ((place + n) * depth * 4) (now (band .entry))) ⌝ }
+{
+    let mut missed = 0;
+    for k in 0..n {
+        missed = missed
+            + put_one(
+                picture,
+                width,
+                height,
+                channels,
+                policy,
+                interpolation,
+                background,
+                matte,
+                depth,
+                us[k],
+                vs[k],
+                place + k as u64,
+                band,
+            );
+    }
+    missed
+}
+
+// The colours of n pixels by the loop that is made for them, or by `put_any`: put `depth` samples a pixel from the band's pixel numbered `place` on; and how many are matte.
+fn put_colours(
+    picture: &[u8],
+    width: u64,
+    height: u64,
+    channels: u64,
+    policy: u64,
+    interpolation: u64,
+    background: Rgba,
+    matte: Rgba,
+    depth: u64,
+    us: &[f64; 64],
+    vs: &[f64; 64],
+    n: usize,
+    place: u64,
+    band: &mut [u8],
+) -> u64
+    requires { ⌜ Picture (now picture) width height channels ⌝ }
+    requires { ⌜ (depth ≡ 1) ⊎ ((depth ≡ 3) ⊎ (depth ≡ 4)) ⌝ }
+    requires { ⌜ n ≤ 64 ⌝ }
+    requires { ⌜ (place + n) * depth * 4 ≤ length (now band) ⌝ }
+    ensures { λ r.
+        ⌜ (r ≡ totalled (λ (k : ℕ). keptMatte (Vectors.at (now (us .entry)) k) (Vectors.at (now (vs .entry)) k)) n) × (now (band .exit) ≡ take (place * depth * 4) (now (band .entry)) ++ joined (λ (k : ℕ). pixelBytes depth (keptColour (record { image = record { bytes = now (picture .entry); width = width; height = height; channels = channels }; policy = policy; interpolation = interpolation; background = background; matte = matte }) (Vectors.at (now (us .entry)) k) (Vectors.at (now (vs .entry)) k))) n ++ drop ((place + n) * depth * 4) (now (band .entry))) ⌝ }
+{
+    if channels == 3 && depth == 3 {
+        if interpolation == 5 {
+            return put_bilinear(
+                picture,
+                width,
+                height,
+                policy,
+                background,
+                matte,
+                us,
+                vs,
+                n,
+                place,
+                band,
+            );
+        }
+        if interpolation < 2 {
+            return put_single(
+                picture,
+                width,
+                height,
+                policy,
+                interpolation,
+                background,
+                matte,
+                us,
+                vs,
+                n,
+                place,
+                band,
+            );
+        }
+    }
+    put_any(
+        picture,
+        width,
+        height,
+        channels,
+        policy,
+        interpolation,
+        background,
+        matte,
+        depth,
+        us,
+        vs,
+        n,
+        place,
+        band,
+    )
+}
+
+// The n pixels from column `first` of row j on.
+pub fn put_stretch(
+    picture: &[u8],
+    width: u64,
+    height: u64,
+    channels: u64,
+    policy: u64,
+    interpolation: u64,
+    background: Rgba,
+    matte: Rgba,
+    kind: u64,
+    order: u64,
+    count: u64,
+    coef: &[f64; 256],
+    x: i64,
+    y: i64,
+    depth: u64,
+    first: u64,
+    j: u64,
+    n: usize,
+    place: u64,
+    band: &mut [u8],
+) -> u64
+    requires { ⌜ Picture (now picture) width height channels ⌝ }
+    requires { ⌜ (depth ≡ 1) ⊎ ((depth ≡ 3) ⊎ (depth ≡ 4)) ⌝ }
+    requires { ⌜ (n ≤ 64) × ((first + n ≤ 4096) × (j ≤ 4096)) ⌝ }
+    requires { ⌜ (natAbs x ≤ 1048576) × (natAbs y ≤ 1048576) ⌝ }
+    requires { ⌜ (place + n) * depth * 4 ≤ length (now band) ⌝ }
+    ensures { λ r.
+        ⌜ (r ≡ totalled (λ (k : ℕ). matteAt (record { kind = kind; order = order; count = count; coef = now (coef .entry); x = x; y = y }) (first + k) j) n) × (now (band .exit) ≡ take (place * depth * 4) (now (band .entry)) ++ joined (λ (k : ℕ). pixelBytes depth (colourAt (record { image = record { bytes = now (picture .entry); width = width; height = height; channels = channels }; policy = policy; interpolation = interpolation; background = background; matte = matte }) (record { kind = kind; order = order; count = count; coef = now (coef .entry); x = x; y = y }) (first + k) j)) n ++ drop ((place + n) * depth * 4) (now (band .entry))) ⌝ }
+{
+    let mut us = [0.0; 64];
+    let mut vs = [0.0; 64];
+    points(
+        kind,
+        order,
+        count,
+        coef,
+        x,
+        y,
+        first,
+        j,
+        n,
+        &mut us,
+        &mut vs,
+    );
+    put_colours(
+        picture,
+        width,
+        height,
+        channels,
+        policy,
+        interpolation,
+        background,
+        matte,
+        depth,
+        &us,
+        &vs,
+        n,
+        place,
+        band,
+    )
+}

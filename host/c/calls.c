@@ -4,6 +4,7 @@
  */
 #define _POSIX_C_SOURCE 200809L
 #include "dihyravo.h"
+#include <float.h>
 #include <math.h>
 #include <pthread.h>
 #include <stdio.h>
@@ -14,6 +15,9 @@
 #define WIDTH 4
 #define HEIGHT 3
 #define ROW (WIDTH * sizeof(float))
+/* The next numbers above the limits. */
+#define ABOVE_ARGUMENT (DIHYRAVO_LARGEST_ARGUMENT * (1 + DBL_EPSILON))
+#define ABOVE_SAMPLE (DIHYRAVO_LARGEST_SAMPLE * (1 + FLT_EPSILON))
 
 _Static_assert(sizeof(struct dihyravo_answer) == 48, "the call writes 48 bytes");
 
@@ -173,7 +177,8 @@ static void refused_1_to_3(void)
 {
     struct dihyravo_job job = plain();
     job.width = 0, refused("width 0", 1, job, sizeof grey);
-    job.width = 4097, refused("width 4,097", 1, job, sizeof grey);
+    job.width = DIHYRAVO_LARGEST_SIDE + 1, refused("a width above the largest", 1, job, sizeof grey);
+    job = plain(), job.height = DIHYRAVO_LARGEST_SIDE + 1, refused("a height above the largest", 1, job, sizeof grey);
     job = plain(), job.height = UINT64_MAX, refused("a huge height", 1, job, sizeof grey);
     job = plain(), job.channels = 2, refused("2 channels", 1, job, sizeof grey);
     job = plain(), job.picture_length -= 4, refused("a sample short", 2, job, sizeof grey);
@@ -190,19 +195,24 @@ static void refused_1_to_3(void)
 }
 
 /* So many arguments, each 1, for a method. */
+static struct dihyravo_job with_ones(uint64_t method, size_t count)
+{
+    static double ones[DIHYRAVO_MOST_ARGUMENTS + 4];
+    struct dihyravo_job job = plain();
+    for (size_t k = 0; k < sizeof ones / sizeof *ones; k++) ones[k] = 1;
+    job.method = method, job.arguments = ones, job.arguments_length = count * sizeof(double);
+    return job;
+}
+
 static void refused_count(const char *name, uint64_t method, size_t count)
 {
-    static double ones[300];
-    struct dihyravo_job job = plain();
-    for (size_t k = 0; k < 300; k++) ones[k] = 1;
-    job.method = method, job.arguments = ones, job.arguments_length = count * sizeof(double);
-    refused(name, 4, job, sizeof grey);
+    refused(name, 4, with_ones(method, count), sizeof grey);
 }
 
 static void refused_4(void)
 {
     struct dihyravo_job job = plain();
-    refused_count("258 arguments", DIHYRAVO_METHOD_BARREL, 258);
+    refused_count("an argument above the most", DIHYRAVO_METHOD_BARREL, DIHYRAVO_MOST_ARGUMENTS + 1);
     refused_count("AffineProjection of 5", DIHYRAVO_METHOD_AFFINE_PROJECTION, 5);
     refused_count("PerspectiveProjection of 9", DIHYRAVO_METHOD_PERSPECTIVE_PROJECTION, 9);
     refused_count("Barrel of 2", DIHYRAVO_METHOD_BARREL, 2);
@@ -211,9 +221,45 @@ static void refused_4(void)
     refused_count("Affine of 6", DIHYRAVO_METHOD_AFFINE, 6);
     refused_count("BilinearReverse of 0", DIHYRAVO_METHOD_BILINEAR_REVERSE, 0);
     refused_count("Polynomial of an order and 6", DIHYRAVO_METHOD_POLYNOMIAL, 7);
-    refused_count("65 pairs", DIHYRAVO_METHOD_SHEPARDS, 260);
+    refused_count("a pair above the most", DIHYRAVO_METHOD_SHEPARDS, 4 * (DIHYRAVO_MOST_PAIRS + 1));
     job.arguments = NULL, job.arguments_length = 0, refused("no pairs", 4, job, sizeof grey);
     job = plain(), job.arguments_length -= 1, refused("arguments that end inside a number", 4, job, sizeof grey);
+}
+
+/* Accepted, and the size is this. No rows are asked for. */
+static void accepted(const char *name, struct dihyravo_job job, uint64_t width, uint64_t height)
+{
+    struct dihyravo_answer answer;
+    char line[128];
+    job.rows = 0;
+    uint64_t given = dihyravo_run(&job, NULL, 0, &answer);
+    snprintf(line, sizeof line, "accepted: %s", name);
+    if (given != 0) printf("the number is %d\n", (int)given);
+    test(line, given == 0 && is(&answer, width, height, job.viewport ? job.view_x : 0, job.viewport ? job.view_y : 0, 1, 0));
+}
+
+/* What is at a limit and not beyond it. */
+static void accepted_at_the_limits(void)
+{
+    static const float side[DIHYRAVO_LARGEST_SIDE] = {0};
+    static const double far[4] = {-DIHYRAVO_LARGEST_ARGUMENT, 0, DIHYRAVO_LARGEST_ARGUMENT, 0};
+    float samples[WIDTH * HEIGHT];
+    struct dihyravo_job job = plain();
+    job.picture = side, job.picture_length = sizeof side, job.width = DIHYRAVO_LARGEST_SIDE, job.height = 1;
+    accepted("the largest width", job, DIHYRAVO_LARGEST_SIDE, 1);
+    job.width = 1, job.height = DIHYRAVO_LARGEST_SIDE, accepted("the largest height", job, 1, DIHYRAVO_LARGEST_SIDE);
+    accepted("the most arguments", with_ones(DIHYRAVO_METHOD_BARREL, DIHYRAVO_MOST_ARGUMENTS), WIDTH, HEIGHT);
+    accepted("the most pairs", with_ones(DIHYRAVO_METHOD_SHEPARDS, 4 * DIHYRAVO_MOST_PAIRS), WIDTH, HEIGHT);
+    job = plain(), job.method = DIHYRAVO_METHOD_AFFINE, job.arguments = far, job.arguments_length = sizeof far;
+    accepted("the largest arguments", job, WIDTH, HEIGHT);
+    memcpy(samples, grey, sizeof samples);
+    samples[0] = DIHYRAVO_LARGEST_SAMPLE, samples[11] = -DIHYRAVO_LARGEST_SAMPLE;
+    job = plain(), job.picture = samples, accepted("the largest samples", job, WIDTH, HEIGHT);
+    job = plain(), job.background[0] = job.matte[3] = DIHYRAVO_LARGEST_SAMPLE;
+    job.background[1] = job.matte[0] = -DIHYRAVO_LARGEST_SAMPLE, accepted("the largest colours", job, WIDTH, HEIGHT);
+    job = plain(), job.viewport = 1, job.view_width = job.view_height = DIHYRAVO_LARGEST_SIDE;
+    job.view_x = -DIHYRAVO_LARGEST_OFFSET, job.view_y = DIHYRAVO_LARGEST_OFFSET;
+    accepted("the largest viewport, farthest off", job, DIHYRAVO_LARGEST_SIDE, DIHYRAVO_LARGEST_SIDE);
 }
 
 static void refused_5(void)
@@ -224,13 +270,16 @@ static void refused_5(void)
     memcpy(arguments, corners, sizeof arguments);
     job.arguments = arguments;
     arguments[15] = (double)NAN, refused("an argument that is no number", 5, job, sizeof grey);
-    arguments[15] = 1048576.5, refused("a large argument", 5, job, sizeof grey);
+    arguments[15] = ABOVE_ARGUMENT, refused("an argument above the largest", 5, job, sizeof grey);
+    arguments[15] = -ABOVE_ARGUMENT, refused("an argument below the least", 5, job, sizeof grey);
     job = plain(), job.picture = samples;
     memcpy(samples, grey, sizeof samples);
     samples[11] = -INFINITY, refused("an endless sample", 5, job, sizeof grey);
-    samples[11] = 65536.1f, refused("a large sample", 5, job, sizeof grey);
+    samples[11] = ABOVE_SAMPLE, refused("a sample above the largest", 5, job, sizeof grey);
+    samples[11] = -ABOVE_SAMPLE, refused("a sample below the least", 5, job, sizeof grey);
     job = plain(), job.background[3] = NAN, refused("a background that is no number", 5, job, sizeof grey);
-    job = plain(), job.matte[0] = 70000.0f, refused("a large matte", 5, job, sizeof grey);
+    job = plain(), job.background[0] = -ABOVE_SAMPLE, refused("a background below the least", 5, job, sizeof grey);
+    job = plain(), job.matte[0] = ABOVE_SAMPLE, refused("a matte above the largest", 5, job, sizeof grey);
 }
 
 static void refused_6_to_8(void)
@@ -253,8 +302,11 @@ static void refused_9_to_11(void)
 {
     struct dihyravo_job job = plain();
     job.viewport = 1, job.view_height = HEIGHT, refused("a viewport of width 0", 9, job, sizeof grey);
-    job.view_width = 4097, refused("a viewport of width 4,097", 9, job, sizeof grey);
-    job.view_width = WIDTH, job.view_x = -1048577, refused("a viewport far off", 9, job, sizeof grey);
+    job.view_width = DIHYRAVO_LARGEST_SIDE + 1, refused("a viewport above the largest width", 9, job, sizeof grey);
+    job.view_width = WIDTH, job.view_height = DIHYRAVO_LARGEST_SIDE + 1;
+    refused("a viewport above the largest height", 9, job, sizeof grey);
+    job.view_height = HEIGHT, job.view_x = -DIHYRAVO_LARGEST_OFFSET - 1, refused("a viewport far to the left", 9, job, sizeof grey);
+    job.view_x = 0, job.view_y = DIHYRAVO_LARGEST_OFFSET + 1, refused("a viewport far down", 9, job, sizeof grey);
     job = plain(), job.first_row = 1, refused("rows 1 to 3 of 3", 10, job, sizeof grey);
     job.first_row = UINT64_MAX, refused("rows around the end of numbers", 10, job, sizeof grey);
     job = plain(), refused("a sample less in the band", 11, job, sizeof grey - 4);
@@ -368,6 +420,7 @@ int main(void)
     odd_addresses();
     refused_1_to_3();
     refused_4();
+    accepted_at_the_limits();
     refused_5();
     refused_6_to_8();
     refused_9_to_11();

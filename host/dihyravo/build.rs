@@ -16,7 +16,8 @@ fn main() {
     println!("cargo::rerun-if-changed={}", archive.display());
     if !archive.is_file() {
         println!(
-            "cargo::error=libdihyravo.a is not in target/staticlib: run `make` at the project's root first"
+            "cargo::error=libdihyravo.a is not in {}: run `make tool` at the project's root first",
+            folder.display()
         );
         return;
     }

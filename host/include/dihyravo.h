@@ -52,8 +52,10 @@ enum dihyravo_method_code {
     DIHYRAVO_METHOD_BILINEAR_REVERSE = 5,       /* 4 pairs or more; u and v are bilinear in x and y */
     DIHYRAVO_METHOD_BILINEAR_FORWARD = 6,       /* 4 pairs or more; x and y are bilinear in u and v */
     DIHYRAVO_METHOD_POLYNOMIAL = 7,             /* the order, 1 to 5 or 1.5, then pairs: 3, 6, 10, 15, 21, or 4, or more */
-    DIHYRAVO_METHOD_BARREL = 11,                /* A,B,C[,D[,X,Y]]: the radius times A r^3 + B r^2 + C r + D */
-    DIHYRAVO_METHOD_BARREL_INVERSE = 12,        /* the radius over it */
+    DIHYRAVO_METHOD_BARREL = 11,                /* A,B,C[,D[,X,Y]]: the radius times A r^3 + B r^2 + C r + D, around X,Y; r is the output's
+                                                   radius, 1 at half the picture's shorter side. Left out, D is 1 - (A + B + C) and X,Y the
+                                                   picture's middle. More arguments are not used */
+    DIHYRAVO_METHOD_BARREL_INVERSE = 12,        /* the same arguments; the radius over it */
     DIHYRAVO_METHOD_SHEPARDS = 13               /* pairs; each pulls by the inverse of its squared distance */
 };
 

@@ -97,9 +97,11 @@ named! {
     BilinearForward = 6,
     /// The order, 1 to 5 or 1.5, then pairs `u,v,x,y`; u and v are polynomials in x and y by least squares.
     Polynomial = 7,
-    /// `A, B, C [, D [, X, Y]]`: the radius times `A·r³ + B·r² + C·r + D`.
+    /// `A, B, C [, D [, X, Y]]`: the radius times `A·r³ + B·r² + C·r + D`, around `X, Y`; `r` is the output's radius, 1 at
+    /// half the picture's shorter side. Left out, `D` is `1 - (A + B + C)` and `X, Y` the picture's middle. More arguments
+    /// are not used.
     Barrel = 11,
-    /// `A, B, C [, D [, X, Y]]`: the radius over `A·r³ + B·r² + C·r + D`.
+    /// `A, B, C [, D [, X, Y]]` as of `Barrel`: the radius over `A·r³ + B·r² + C·r + D`.
     BarrelInverse = 12,
     /// Pairs `u,v,x,y`; each pulls by the inverse of its squared distance.
     Shepards = 13,

@@ -96,7 +96,7 @@ impl Refusal {
             }
             Self::Count => {
                 "the number of arguments does not fit the method; AffineProjection takes 6, PerspectiveProjection 8, \
-                 Barrel and BarrelInverse at least 3, the others u,v,x,y for each of at most 64 pairs, \
+                 Barrel and BarrelInverse 3 to 257, the others u,v,x,y for each of at most 64 pairs, \
                  Polynomial its order before them"
             }
             Self::Number => {

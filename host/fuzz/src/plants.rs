@@ -4,16 +4,19 @@ use crate::callee::{Distort, Pointers, dihyravo_distort};
 use std::hint::black_box;
 use std::sync::atomic::{AtomicU64, Ordering::Relaxed};
 
-/// A plant: its name, the callee, and words of what the run says when it finds it.
-pub type Plant = (&'static str, Distort, &'static str);
+/// A plant: its name, the callee, and what the run says when it finds it, in one of these words.
+pub type Plant = (&'static str, Distort, &'static [&'static str]);
 
-const FAULT: &str = "fault:";
+const FAULT: &[&str] = &["fault:"];
+// The byte beside it is in an unmapped page, or it is looked at afterwards.
+const BESIDE_BAND: &[&str] = &["fault:", "a byte beside the band is changed"];
+const BESIDE_ANSWER: &[&str] = &["fault:", "a byte beside the answer is changed"];
 
 pub const PLANTS: [Plant; 17] = [
-    ("writes beyond the band", planted::<0>, ""),
-    ("writes before the band", planted::<1>, ""),
-    ("writes beyond the answer", planted::<2>, ""),
-    ("writes before the answer", planted::<3>, ""),
+    ("writes beyond the band", planted::<0>, BESIDE_BAND),
+    ("writes before the band", planted::<1>, BESIDE_BAND),
+    ("writes beyond the answer", planted::<2>, BESIDE_ANSWER),
+    ("writes before the answer", planted::<3>, BESIDE_ANSWER),
     ("reads beyond the picture", planted::<4>, FAULT),
     ("reads before the picture", planted::<5>, FAULT),
     ("reads beyond the arguments", planted::<6>, FAULT),
@@ -24,25 +27,29 @@ pub const PLANTS: [Plant; 17] = [
     (
         "writes the band of a refused call",
         planted::<11>,
-        "the band is changed",
+        &["the band is changed"],
     ),
     (
         "writes the answer of a refused call",
         planted::<12>,
-        "the answer is changed",
+        &["the answer is changed"],
     ),
-    ("answers another refusal", planted::<13>, "and not refusal"),
+    (
+        "answers another refusal",
+        planted::<13>,
+        &["and not refusal"],
+    ),
     (
         "leaves the band's last byte",
         planted::<14>,
-        "the band is not the same twice",
+        &["the band is not the same twice"],
     ),
     (
         "counts its calls",
         planted::<15>,
-        "the answer's bytes are not the same twice",
+        &["the answer's bytes are not the same twice"],
     ),
-    ("does not end", planted::<16>, "no end:"),
+    ("does not end", planted::<16>, &["no end:"]),
 ];
 
 /// A callee that looks at the band's bytes before it writes them: found where these are not initialised.

@@ -59,7 +59,8 @@ fn planted_faults_are_found() {
             Err(found) => {
                 let line = found.lines().next().unwrap_or_default();
                 println!("{name}: {line}");
-                assert!(found.contains(words), "{name}: {found}");
+                let told = words.iter().any(|words| line.contains(words));
+                assert!(told, "{name}: {found}");
                 assert!(
                     line.starts_with("case "),
                     "{name}: the case is told: {line}"

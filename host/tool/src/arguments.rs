@@ -23,12 +23,13 @@ pub enum Command {
 }
 
 const FILES: &str = "\
-Files: PNG, JPEG, TIFF and PNM of 8 and 16 bits, PFM and TIFF of 32-bit floats. What IN is, its first bytes say; what
-OUT is, its ending says. Samples are taken as they are stored: no colour profile, no gamma, and NO EXIF ORIENTATION is
-applied, and none is carried over; corners count on the picture as it is stored.
+Files: PNG, TIFF and PNM of 8 and 16 bits, JPEG of 8, PFM and TIFF of 32-bit floats. What IN is, its first bytes say;
+what OUT is, its ending says. Samples are taken as they are stored: no colour profile, no gamma, and NO EXIF ORIENTATION
+is applied, and none is carried over; corners count on the picture as it is stored.
 
 Exit status: 0 done; 1 refused, with the number, the word and what to mend; 2 bad usage, or a file that can't be read or
-written. Where a run fails, OUT is as it was before. IN and OUT may be the same file.";
+written. Where a run fails, OUT is as it was before; only where the picture is made and standard output can't be written
+is it new. IN and OUT may be the same file.";
 
 const SQUARE: &str = "\
 A corner u,v is a point of the photograph in pixels from its top-left corner, u to the right, v down: 0,0 is the very

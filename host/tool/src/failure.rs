@@ -92,9 +92,10 @@ impl fmt::Display for Failure {
     }
 }
 
-/// The text with each run of blanks and line ends made one blank.
+/// The text with a blank for each control character and line end. Blanks stay: a file's name may have any.
 pub fn one_line(text: &str) -> String {
-    text.split_whitespace().collect::<Vec<_>>().join(" ")
+    let ends = |c: char| c.is_control() || ['\u{2028}', '\u{2029}'].contains(&c);
+    text.replace(ends, " ")
 }
 
 #[cfg(test)]
@@ -111,6 +112,11 @@ mod tests {
         );
         assert!(line.ends_with(Refusal::Window.mend()), "{line}");
         assert_eq!(failure.status(), 1);
+    }
+
+    #[test]
+    fn a_line_keeps_its_blanks_and_has_no_control_characters() {
+        assert_eq!(one_line("a  b\n\tc\u{7f}\u{2028}é"), "a  b  c  é");
     }
 
     #[test]

@@ -18,6 +18,8 @@ pub struct Job {
     quality: u8,
     method: Method,
     args: Vec<f64>,
+    /// Whether the arguments are corners and a size.
+    square: bool,
     viewport: Option<Viewport>,
     background: [f32; 4],
     matte: [f32; 4],
@@ -84,6 +86,7 @@ impl Job {
             viewport,
             &given.options,
         )?;
+        job.square = true;
         job.note =
             mirrored.then_some("the corners run counter-clockwise, so the picture is mirrored");
         Ok(job)
@@ -123,6 +126,7 @@ impl Job {
             quality: options.quality,
             method,
             args,
+            square: false,
             viewport,
             background,
             matte,
@@ -161,7 +165,7 @@ impl Job {
             depth,
             width: picture.width(),
             height: picture.height(),
-            channels: picture.channels(),
+            channels: file::channels_in(&picture, self.format),
             x,
             y,
             matte_pixels,
@@ -192,15 +196,33 @@ impl Job {
             )),
             Refusal::Number => self.first_bad_number(picture),
             Refusal::Window => Some(match self.viewport {
-                Some(viewport) => format!("the output was to be {}", text::shown(viewport)),
+                Some(viewport) => self.output_was_to_be(viewport),
                 None => "the best fit is too large or too far off".to_owned(),
             }),
             // A side of 0 leaves the corners nowhere to go, and the fit is judged before the window.
             Refusal::Degenerate => {
                 let empty = self.viewport.filter(|v| v.width == 0 || v.height == 0)?;
-                Some(format!("the output was to be {}", text::shown(empty)))
+                Some(self.output_was_to_be(empty))
             }
             _ => None,
+        }
+    }
+
+    /// The output as it was asked for: by its size alone in `square`.
+    fn output_was_to_be(&self, viewport: Viewport) -> String {
+        let shown = match self.square {
+            true => format!("{}x{}", viewport.width, viewport.height),
+            false => text::shown(viewport),
+        };
+        format!("the output was to be {shown}")
+    }
+
+    /// An argument by what was given for it: in `square` each four are a corner and its place in the output.
+    fn bad_argument(&self, k: usize) -> String {
+        match self.viewport.filter(|_| self.square) {
+            Some(_) if k % 4 < 2 => format!("corner {} has {:?}", k / 4 + 1, self.args[k]),
+            Some(viewport) => self.output_was_to_be(viewport),
+            None => format!("argument {} is {:?}", k + 1, self.args[k]),
         }
     }
 
@@ -209,14 +231,14 @@ impl Job {
         let bad = |x: f64, largest: f64| x.is_nan() || x.abs() > largest;
         let bad_sample = |x: &f32| bad(f64::from(*x), 65_536.0);
         if let Some(k) = self.args.iter().position(|x| bad(*x, 1_048_576.0)) {
-            return Some(format!("argument {} is {}", k + 1, self.args[k]));
+            return Some(self.bad_argument(k));
         }
         if let Some(k) = picture.samples().iter().position(bad_sample) {
             let (channels, width) = (picture.channels() as usize, picture.width() as usize);
             let pixel = k / channels;
             let (x, y, sample) = (pixel % width, pixel / width, picture.samples()[k]);
             return Some(format!(
-                "the picture's sample at column {x}, row {y}, channel {} is {sample}",
+                "the picture's sample at column {x}, row {y}, channel {} is {sample:?}",
                 k % channels
             ));
         }

@@ -13,7 +13,7 @@ mod text;
 use arguments::{Arguments, Command};
 use clap::Parser;
 use clap::error::ErrorKind;
-use failure::{Failure, UNUSABLE, one_line};
+use failure::Failure;
 use job::Job;
 use std::any::Any;
 use std::io::{self, Write};
@@ -33,9 +33,8 @@ fn main() -> ExitCode {
                 false => writeln!(io::stderr(), "dihyravo: {failure}"),
             };
             // Where nobody listens the status still tells.
-            told.map_or(ExitCode::from(UNUSABLE), |()| {
-                ExitCode::from(failure.status())
-            })
+            let _ = told;
+            ExitCode::from(failure.status())
         }
     }
 }
@@ -98,7 +97,9 @@ fn misused(wrong: &clap::Error) -> Failure {
         .split("\n\nFor more information")
         .next()
         .unwrap_or(words);
-    let line = one_line(words.strip_prefix("error: ").unwrap_or(words));
+    let words = words.strip_prefix("error: ").unwrap_or(words);
+    let lines = words.lines().map(str::trim).filter(|line| !line.is_empty());
+    let line = lines.collect::<Vec<_>>().join(" ");
     Failure::unusable(format!("{line} (see 'dihyravo --help')"))
 }
 

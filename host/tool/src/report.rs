@@ -15,7 +15,8 @@ pub fn made(made: &Made) -> String {
         matte_pixels,
         ..
     } = made;
-    let (place, format, bits) = (made.output.display(), made.format, made.depth.bits());
+    let place = one_line(&made.output.to_string_lossy());
+    let (format, bits) = (made.format, made.depth.bits());
     let channels = match channels {
         1 => "1 channel".to_owned(),
         more => format!("{more} channels"),

@@ -1,12 +1,16 @@
-//! The lines of host/README.md that show the use from Rust and from C stand in programs that are run.
+//! The lines of host/README.md and of the project's README.md that show the use from Rust and from C stand in programs that are
+//! run.
 
-const README: &str = include_str!("../../../README.md");
+const READMES: [&str; 2] = [
+    include_str!("../../../README.md"),
+    include_str!("../../../../README.md"),
+];
 const RUST: &str = include_str!("../../src/distort.rs");
 const C: &str = include_str!("../../../c/square.c");
 
-/// The indented lines under a heading.
-fn shown(heading: &str) -> Vec<&'static str> {
-    let (_, after) = README
+/// The indented lines under a heading, commands aside.
+fn shown<'a>(readme: &'a str, heading: &str) -> Vec<&'a str> {
+    let (_, after) = readme
         .split_once(&format!("\n## {heading}\n"))
         .expect("the heading");
     let section = after.split("\n## ").next().unwrap_or(after);
@@ -30,10 +34,14 @@ fn stand_in(lines: &[&str], program: &str) {
 
 #[test]
 fn from_rust() {
-    stand_in(&shown("From Rust"), RUST);
+    for readme in READMES {
+        stand_in(&shown(readme, "From Rust"), RUST);
+    }
 }
 
 #[test]
 fn from_c() {
-    stand_in(&shown("From C"), C);
+    for readme in READMES {
+        stand_in(&shown(readme, "From C"), C);
+    }
 }

@@ -11,4 +11,4 @@ mod write;
 pub use format::{Depth, Format};
 pub use read::read;
 pub use save::{check, save};
-pub use write::{Target, encode};
+pub use write::{Target, channels_in, encode};

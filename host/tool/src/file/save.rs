@@ -1,5 +1,5 @@
 //! Putting a file in place: written whole beside its name, synced, then renamed over it. Whatever fails, the old file stands and
-//! nothing half-written is left.
+//! nothing half-written is left; a run that is killed while it writes may leave a file `.dihyravo-*.part` beside it.
 
 use crate::failure::Failure;
 use std::fs::{self, File, OpenOptions, Permissions};
@@ -17,16 +17,37 @@ pub fn check(path: &Path) -> Result<(), Failure> {
         }
         _ => (),
     }
-    match fs::metadata(folder(path)) {
+    check_folder(path, path)?;
+    let place = place(path).map_err(|why| failed(path, why))?;
+    check_folder(path, &place)
+}
+
+/// Whether the folder of the place that the path leads to is there.
+fn check_folder(path: &Path, place: &Path) -> Result<(), Failure> {
+    match fs::metadata(folder(place)) {
         Ok(found) if found.is_dir() => Ok(()),
         Ok(_) => Err(failed(path, "its folder is not a folder")),
         Err(why) => Err(failed(path, format!("its folder: {why}"))),
     }
 }
 
+/// Where the bytes go. A link stays a link: what it leads to is replaced, or made where it isn't there yet.
+fn place(path: &Path) -> io::Result<PathBuf> {
+    let mut place = path.to_owned();
+    loop {
+        match fs::metadata(&place) {
+            // A pipe has no other name than the link's.
+            Ok(_) => return Ok(fs::canonicalize(&place).unwrap_or(place)),
+            // Links in a ring end here.
+            Err(why) if why.kind() != io::ErrorKind::NotFound => return Err(why),
+            Err(_) if place.is_symlink() => place = folder(&place).join(fs::read_link(&place)?),
+            Err(_) => return Ok(place),
+        }
+    }
+}
+
 pub fn save(path: &Path, bytes: &[u8]) -> Result<(), Failure> {
-    // A link stays a link: what it leads to is replaced.
-    let place = fs::canonicalize(path).unwrap_or_else(|_| path.to_owned());
+    let place = place(path).map_err(|why| failed(path, why))?;
     let old = fs::metadata(&place).ok();
     let written = match &old {
         // A device or a pipe can't be replaced.
@@ -41,9 +62,10 @@ pub fn save(path: &Path, bytes: &[u8]) -> Result<(), Failure> {
 
 fn replace(path: &Path, bytes: &[u8], permissions: Option<Permissions>) -> io::Result<()> {
     let (mut file, beside) = create_beside(path)?;
-    let written = file
-        .write_all(bytes)
-        .and_then(|()| permissions.map_or(Ok(()), |p| file.set_permissions(p)))
+    // The permissions first: what nobody else may read is never there to be read.
+    let written = permissions
+        .map_or(Ok(()), |p| file.set_permissions(p))
+        .and_then(|()| file.write_all(bytes))
         .and_then(|()| file.sync_all())
         .and_then(|()| fs::rename(&beside, path));
     if written.is_err() {

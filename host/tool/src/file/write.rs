@@ -41,6 +41,15 @@ pub fn encode(picture: &Picture, target: Target) -> Result<Vec<u8>, Failure> {
     }
 }
 
+/// The channels that the picture has in a file of this format, where it can be written so at all.
+pub fn channels_in(picture: &Picture, format: Format) -> u64 {
+    match (picture.channels(), format) {
+        (4, _) if !format.has_alpha() => 3,
+        (1, Format::Ppm) => 3,
+        (channels, _) => channels,
+    }
+}
+
 /// The samples in the channels that the format has. Alpha is left out only where every pixel is opaque.
 fn channels_for(
     picture: &Picture,
@@ -72,7 +81,8 @@ fn channels_for(
 }
 
 fn coloured() -> Failure {
-    Failure::unusable("the picture has colours and PGM is grey: write PPM or another format")
+    let what = "the picture has three colour channels and PGM has one";
+    Failure::unusable(format!("{what}: write PPM or another format"))
 }
 
 fn opaque(alpha: f32, depth: Depth) -> bool {

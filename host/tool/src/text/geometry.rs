@@ -42,11 +42,20 @@ fn side_by_side(text: &str) -> Option<(u64, u64)> {
     Some((whole(width)?, whole(height)?))
 }
 
-/// Digits alone: `parse` would take a sign.
+/// Digits alone: `parse` would take a sign. A number that is too large is the largest one, which the call refuses.
 fn whole(text: &str) -> Option<u64> {
-    text.bytes()
-        .all(|b| b.is_ascii_digit())
-        .then(|| text.parse().ok())?
+    let digits = !text.is_empty() && text.bytes().all(|b| b.is_ascii_digit());
+    digits.then(|| text.parse().unwrap_or(u64::MAX))
+}
+
+/// A sign and digits, the farthest number where it is too far off.
+fn offset(text: &str) -> Option<i64> {
+    let (farthest, digits) = match text.strip_prefix('-') {
+        Some(digits) => (i64::MIN, digits),
+        None => (i64::MAX, text.strip_prefix('+')?),
+    };
+    whole(digits)?;
+    Some(text.parse().unwrap_or(farthest))
 }
 
 /// `+X+Y` with any signs, or nothing, which is 0, 0.
@@ -56,7 +65,7 @@ fn offsets(text: &str) -> Option<(i64, i64)> {
     }
     let second = 1 + text[1..].find(['+', '-'])?;
     let (x, y) = text.split_at(second);
-    Some((x.parse().ok()?, y.parse().ok()?))
+    Some((offset(x)?, offset(y)?))
 }
 
 #[cfg(test)]
@@ -74,6 +83,21 @@ mod tests {
             read("4096x4096-1048576-1048576"),
             Ok((4096, 4096, -1048576, -1048576))
         );
+    }
+
+    #[test]
+    fn what_is_too_large_is_left_to_the_call() {
+        let read = |text: &str| geometry(text).map(|g| (g.width, g.height, g.x, g.y));
+        let nines = "99999999999999999999";
+        assert_eq!(
+            read(&format!("{nines}x1-{nines}+{nines}")),
+            Ok((u64::MAX, 1, i64::MIN, i64::MAX))
+        );
+        assert_eq!(
+            read("1x18446744073709551615-9223372036854775808+9223372036854775807"),
+            Ok((1, u64::MAX, i64::MIN, i64::MAX))
+        );
+        assert_eq!(size(&format!("1x{nines}")), Ok((1, u64::MAX)));
     }
 
     #[test]
@@ -98,8 +122,6 @@ mod tests {
             "8.5x6",
             "8x6+0+a",
             "8 x 6",
-            "99999999999999999999x1",
-            "8x6+99999999999999999999+0",
             "8x6+é+1",
             "ex6",
         ] {

@@ -1,4 +1,4 @@
-//! The name that was probably meant: the one that the fewest edits away.
+//! The name that was probably meant: the one that is the fewest edits away.
 
 /// The nearest of the names, ASCII case ignored, if few enough letters differ.
 pub fn nearest<'a>(given: &str, names: &[&'a str]) -> Option<&'a str> {

@@ -229,8 +229,51 @@ fn refusals_have_number_word_and_mend() {
     trial.fails(
         trial.square("in.png", CORNERS, "0x0"),
         1,
-        &["refusal 8 (degenerate): the output was to be 0x0+0+0; "],
+        &["refusal 8 (degenerate): the output was to be 0x0; "],
     );
+}
+
+#[test]
+fn numbers_that_are_too_large_are_told_as_they_were_given() {
+    let trial = Trial::new("too-large");
+    let nines = "99999999999999999999";
+    trial.fails(
+        trial.distort("in.png", "Affine", "0,0,1,-1e300", &[]),
+        1,
+        &["refusal 5 (number): argument 4 is -1e300; "],
+    );
+    trial.fails(
+        trial.square("in.png", "0,0 1e300,0 8,6 0,6", "8x6"),
+        1,
+        &["refusal 5 (number): corner 2 has 1e300; "],
+    );
+    trial.fails(
+        trial.square("in.png", "0,0 8,0 8,6 0,1048576.5", "8x6"),
+        1,
+        &["refusal 5 (number): corner 4 has 1048576.5; "],
+    );
+    trial.fails(
+        trial.square("in.png", CORNERS, "8x2000000"),
+        1,
+        &["refusal 5 (number): the output was to be 8x2000000; "],
+    );
+    trial.fails(
+        trial.square("in.png", CORNERS, "8x4097"),
+        1,
+        &["refusal 9 (window): the output was to be 8x4097; "],
+    );
+    for viewport in [
+        format!("{nines}x1"),
+        format!("1x{nines}"),
+        format!("1x1+{nines}+0"),
+        format!("1x1+0-{nines}"),
+    ] {
+        trial.fails(
+            trial.shift("in.png", &["--viewport", &viewport]),
+            1,
+            &["refusal 9 (window): the output was to be "],
+        );
+    }
 }
 
 #[test]
@@ -451,6 +494,29 @@ fn alpha_that_the_format_can_not_hold() {
 }
 
 #[test]
+fn colours_that_the_format_can_not_hold() {
+    let trial = Trial::new("colours");
+    let words = [
+        "distort", "in.png", "out.pgm", "--method", "Affine", "--args", "0,0,1,1",
+    ];
+    trial.fails(
+        trial.folder.run(words),
+        2,
+        &["the picture has three colour channels and PGM has one: write PPM or another format"],
+    );
+}
+
+#[test]
+fn names_with_blanks_and_control_characters() {
+    let trial = Trial::new("odd-names");
+    trial.fails(
+        trial.shift("no\nsuch\t  file\u{1b}.png", &[]),
+        2,
+        &["'no such   file .png' can't be read: No such file"],
+    );
+}
+
+#[test]
 fn failures_in_json() {
     let trial = Trial::new("json-failures");
     let told = |run: Run, status: i32, start: &str| {
@@ -504,6 +570,14 @@ fn folders_that_are_missing_or_read_only() {
         2,
         &["'/proc/out.png' can't be written: "],
     );
+    symlink("missing/far.png", trial.folder.path("link.png")).expect("a link");
+    into("link.png").bad(
+        2,
+        &["'link.png' can't be written: its folder: No such file"],
+    );
+    symlink("ring.png", trial.folder.path("ring.png")).expect("a link");
+    into("ring.png").bad(2, &["'ring.png' can't be written: Too many levels"]);
+    assert!(trial.folder.path("ring.png").is_symlink());
     fs::create_dir(trial.folder.path("folder.png")).expect("a folder");
     into("folder.png").bad(2, &["'folder.png' can't be written: it is a folder"]);
 }
@@ -623,16 +697,69 @@ fn a_small_disk_that_fills_up() {
 #[test]
 fn standard_output_that_is_full_or_closed() {
     let folder = Folder::new("stdout");
-    let full = File::options()
-        .write(true)
-        .open("/dev/full")
-        .expect("/dev/full");
     let run = folder
         .tool()
         .arg("names")
-        .stdout(full)
+        .stdout(dev_full())
         .output()
         .expect("runs");
     assert_eq!(run.status.code(), Some(2));
     assert!(String::from_utf8_lossy(&run.stderr).contains("standard output can't be written"));
+}
+
+fn dev_full() -> File {
+    let full = File::options().write(true).open("/dev/full");
+    full.expect("/dev/full")
+}
+
+/// The words of a squaring, the picture as it is.
+const SQUARE: [&str; 7] = [
+    "square",
+    "in.png",
+    "out.png",
+    "--corners",
+    CORNERS,
+    "--size",
+    "8x6",
+];
+
+/// The picture is made before anything is told of it.
+#[test]
+fn standard_output_that_is_full_after_the_picture_is_made() {
+    for more in [&[][..], &["--json"]] {
+        let folder = Folder::new("stdout-square");
+        folder.write("in.png", &small_png());
+        folder.write("out.png", b"the old output");
+        let run = folder
+            .tool()
+            .args(SQUARE)
+            .args(more)
+            .stdout(dev_full())
+            .output()
+            .expect("runs");
+        assert_eq!(run.status.code(), Some(2));
+        let open = |name| image::open(folder.path(name)).expect("a picture");
+        assert_eq!(open("out.png"), open("in.png"));
+        assert_eq!(folder.contents().len(), 2);
+    }
+}
+
+/// The status is the refusal's own, whether or not its message can be written.
+#[test]
+fn a_refusal_that_nobody_hears() {
+    let trial = Trial::new("unheard");
+    let refused = ["--viewport", "0x0"];
+    let words = [
+        "distort", "in.png", "out.png", "--method", "Affine", "--args", "0,0,1,1",
+    ];
+    let tool = || {
+        let mut tool = trial.folder.tool();
+        tool.args(words).args(refused);
+        tool
+    };
+    let plain = tool().stderr(dev_full()).output().expect("runs");
+    assert_eq!(plain.status.code(), Some(1));
+    let json = tool().arg("--json").stdout(dev_full()).output();
+    assert_eq!(json.expect("runs").status.code(), Some(1));
+    assert!(trial.folder.contents() == trial.before);
 }

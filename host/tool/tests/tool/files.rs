@@ -182,6 +182,7 @@ fn jpeg_is_written_at_a_high_quality_and_read_back() {
     let back = image::open(folder.path("back.png"))
         .expect("read")
         .into_rgb8();
+    assert_eq!(back.len(), picture.as_bytes().len());
     let apart = |a: &u8, b: &u8| a.abs_diff(*b);
     let most = back
         .iter()
@@ -274,4 +275,66 @@ fn a_link_stays_a_link_and_permissions_stay() {
         .permissions()
         .mode();
     assert_eq!(mode & 0o777, 0o640);
+}
+
+#[test]
+fn a_link_to_a_file_that_is_not_there_yet_stays_a_link() {
+    let folder = Folder::new("dangling");
+    folder.write("in.png", &small_png());
+    fs::create_dir(folder.path("inner")).expect("a folder");
+    symlink("inner/next.png", folder.path("out.png")).expect("a link");
+    symlink("new.png", folder.path("inner/next.png")).expect("a link");
+    same(&folder, "in.png", "out.png", []);
+    for link in ["out.png", "inner/next.png"] {
+        assert!(folder.path(link).is_symlink(), "{link}");
+    }
+    let made = fs::symlink_metadata(folder.path("inner/new.png")).expect("there");
+    assert!(made.is_file());
+    assert!(folder.read("inner/new.png").starts_with(b"\x89PNG"));
+}
+
+#[test]
+fn the_channels_told_are_the_files() {
+    let folder = Folder::new("channels");
+    let opaque = [[10, 20, 30, 255], [40, 50, 60, 255]].concat();
+    let opaque = image::RgbaImage::from_raw(2, 1, opaque).expect("2 by 1");
+    opaque.save(folder.path("rgba.png")).expect("written");
+    let grey = image::GrayImage::from_raw(2, 1, vec![10, 200]).expect("2 by 1");
+    grey.save(folder.path("grey.png")).expect("written");
+    for (input, output, channels) in [
+        ("rgba.png", "out.jpg", 3),
+        ("rgba.png", "out.ppm", 3),
+        ("rgba.png", "out.png", 4),
+        ("grey.png", "out.ppm", 3),
+        ("grey.png", "out.pgm", 1),
+    ] {
+        let run = |more: &[&str]| {
+            let words = ["distort", input, output];
+            let run = folder.tool().args(words).args(SAME).args(more).output();
+            let run = crate::folder::Run::from(run.expect("the tool runs"));
+            run.good().out.clone()
+        };
+        let line = run(&[]);
+        let words = match channels {
+            1 => "+0+0, 1 channel of 8 bits, ".to_owned(),
+            more => format!("+0+0, {more} channels of 8 bits, "),
+        };
+        assert!(line.contains(&words), "{line}");
+        let json = run(&["--json"]);
+        let words = format!("\"channels\":{channels},");
+        assert!(json.contains(&words), "{json}");
+        let written = image::open(folder.path(output)).expect("read");
+        assert_eq!(written.color().channel_count(), channels, "{output}");
+    }
+}
+
+#[test]
+fn names_with_blanks_and_control_characters_are_told_in_one_line() {
+    let folder = Folder::new("odd-names-out");
+    folder.write("in.png", &small_png());
+    let words = ["distort", "in.png", "a\n b  c.png"];
+    let run = folder.tool().args(words).args(SAME).output();
+    let run = crate::folder::Run::from(run.expect("the tool runs"));
+    assert!(run.good().out.starts_with("a  b  c.png: PNG, "), "{run:?}");
+    assert!(folder.read("a\n b  c.png").starts_with(b"\x89PNG"));
 }

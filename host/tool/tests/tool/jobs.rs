@@ -63,6 +63,7 @@ fn distort_is_the_librarys_answer_bit_for_bit() {
             "{run:?}"
         );
         let samples = pfm(&folder.read("out.pfm"), 11);
+        assert_eq!(samples.len(), expected.picture.samples().len());
         assert!(
             samples
                 .iter()

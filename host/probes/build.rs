@@ -3,13 +3,14 @@
 use std::env;
 use std::path::PathBuf;
 
-const ARCHIVES: [&str; 6] = [
+const ARCHIVES: [&str; 7] = [
     "number_probes",
     "fit_probes",
     "window_probes",
     "point_probes",
     "cubic_probes",
     "probes",
+    "sample_probes",
 ];
 
 fn main() {

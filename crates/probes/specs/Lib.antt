@@ -1,3 +1,2 @@
 -- What the probes answer.
-pub mod Many
 pub mod Sampled

@@ -1,10 +1,10 @@
--- `probes::many::put_sampled` meets its contract: two tests, then the colour, stored. Assumes nothing.
+-- `sample_probes::many::put_sampled` meets its contract: two tests, then the colour, stored. Assumes nothing.
 use mathlib.Core.Path.{sym, _∙_}
-use Rattle.probes.specs.Many.{putSampled}
+use Rattle.sample_probes.specs.Many.{putSampled}
 use Rattle.probes.proofs.SampledLaws.{reached}
 use borrow.Author.Needs.{needs}
-use Rattle.probes.proofs.many.put_sampled.Statement.{statement}
-use Rattle.probes.proofs.many.put_sampled.Tie as tie
+use Rattle.sample_probes.proofs.many.put_sampled.Statement.{statement}
+use Rattle.sample_probes.proofs.many.put_sampled.Tie as tie
 
 returns : tie.Need-returns
 unfolding putSampled

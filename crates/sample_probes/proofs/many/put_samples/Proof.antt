@@ -1,13 +1,13 @@
--- `probes::many::put_samples` meets its contract. The loop's invariant: the points passed are done, and the bytes are as many as before. Assumes nothing.
+-- `sample_probes::many::put_samples` meets its contract. The loop's invariant: the points passed are done, and the bytes are as many as before. Assumes nothing.
 use mathlib.Core.Path.{_≡_, _∙_}
 use Prim.Native.Nat.{_-_, _≤_}
 use lib.ListN.{length}
 use Rattle.exact.specs.Loop.{upTo}
 use Rattle.exact.proofs.Loop.{upTo-none, upTo-next, upTo-last}
-use Rattle.probes.specs.Many.{putSampled}
+use Rattle.sample_probes.specs.Many.{putSampled}
 use borrow.Author.Needs.{needs}
-use Rattle.probes.proofs.many.put_samples.Statement.{statement}
-use Rattle.probes.proofs.many.put_samples.Tie as tie
+use Rattle.sample_probes.proofs.many.put_samples.Statement.{statement}
+use Rattle.sample_probes.proofs.many.put_samples.Tie as tie
 
 abbrev Inv-loop : tie.InvT-loop
 Inv-loop picture width height channels policy code background points out₀ n k₀ out k =

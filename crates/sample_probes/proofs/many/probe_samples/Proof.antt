@@ -1,11 +1,11 @@
--- `probes::many::probe_samples` meets its contract: the tests of the domain, then every point. Assumes nothing.
+-- `sample_probes::many::probe_samples` meets its contract: the tests of the domain, then every point. Assumes nothing.
 use mathlib.Core.Path.{sym, _∙_}
 use borrow.Author.Tests.{eq-eqb, ne-eqb}
-use Rattle.probes.specs.Many.{probeSamples}
+use Rattle.sample_probes.specs.Many.{probeSamples}
 use Rattle.probes.proofs.SampledLaws.{outside-fit, one-pixel}
 use borrow.Author.Needs.{needs}
-use Rattle.probes.proofs.many.probe_samples.Statement.{statement}
-use Rattle.probes.proofs.many.probe_samples.Tie as tie
+use Rattle.sample_probes.proofs.many.probe_samples.Statement.{statement}
+use Rattle.sample_probes.proofs.many.probe_samples.Tie as tie
 
 returns : tie.Need-returns
 unfolding probeSamples

@@ -5,12 +5,12 @@ ghost use lib.ListN.{length};
 ghost use Rattle.exact.specs.Loop.{upTo};
 ghost use Rattle.sample_probes.specs.Many.{putSampled, putSamples, probeSamples};
 ghost use Rattle.pixels.specs.Pixel.{Picture};
-use probes::sampled::beyond;
-use probes::sampled::outside;
-use probes::sampled::put_colour;
 use number::bytes::u64_at;
 use pixels::colour::Rgba;
 use pixels::pixel::pixel;
+use probes::sampled::beyond;
+use probes::sampled::outside;
+use probes::sampled::put_colour;
 
 // The colour at the point numbered k, as the pixel numbered k. A point beyond the domain is passed over.
 fn put_sampled(

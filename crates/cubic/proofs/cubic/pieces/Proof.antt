@@ -1,4 +1,4 @@
--- `sampler::cubic::pieces` meets its contract: each way out is the piece that the definition picks where its tests are as the code found
+-- `cubic::cubic::pieces` meets its contract: each way out is the piece that the definition picks where its tests are as the code found
 -- them. Assumes nothing.
 use borrow.Author.Needs.{needs}
 use Rattle.cubic.specs.Cubic.{pieces}

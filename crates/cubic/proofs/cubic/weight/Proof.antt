@@ -1,4 +1,4 @@
--- `sampler::cubic::weight` meets its contract: the pieces at the magnitude, divided. Assumes nothing.
+-- `cubic::cubic::weight` meets its contract: the pieces at the magnitude, divided. Assumes nothing.
 use borrow.Author.Needs.{needs}
 use Rattle.cubic.proofs.cubic.weight.Statement.{statement}
 use Rattle.cubic.proofs.cubic.weight.Tie as tie

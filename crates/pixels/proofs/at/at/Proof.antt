@@ -1,4 +1,4 @@
--- `sampler::at::at` meets its contract: where the bits of both indexes are below the sizes, the pixel is the picture's own; elsewhere what is named lies
+-- `pixels::at::at` meets its contract: where the bits of both indexes are below the sizes, the pixel is the picture's own; elsewhere what is named lies
 -- inside, and its samples are the answer. Assumes nothing.
 use mathlib.Core.Path.{sym, _∙_}
 use mir.Facts.{toZ-ofZ}

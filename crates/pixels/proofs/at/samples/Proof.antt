@@ -1,4 +1,4 @@
--- `sampler::at::samples` meets its contract: each arm knows which constructor was named. Assumes nothing.
+-- `pixels::at::samples` meets its contract: each arm knows which constructor was named. Assumes nothing.
 use borrow.Author.Needs.{needs}
 use Rattle.pixels.proofs.at.samples.Statement.{statement}
 use Rattle.pixels.proofs.at.samples.Tie as tie

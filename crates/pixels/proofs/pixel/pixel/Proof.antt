@@ -1,4 +1,4 @@
--- `sampler::pixel::pixel` meets its contract: the numbers of a pixel's samples are small, and lie inside. Assumes nothing.
+-- `pixels::pixel::pixel` meets its contract: the numbers of a pixel's samples are small, and lie inside. Assumes nothing.
 use native.Mathlib.Omega.{arith}
 use Rattle.pixels.specs.Pixel.{pixelAt}
 use Rattle.pixels.proofs.PixelCode.{room, number-small, sample-small}

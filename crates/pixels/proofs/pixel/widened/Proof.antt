@@ -1,4 +1,4 @@
--- `sampler::pixel::widened` meets its contract: each way out rewrites with the tests that led there. Assumes nothing.
+-- `pixels::pixel::widened` meets its contract: each way out rewrites with the tests that led there. Assumes nothing.
 use borrow.Author.Tests.{ne-eqb}
 use Rattle.pixels.specs.Pixel.{widened}
 use borrow.Author.Needs.{needs}

@@ -1,4 +1,4 @@
--- `sampler::store::narrowed` meets its contract: each way out rewrites with the tests that led there. Assumes nothing.
+-- `pixels::store::narrowed` meets its contract: each way out rewrites with the tests that led there. Assumes nothing.
 use mathlib.Core.Path.{_∙_}
 use borrow.Author.Tests.{ne-eqb}
 use Rattle.pixels.specs.Store.{narrowed}

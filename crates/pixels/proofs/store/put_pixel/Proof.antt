@@ -1,4 +1,4 @@
--- `sampler::store::put_pixel` meets its contract: the pixel's first sample is numbered p times the channels. Assumes nothing.
+-- `pixels::store::put_pixel` meets its contract: the pixel's first sample is numbered p times the channels. Assumes nothing.
 use Rattle.pixels.specs.Store.{putPixel}
 use borrow.Author.Needs.{needs}
 use Rattle.pixels.proofs.store.put_pixel.Statement.{statement}

@@ -1,4 +1,4 @@
--- `sampler::index::clamped` meets its contract: each way out rewrites with the tests that led there. Assumes nothing.
+-- `policies::index::clamped` meets its contract: each way out rewrites with the tests that led there. Assumes nothing.
 use borrow.Author.Tests.{lt-ltb, le-ltb}
 use Rattle.policies.specs.Index.{clamped}
 use Rattle.policies.proofs.IndexCode.{signed-from, signed-back}

@@ -1,4 +1,4 @@
--- `sampler::index::mirror` meets its contract: the upper half of a double tile is turned round. Assumes nothing.
+-- `policies::index::mirror` meets its contract: the upper half of a double tile is turned round. Assumes nothing.
 use Prim.Native.Nat.{_*_}
 use native.Mathlib.Omega.{arith}
 use borrow.Author.Tests.{lt-ltb, le-ltb}

@@ -1,4 +1,4 @@
--- `sampler::index::tile` meets its contract, by the sign that the bits tell. Assumes nothing.
+-- `policies::index::tile` meets its contract, by the sign that the bits tell. Assumes nothing.
 use Prim.Native.Nat.{_-_}
 use native.Mathlib.Nat.{mod-lt}
 use native.Mathlib.Omega.{arith}

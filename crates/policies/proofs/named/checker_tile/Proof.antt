@@ -1,4 +1,4 @@
--- `sampler::named::checker_tile` meets its contract: two parities are equal where their sum is even. Assumes nothing.
+-- `policies::named::checker_tile` meets its contract: two parities are equal where their sum is even. Assumes nothing.
 use Rattle.policies.proofs.IndexLaws.{parity-lt}
 use Rattle.policies.proofs.NamedCode.{same-parity, other-parity}
 use borrow.Author.Needs.{needs}

@@ -1,4 +1,4 @@
--- `sampler::named::horizontal_tile` meets its contract, by its one test. Assumes nothing.
+-- `policies::named::horizontal_tile` meets its contract, by its one test. Assumes nothing.
 use Rattle.policies.proofs.IndexCode.{signed-inside, within-yes, within-no}
 use borrow.Author.Needs.{needs}
 use Rattle.policies.proofs.named.horizontal_tile.Statement.{statement}

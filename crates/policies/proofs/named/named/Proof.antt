@@ -1,4 +1,4 @@
--- `sampler::named::named` meets its contract: the test on the bits is that of the index. Assumes nothing.
+-- `policies::named::named` meets its contract: the test on the bits is that of the index. Assumes nothing.
 use mathlib.Core.Path.{sym, _∙_}
 use mathlib.Core.Logic.{⊎-elim}
 use borrow.Author.Tests.{ltb-true, ltb-false}

@@ -1,4 +1,4 @@
--- `sampler::named::named_outside` meets its contract: an arm for each code, and the last for all that are left.
+-- `policies::named::named_outside` meets its contract: an arm for each code, and the last for all that are left.
 -- Assumes nothing.
 use mathlib.Core.Path.{_≡_}
 use Prim.Native.Nat.{ℕ, _≤_, zero-le}

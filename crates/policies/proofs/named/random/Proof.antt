@@ -1,4 +1,4 @@
--- `sampler::named::random` meets its contract: the mix of the bits, reduced. Assumes nothing.
+-- `policies::named::random` meets its contract: the mix of the bits, reduced. Assumes nothing.
 use Rattle.policies.specs.Named.{picked}
 use Rattle.policies.proofs.IndexCode.{bits-signed}
 use borrow.Author.Needs.{needs}

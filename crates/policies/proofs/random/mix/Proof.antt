@@ -1,4 +1,4 @@
--- `sampler::random::mix` meets its contract: the products are the callee's, the rest is as written. Assumes nothing.
+-- `policies::random::mix` meets its contract: the products are the callee's, the rest is as written. Assumes nothing.
 use Rattle.policies.specs.Random.{mix, folded}
 use borrow.Author.Needs.{needs}
 use Rattle.policies.proofs.random.mix.Statement.{statement}

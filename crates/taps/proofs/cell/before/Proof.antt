@@ -1,4 +1,4 @@
--- `sampler::cell::before` meets its contract: the index is small. Assumes nothing.
+-- `taps::cell::before` meets its contract: the index is small. Assumes nothing.
 use mathlib.Core.Path.{_≡_, sym, ap, _∙_, subst}
 use Prim.Native.Nat.{ℕ, _^_, _≤_, _<_}
 use native.Mathlib.Omega.{arith}

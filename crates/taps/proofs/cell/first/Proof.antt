@@ -1,4 +1,4 @@
--- `sampler::cell::first` meets its contract: an arm for each code that rounds or steps back, and the floor for the others. Assumes nothing.
+-- `taps::cell::first` meets its contract: an arm for each code that rounds or steps back, and the floor for the others. Assumes nothing.
 use mathlib.Core.Path.{_≡_, sym, ap, _∙_}
 use Prim.Native.Nat.{_^_, _<_}
 use lib.IntN.{ℤ, pos, _-ℤ_}

@@ -1,4 +1,4 @@
--- `sampler::taps::nearby` meets its contract: both indexes are moved on; where their bits are below the sizes, the pixel is the picture's own. Assumes nothing.
+-- `taps::taps::nearby` meets its contract: both indexes are moved on; where their bits are below the sizes, the pixel is the picture's own. Assumes nothing.
 use mathlib.Core.Path.{sym, _∙_}
 use borrow.Author.Tests.{ltb-true}
 use Rattle.pixels.specs.At.{at}

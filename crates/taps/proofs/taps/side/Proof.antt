@@ -1,4 +1,4 @@
--- `sampler::taps::side` meets its contract: a number for each code. Assumes nothing.
+-- `taps::taps::side` meets its contract: a number for each code. Assumes nothing.
 use Rattle.taps.specs.Interpolation.{interpolation}
 use Rattle.taps.proofs.InterpolationCode.{no-other}
 use Rattle.taps.proofs.taps.side.Statement.{statement}

@@ -1,4 +1,4 @@
--- `sampler::taps::tap` meets its contract: both indexes are moved on, and what is named there lies inside. Assumes nothing.
+-- `taps::taps::tap` meets its contract: both indexes are moved on, and what is named there lies inside. Assumes nothing.
 use mathlib.Core.Path.{_∙_}
 use Rattle.pixels.specs.At.{at}
 use Rattle.pixels.proofs.AtLaws.{named-held}

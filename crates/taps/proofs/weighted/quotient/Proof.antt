@@ -1,4 +1,4 @@
--- `sampler::weighted::quotient` meets its contract: the definition's test is the code's. Assumes nothing.
+-- `taps::weighted::quotient` meets its contract: the definition's test is the code's. Assumes nothing.
 use borrow.Author.Needs.{needs}
 use Rattle.taps.specs.Weighted.{quotient}
 use Rattle.taps.proofs.weighted.quotient.Statement.{statement}

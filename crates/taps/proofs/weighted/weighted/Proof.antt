@@ -1,4 +1,4 @@
--- `sampler::weighted::weighted` meets its contract. The loop's invariant: the sums are the definition's over the taps passed.
+-- `taps::weighted::weighted` meets its contract. The loop's invariant: the sums are the definition's over the taps passed.
 -- Assumes nothing.
 use mathlib.Core.Path.{_≡_, ap, _∙_}
 use Prim.Native.Nat.{ℕ, _-_, _≤_}

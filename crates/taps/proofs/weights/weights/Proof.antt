@@ -1,4 +1,4 @@
--- `sampler::weights::weights` meets its contract: an arm for each code whose taps differ, and the same weight for the others. Assumes nothing.
+-- `taps::weights::weights` meets its contract: an arm for each code whose taps differ, and the same weight for the others. Assumes nothing.
 use mathlib.Core.Path.{sym}
 use Rattle.taps.specs.Interpolation.{interpolation}
 use Rattle.taps.proofs.InterpolationCode.{weights-alike}

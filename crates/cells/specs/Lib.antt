@@ -1,0 +1,2 @@
+-- The definitions of the cells of a stretch.
+pub mod Cells

@@ -1,0 +1,2 @@
+// The cells of a stretch of pixels, worked out before its colours.
+pub mod cells;

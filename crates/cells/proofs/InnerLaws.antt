@@ -37,7 +37,7 @@ sum-less : (f : Format) (a b c : ℕ) → b ≤ a → sum f false a true b c ≡
 unfolding sum
 sum-less f a b c h = ap (λ (t : Bool). cond t (round f true (b - a) c) (round f false (a - b) c)) (le-ltb a b h)
 
-half-value : HasValue half false 1 2
+pub half-value : HasValue half false 1 2
 half-value = unfold ofBits in (refl, refl)
 
 pub less-half : (m : ℕ) (e : ℤ) → down e ≤ m * up e * 2 → fin false m e ⊖ half ≡ round binary64 false (m * up e * 2 - down e) (down e * 2)
@@ -68,10 +68,10 @@ least-is = power-is (ofBits binary64 0x3810_0000_0000_0000) 1 (2 ^ 126) (pow-pos
 one-is : round binary64 false 1 1 ≡ ofBits binary64 0x3ff0_0000_0000_0000
 one-is = power-is (ofBits binary64 0x3ff0_0000_0000_0000) 1 1 (zero-lt-suc 0) (ofBits-fits binary64 0x3ff0_0000_0000_0000) (unfold ofBits in (refl, refl))
 
-abbrev large : Float
+abbrev pub large : Float
 large = ofBits binary64 0x41c0_0000_0000_0000  -- 2^29
 
-large-value : HasValue large false 536870912 1
+pub large-value : HasValue large false 536870912 1
 large-value = unfold ofBits in (refl, refl)
 
 limit-value : HasValue limit false 1073741824 1
@@ -142,11 +142,28 @@ short-round r c C h l = record { held = round-fits binary64 false r c; short = g
         turned : (r c : ℕ) → r ≤ c → r * 1 ≤ 1 * c
         turned r c h = omega arith
 
-low-nought : Low nought
+pub low-nought : Low nought
 low-nought = unfold inDomain floorℤ ofBits in record { domain = tt; whole = 0; small = lit< tt; floor = refl }
 
 parted-nought : Parted nought
 parted-nought = unfold floorF64 floorℤ inDomain isZero ofBits ofInt sub fits in record { same = refl; rest = record { held = tt; short = inl refl } }
+
+-- ---- the tests of digits: a -0 is not negative, and 2^30 is the limit
+pub zero-digits : (m : ℕ) (e : ℤ) → T (le nought (fin true m e)) → m * up e ≡ 0
+zero-digits m e l = none (m * up e) (nltb→le 0 (m * up e + 0) (subst T (le-values nought (fin true m e) false true 0 (m * up e) (down e) (down-pos e) zero-value (refl, refl)) l))
+  where
+    zero-value : HasValue nought false 0 (down e)
+    zero-value = subst (λ (y : Float). HasValue y false 0 (down e)) (sym (zero-bits binary64)) (refl, zero-mul (down e))
+
+    none : (a : ℕ) → a + 0 ≤ 0 → a ≡ 0
+    none a h = omega arith
+
+pub within-is : (s : Bool) (m : ℕ) (e : ℤ) → m * up e ≤ 1073741824 * down e → T (within limit (fin s m e))
+within-is s m e h =
+    unfold within abs in
+    subst T (sym (sizes-order (fin false m e) limit (m * up e) (1073741824 * down e) (down e) (down-pos e) (refl, refl)
+    (rescale limit false 1073741824 1 (1073741824 * down e) (down e) (zero-lt-suc 0) (sym (mul-one (1073741824 * down e))) limit-value)))
+    (le→leb (m * up e) (1073741824 * down e) h)
 
 -- ---- the floor of a number below `reach`
 pub record Floored (reach : ℕ) (x : Float) : Type 0 where
@@ -195,15 +212,7 @@ module _ (reach : ℕ) (R : reach ≤ 65536) where
   floored-any (inf true) l h = absurd (unfold le ofBits in l)
   floored-any (inf false) l h = absurd (under-finite reach R h)
   floored-any (fin false m e) l h = floored m e (under-digits reach R m e h)
-  floored-any (fin true m e) l h =
-      floored-minus m e (none (m * up e) (nltb→le 0 (m * up e + 0) (subst T (le-values nought (fin true m e) false true 0 (m * up e) (down e) (down-pos e) zero-value (refl, refl)) l)))
-      (ltb→lt 0 (m * up e + reach * down e) (subst T (under-is reach R true m e) h))
-    where
-      zero-value : HasValue nought false 0 (down e)
-      zero-value = subst (λ (y : Float). HasValue y false 0 (down e)) (sym (zero-bits binary64)) (refl, zero-mul (down e))
-
-      none : (a : ℕ) → a + 0 ≤ 0 → a ≡ 0
-      none a h = omega arith
+  floored-any (fin true m e) l h = floored-minus m e (zero-digits m e l) (ltb→lt 0 (m * up e + reach * down e) (subst T (under-is reach R true m e) h))
 
   -- ---- what x has beyond it
   module _ (m : ℕ) (e : ℤ) (t : T (fits binary64 (fin false m e))) (lo : 1 * down e ≤ m * up e * 2 ^ 73) (hi : m * up e < reach * down e) where
@@ -308,14 +317,10 @@ module _ (reach : ℕ) (R : reach ≤ 65536) where
     ]
       where
         near : (m : ℕ) (e : ℤ) → 1 * down e ≤ m * up e * 2 → T (under reach (fin false m e ⊖ half)) → T (within limit (fin false m e))
-        near m e l b =
-            unfold within abs in
-            subst T (sym (sizes-order (fin false m e) limit (m * up e) (1073741824 * down e) (down e) (down-pos e) (refl, refl)
-            (rescale limit false 1073741824 1 (1073741824 * down e) (down e) (zero-lt-suc 0) (sym (mul-one (1073741824 * down e))) limit-value)))
-            (elim (lt-or-le (1073741824 * down e) (m * up e)) [
-              | inl g ↦ absurd (not-far 536870912 large (lit≤ tt) large-value (fin false m e ⊖ half) (subst (λ (x : Float). T (le large x)) (sym (less-half m e (plain (down e) (m * up e * 2) l))) (large-less (m * up e) (down e) (down-pos e) g)) b)
-              | inr g ↦ le→leb (m * up e) (1073741824 * down e) g
-            ])
+        near m e l b = within-is false m e (elim (lt-or-le (1073741824 * down e) (m * up e)) [
+          | inl g ↦ absurd (not-far 536870912 large (lit≤ tt) large-value (fin false m e ⊖ half) (subst (λ (x : Float). T (le large x)) (sym (less-half m e (plain (down e) (m * up e * 2) l))) (large-less (m * up e) (down e) (down-pos e) g)) b)
+          | inr g ↦ g
+        ])
           where
             plain : (d a : ℕ) → 1 * d ≤ a → d ≤ a
             plain d a h = omega arith

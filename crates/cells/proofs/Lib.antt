@@ -3,5 +3,6 @@ pub mod OrderLaws
 pub mod InnerLaws
 pub mod NearestLaws
 pub mod ShortLaws
+pub mod TestLaws
 pub mod CellsLaws
 pub mod PlacesLaws

@@ -3,10 +3,10 @@
 use mathlib.Core.Path.{_≡_, refl, sym, ap, _∙_, subst}
 use mathlib.Core.Logic.{inl, inr}
 use mathlib.Core.Bool.{Bool, true, false, cond, _&&_}
-use Prim.Native.Nat.{ℕ, _+_, _-_, _*_, _≤_, _<_}
-use native.Mathlib.Nat.{mul-pos, mul-one, one-mul, zero-lt-suc}
+use Prim.Native.Nat.{ℕ, _+_, _*_, _≤_, _<_}
+use native.Mathlib.Nat.{mul-pos, one-mul, zero-lt-suc}
 use native.Mathlib.Omega.{arith}
-use lib.Dec.{T, le→leb, lit≤}
+use lib.Dec.{T, lit≤}
 use lib.IntN.{ℤ}
 use lib.Ieee.{Float, nan, inf, fin, binary64, up, down, round, sum, add, sub, le, ofBits}
 use lib.Ieee.Bits.{ofBits-fits}
@@ -19,24 +19,16 @@ use Rattle.exact.proofs.Held.{round-held}
 use Rattle.exact.proofs.Naturals.{lt-or-le}
 use Rattle.exact.proofs.Operands.{add-values}
 use Rattle.exact.proofs.Value.{rescale}
-use Rattle.number.specs.Magnitude.{abs, within}
+use Rattle.number.specs.Magnitude.{within}
 use Rattle.cells.specs.Cells.{limit}
 use Rattle.cells.specs.Inner.{nought, under, nearby, Low}
-use Rattle.cells.proofs.OrderLaws.{Above, above, under-finite}
-use Rattle.cells.proofs.InnerLaws.{Floored, floored-low, floored-any, half-value, large, large-value, large-less, less-half, not-far, within-is, zero-digits, low-nought}
+use Rattle.cells.proofs.OrderLaws.{above, under-finite}
+use Rattle.cells.proofs.InnerLaws.{Floored, floored-low, floored-any, twice, twice-pos, half-over, large, large-value, large-less, less-half, not-far, within-is, zero-digits, low-nought}
 
 -- ---- x + 0.5
 more-half : (m : ℕ) (e : ℤ) → fin false m e ⊕ half ≡ round binary64 false (m * up e * 2 + down e) (down e * 2)
 unfolding sum
-more-half m e =
-    let a = m * up e in
-    let d = down e in
-    add-values binary64 (fin false m e) half false false (a * 2) d (d * 2) (mul-pos (down-pos e) (zero-lt-suc 1))
-    (rescale (fin false m e) false a d (a * 2) (d * 2) (down-pos e) (turn a d) (refl, refl))
-    (rescale half false 1 2 d (d * 2) (zero-lt-suc 1) (one-mul (d * 2)) half-value)
-  where
-    turn : (a d : ℕ) → a * (d * 2) ≡ a * 2 * d
-    turn a d = omega arith
+more-half m e = add-values binary64 (fin false m e) half false false (m * up e * 2) (down e) (down e * 2) (twice-pos e) (twice m e) (half-over (down e))
 
 abbrev wide : Float
 wide = ofBits binary64 0x41b0_0000_0000_0000  -- 2^28

@@ -6,6 +6,7 @@ ghost use Prim.Native.Nat.{_≤_, _<_};
 ghost use Rattle.taps.specs.Interpolation.{Integer, Nearest, interpolation};
 ghost use lib.ListN.{length};
 ghost use Rattle.cells.specs.Cells.{Cells, Places};
+ghost use Rattle.cells.specs.Inner.{inner, nearby, Every};
 use crate::inner::beside;
 use crate::inner::column;
 use crate::inner::inside;
@@ -31,6 +32,7 @@ fn fill(us: &[f64; 64], n: usize, reach: u64, cs: &mut [u32; 64], ts: &mut [f32;
     requires { ⌜ reach ≤ 65536 ⌝ }
     requires { ⌜ (length (now us) ≡ 64) × ((length (now cs) ≡ 64) × (length (now ts) ≡ 64)) ⌝ }
     ensures { λ r. ⌜ (r ≡ true → Cells reach n (now (us .entry)) (now (cs .exit)) (now (ts .exit))) ⌝ }
+    ensures { λ r. ⌜ (Every (inner reach) n (now (us .entry)) → r ≡ true) ⌝ }
 {
     let mut good = true;
     for k in 0..n {
@@ -43,7 +45,7 @@ fn fill(us: &[f64; 64], n: usize, reach: u64, cs: &mut [u32; 64], ts: &mut [f32;
     good
 }
 
-// The cells of the first n coordinates, if the answer is true. It may be false for any of them, and then the arrays say nothing.
+// The cells of the first n coordinates, if the answer is true. The contract leaves it free to be false, and then the arrays say nothing; `fill` says when it is true.
 pub fn cells(us: &[f64; 64], n: usize, reach: u64, cs: &mut [u32; 64], ts: &mut [f32; 64]) -> bool
     requires { ⌜ n ≤ 64 ⌝ }
     requires { ⌜ reach ≤ 65536 ⌝ }
@@ -60,6 +62,7 @@ fn integer_places(us: &[f64; 64], n: usize, reach: u64, cs: &mut [u32; 64]) -> b
     requires { ⌜ reach ≤ 65536 ⌝ }
     requires { ⌜ (length (now us) ≡ 64) × (length (now cs) ≡ 64) ⌝ }
     ensures { λ r. ⌜ (r ≡ true → Places Integer reach n (now (us .entry)) (now (cs .exit))) ⌝ }
+    ensures { λ r. ⌜ (Every (inner reach) n (now (us .entry)) → r ≡ true) ⌝ }
 {
     let mut good = true;
     for k in 0..n {
@@ -75,6 +78,7 @@ fn nearest_places(us: &[f64; 64], n: usize, reach: u64, cs: &mut [u32; 64]) -> b
     requires { ⌜ reach ≤ 65536 ⌝ }
     requires { ⌜ (length (now us) ≡ 64) × (length (now cs) ≡ 64) ⌝ }
     ensures { λ r. ⌜ (r ≡ true → Places Nearest reach n (now (us .entry)) (now (cs .exit))) ⌝ }
+    ensures { λ r. ⌜ (Every (nearby reach) n (now (us .entry)) → r ≡ true) ⌝ }
 {
     let mut good = true;
     for k in 0..n {

@@ -13,8 +13,8 @@ ghost use Rattle.band.specs.Joined.{joined, totalled};
 use crate::pixel::put_one;
 use crate::three::put_bilinear;
 use crate::three::put_single;
-use inverse::points::points;
 use pixels::colour::Rgba;
+use points::points::points;
 
 // The colours of n pixels, by any interpolation, put `depth` samples a pixel from the band's pixel numbered `place` on; and how many are matte.
 fn put_any(

@@ -6,14 +6,14 @@ ghost use Prim.Native.Nat.{ℕ, _+_, _*_, _≤_, _<_};
 ghost use lib.ListN.{length, take, drop};
 ghost use Rattle.matrix.specs.Matrix as Vectors;
 ghost use Rattle.pixels.specs.Pixel.{Picture};
-ghost use Rattle.pixels.specs.Store.{putPixel};
+ghost use Rattle.stored.specs.Store.{putPixel};
 ghost use Rattle.band.specs.Band.{keptColour, keptMatte, pixelBytes};
 ghost use Rattle.band.specs.Joined.{joined, totalled};
-use inverse::usable::point;
 use pixels::colour::Rgba;
-use pixels::store::put_pixel;
+use point::usable::point;
 use sampler::opaque::bilinear3;
 use sampler::opaque::single3;
+use stored::store::put_pixel;
 
 // One pixel by `Bilinear`, as `put_one` puts it.
 fn put_bilinear_one(

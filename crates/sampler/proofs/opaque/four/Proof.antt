@@ -6,9 +6,9 @@ use native.Mathlib.Omega.{arith}
 use lib.ListN.{length}
 use denote.Ref.{now}
 use Rattle.pixels.specs.Pixel.{pixelAt}
-use Rattle.taps.specs.Weighted.{mean, weighted}
+use Rattle.weighted.specs.Weighted.{mean, weighted}
 use Rattle.taps.specs.Weights.{corners}
-use Rattle.taps.proofs.WeightedOpaque.{summed-four}
+use Rattle.weighted.proofs.WeightedOpaque.{summed-four}
 use Rattle.sampler.proofs.OpaqueCode.{room3, small3, own-pixel, next-pixel, under-pixel, corner-pixel}
 use mathlib.Core.Path.{_≡_, refl, sym, ap, _∙_}
 use Prim.Native.Nat.{ℕ, _+_, _-_, _≤_, _<_}

@@ -28,7 +28,8 @@ fn main() {
         println!("cargo::rerun-if-changed={}", archive.display());
         if !archive.is_file() {
             println!(
-                "cargo::error=lib{name}.a is not in target/staticlib: run `make` at the project's root first"
+                "cargo::error=lib{name}.a is not in {}: run `rt staticlib {name}` at the project's root first",
+                folder.display()
             );
             return;
         }

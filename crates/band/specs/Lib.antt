@@ -2,3 +2,4 @@
 pub mod Band
 pub mod Image
 pub mod Joined
+pub mod Plain

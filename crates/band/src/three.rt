@@ -9,6 +9,8 @@ ghost use Rattle.pixels.specs.Pixel.{Picture};
 ghost use Rattle.pixels.specs.Store.{putPixel};
 ghost use Rattle.band.specs.Band.{keptColour, keptMatte, pixelBytes};
 ghost use Rattle.band.specs.Joined.{joined, totalled};
+use crate::plain::put_cells;
+use cells::cells::cells;
 use inverse::usable::point;
 use pixels::colour::Rgba;
 use pixels::store::put_pixel;
@@ -47,8 +49,8 @@ fn put_bilinear_one(
     1
 }
 
-// The colours of n pixels by `Bilinear`, put from the band's pixel numbered `place` on; and how many are matte.
-pub fn put_bilinear(
+// The colours of n pixels by `Bilinear`, wherever they lie, put from the band's pixel numbered `place` on; and how many are matte.
+fn put_bilinear_each(
     picture: &[u8],
     width: u64,
     height: u64,
@@ -84,6 +86,62 @@ pub fn put_bilinear(
             );
     }
     missed
+}
+
+// The same, by cells and fractions worked out first where all of them lie inside: put from the band's pixel numbered `place` on; and how many are matte.
+pub fn put_bilinear(
+    picture: &[u8],
+    width: u64,
+    height: u64,
+    policy: u64,
+    background: Rgba,
+    matte: Rgba,
+    us: &[f64; 64],
+    vs: &[f64; 64],
+    n: usize,
+    place: u64,
+    band: &mut [u8],
+) -> u64
+    requires { ⌜ Picture (now picture) width height 3 ⌝ }
+    requires { ⌜ n ≤ 64 ⌝ }
+    requires { ⌜ (place + n) * 3 * 4 ≤ length (now band) ⌝ }
+    ensures { λ r.
+        ⌜ (r ≡ totalled (λ (k : ℕ). keptMatte (Vectors.at (now (us .entry)) k) (Vectors.at (now (vs .entry)) k)) n) × (now (band .exit) ≡ take (place * 3 * 4) (now (band .entry)) ++ joined (λ (k : ℕ). pixelBytes 3 (keptColour (record { image = record { bytes = now (picture .entry); width = width; height = height; channels = 3 }; policy = policy; interpolation = 5; background = background; matte = matte }) (Vectors.at (now (us .entry)) k) (Vectors.at (now (vs .entry)) k))) n ++ drop ((place + n) * 3 * 4) (now (band .entry))) ⌝ }
+{
+    let mut columns = [0; 64];
+    let mut rows = [0; 64];
+    let mut xs = [0.0; 64];
+    let mut ys = [0.0; 64];
+    if cells(us, n, width - 1, &mut columns, &mut xs) {
+        if cells(vs, n, height - 1, &mut rows, &mut ys) {
+            put_cells(
+                picture,
+                width,
+                height,
+                &columns,
+                &rows,
+                &xs,
+                &ys,
+                n,
+                place,
+                band,
+            );
+            return 0;
+        }
+    }
+    put_bilinear_each(
+        picture,
+        width,
+        height,
+        policy,
+        background,
+        matte,
+        us,
+        vs,
+        n,
+        place,
+        band,
+    )
 }
 
 // One pixel by `Integer` or `Nearest`, as `put_one` puts it.

@@ -1,4 +1,4 @@
--- `band::three::put_bilinear` meets its contract. The loop's invariant: the pixels passed are in the band, and the matte ones among them are
+-- `band::three::put_bilinear_each` meets its contract. The loop's invariant: the pixels passed are in the band, and the matte ones among them are
 -- counted. Assumes nothing.
 use mathlib.Core.Path.{_∙_, refl}
 use mathlib.Core.Logic.{inl, inr}
@@ -11,8 +11,8 @@ use Rattle.inverse.specs.Point.{usable}
 use Rattle.band.specs.Band.{Source, keptColour, keptMatte}
 use Rattle.band.proofs.PixelLaws.{channels-pos}
 use Rattle.band.proofs.RowLaws.{RowHolds, row-start, row-room, row-one, row-next, row-done, row-same, bit-most, place-small}
-use Rattle.band.proofs.three.put_bilinear.Statement.{statement}
-use Rattle.band.proofs.three.put_bilinear.Tie as tie
+use Rattle.band.proofs.three.put_bilinear_each.Statement.{statement}
+use Rattle.band.proofs.three.put_bilinear_each.Tie as tie
 
 abbrev Inv-loop : tie.InvT-loop
 Inv-loop picture width height policy background matte us vs n place band₀ missed₀ k₀ band missed k =
@@ -56,8 +56,8 @@ returns c =
     let H = c .before .loop .inv in
     (H .count ∙ rw (le-antisymm (H .most) (search needs)), row-done (a .pre .1 .1) H (le-antisymm (H .most) (search needs)))
 
-pub put-bilinear-spec : {M : Type 1} → statement M
-put-bilinear-spec =
+pub put-bilinear-each-spec : {M : Type 1} → statement M
+put-bilinear-each-spec =
     tie.close
     (tie.spec
     Inv-loop

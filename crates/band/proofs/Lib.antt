@@ -2,6 +2,7 @@
 pub mod JoinedLaws
 pub mod LengthLaws
 pub mod PixelLaws
+pub mod PlainLaws
 pub mod ReachLaws
 pub mod RowLaws
 pub mod StretchLaws

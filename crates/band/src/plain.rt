@@ -19,6 +19,13 @@ fn sized(a: [f32; 64])
     ensures { λ _. ⌜ length a ≡ 64 ⌝ }
 {}
 
+// A column or row as the sampler numbers it.
+fn wide(c: u32) -> u64
+    ensures { λ r. ⌜ r ≡ c ⌝ }
+{
+    c as u64
+}
+
 // The weights of the first n points at their fractions, and their sums.
 fn weigh(
     xs: &[f32; 64],
@@ -114,8 +121,8 @@ fn put_plain(
                 picture,
                 width,
                 height,
-                columns[k] as u64,
-                rows[k] as u64,
+                wide(columns[k]),
+                wide(rows[k]),
                 w00[k],
                 w10[k],
                 w01[k],

@@ -1,6 +1,7 @@
 -- The laws of the band.
 pub mod JoinedLaws
 pub mod LengthLaws
+pub mod NumberLaws
 pub mod PixelLaws
 pub mod PlainLaws
 pub mod ReachLaws

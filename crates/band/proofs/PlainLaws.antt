@@ -1,6 +1,6 @@
 -- A stretch inside. With f32 fractions from 0 to 1 the weights' sum is a number to divide by, and the taps' alphas are 1, so that the quotients by it are the weighted mean; and the mean in a
 -- point's own cell is what `interpolate` shows there.
--- Provides: `Weighing`, `weigh-none`, `weigh-more`, `weigh-last` (the loop over weights); `mixed-blend`, `blend-all` (the colours of cells); `cells-inside`, `cells-units`, `cells-mattes`, `cells-colours` (from
+-- Provides: `Weighing`, `weigh-none`, `weigh-more`, `weigh-last` (the loop over weights); `mixed-blend`, `blend-all`, `mixable` (the colours of cells); `cells-inside`, `cells-units`, `cells-mattes`, `cells-colours` (from
 -- cells to the band's definition). Assumes nothing.
 use mathlib.Core.Path.{_≡_, refl, sym, ap, _∙_}
 use mathlib.Core.Logic.{_≢_}
@@ -21,7 +21,7 @@ use Rattle.exact.specs.Weighted.{w00, w10, w01, w11, weightSum, alphaSum, colou
 use Rattle.exact.proofs.Weighted.{alpha-sum, alpha-one}
 use Rattle.matrix.specs.Matrix.{at}
 use Rattle.number.specs.Magnitude.{within}
-use Rattle.pixels.specs.Pixel.{pixelAt, widened}
+use Rattle.pixels.specs.Pixel.{Picture, pixelAt, widened}
 use Rattle.pixels.specs.declared.colour.Rgba.{Rgba}
 use Rattle.inverse.specs.Point.{limit, usable}
 use Rattle.taps.specs.Weighted.{added, weighted, mean}
@@ -33,8 +33,9 @@ use Rattle.sampler.specs.Square.{squareSums}
 use Rattle.sampler.proofs.OpaqueCode.{bilinear-inside}
 use Rattle.band.specs.Band.{Source, shown, keptColour, keptMatte, pixelBytes}
 use Rattle.band.specs.Joined.{joined, totalled}
-use Rattle.band.specs.Plain.{Inside, Fractions, Weighed, Weights, blend, over, mixed}
+use Rattle.band.specs.Plain.{Inside, Fractions, Weighed, Weights, Mixable, blend, over, mixed}
 use Rattle.band.proofs.JoinedLaws.{joined-same, totalled-same, totalled-most}
+use Rattle.band.proofs.NumberLaws.{blend-numbers}
 
 -- ---- the loop over weights
 -- what it knows after k turns: k points are weighed, in lists of 64 places
@@ -130,6 +131,14 @@ module _ (bytes : List ℕ) (w : ℕ) (columns rows : List ℕ) {n : ℕ} {xs ys
       joined-same (λ (k : ℕ). pixelBytes 3 (mixed bytes w (getD columns k 0) (getD rows k 0) (at w₁ k) (at w₂ k) (at w₃ k) (at w₄ k) (at sums k)))
       (λ (k : ℕ). pixelBytes 3 (blend bytes w (getD columns k 0) (getD rows k 0) (at xs k) (at ys k))) n
       (λ k l. ap (pixelBytes 3) (mixed-blend bytes w (getD columns k 0) (getD rows k 0) (X .unit k l) (Y .unit k l) (W .weighed k l)))
+
+  pub mixable : (h : ℕ) → Picture bytes w h 3 → Inside w h n columns rows → Fractions n xs → Fractions n ys → Weights n xs ys w₁ w₂ w₃ w₄ sums → Mixable bytes w n columns rows w₁ w₂ w₃ w₄ sums
+  mixable h P I X Y W =
+      record {
+        numbers = λ k l.
+            rw (mixed-blend bytes w (getD columns k 0) (getD rows k 0) (X .unit k l) (Y .unit k l) (W .weighed k l))
+            (blend-numbers bytes w h (getD columns k 0) (getD rows k 0) P (I .column k l) (I .row k l) (at xs k) (at ys k) (X .unit k l) (Y .unit k l));
+      }
 
 pub cells-units : {reach n : ℕ} {us : List Float} {cs : List ℕ} {ts : List Float} → Cells reach n us cs ts → Fractions n ts
 cells-units {reach} {n} {us} {cs} {ts} C = record { unit = λ k l. rw (C .cell k l .fraction) (cell-law (at us k ⊖ half) (C .cell k l .reached) .fraction) }

@@ -2,9 +2,11 @@
 -- cell's four pixels. Assumes nothing.
 use Prim.Native.Nat.{ℕ, _+_, _<_}
 use mathlib.Core.Path.{_≡_}
+use mathlib.Core.Bool.{not}
 use mathlib.Core.List.{List, [], _∷_}
+use lib.Dec.{T}
 use lib.ListN.{getD}
-use lib.Ieee.{Float}
+use lib.Ieee.{Float, isNan}
 use Rattle.exact.specs.Single.{_⊘_}
 use Rattle.exact.specs.Weighted.{w00, w10, w01, w11, weightSum, Unit32}
 use Rattle.matrix.specs.Matrix.{at}
@@ -43,6 +45,12 @@ pub record Weighed (tx ty a b c d s : Float) : Type 0 where
 pub record Weights (n : ℕ) (xs ys w₀₀ w₁₀ w₀₁ w₁₁ ws : List Float) : Type 0 where
   pub weighed : (k : ℕ) → k < n → Weighed (at xs k) (at ys k) (at w₀₀ k) (at w₁₀ k) (at w₀₁ k) (at w₁₁ k) (at ws k)
 
+-- the three samples that are put are no NaNs
+pub record Numbers (c : Rgba) : Type 0 where
+  pub red : T (not (isNan (c .r)))
+  pub green : T (not (isNan (c .g)))
+  pub blue : T (not (isNan (c .b)))
+
 -- the sums of colours over the sum of weights; an opaque colour
 abbrev pub over : Sums → Float → Rgba
 over s t = record { r = s .r ⊘ t; g = s .g ⊘ t; b = s .b ⊘ t; a = one }
@@ -50,3 +58,7 @@ over s t = record { r = s .r ⊘ t; g = s .g ⊘ t; b = s .b ⊘ t; a = one }
 -- the cell's colour by given weights and their sum
 unfoldable pub mixed : List ℕ → ℕ → ℕ → ℕ → Float → Float → Float → Float → Float → Rgba
 mixed bytes width i j a b c d s = over (squareSums bytes width i j a b c d) s
+
+-- the first n colours so made are numbers
+pub record Mixable (bytes : List ℕ) (width n : ℕ) (columns rows : List ℕ) (w₀₀ w₁₀ w₀₁ w₁₁ ws : List Float) : Type 0 where
+  pub numbers : (k : ℕ) → k < n → Numbers (mixed bytes width (getD columns k 0) (getD rows k 0) (at w₀₀ k) (at w₁₀ k) (at w₀₁ k) (at w₁₁ k) (at ws k))

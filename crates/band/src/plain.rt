@@ -6,12 +6,13 @@ ghost use Prim.Native.Nat.{ℕ, _+_, _*_, _≤_, _<_};
 ghost use lib.ListN.{length, take, drop, getD};
 ghost use Rattle.matrix.specs.Matrix as Vectors;
 ghost use Rattle.pixels.specs.Pixel.{Picture};
+ghost use Rattle.pixels.specs.Store.{putPixel};
 ghost use Rattle.band.specs.Band.{pixelBytes};
 ghost use Rattle.band.specs.Joined.{joined};
 ghost use Rattle.band.specs.Plain as Plain;
-ghost use Rattle.band.specs.Plain.{Inside, Fractions, Weights, blend};
+ghost use Rattle.band.specs.Plain.{Inside, Fractions, Numbers, Weights, Mixable, blend};
 use pixels::colour::Rgba;
-use pixels::store::put_pixel;
+use pixels::store::put_numbers;
 use sampler::opaque::sums;
 
 // An array has as many elements as its type says: a function is told so of one that it takes by value.
@@ -89,6 +90,15 @@ fn mixed(
     }
 }
 
+// The pixel numbered `place`, of a colour whose samples are numbers: no test for a NaN.
+fn put_number_pixel(band: &mut [u8], place: u64, c: Rgba)
+    requires { ⌜ (place * 3 + 3) * 4 ≤ length (now band) ⌝ }
+    requires { ⌜ Numbers c ⌝ }
+    ensures { λ _. ⌜ now (band .exit) ≡ putPixel (now (band .entry)) 3 place c ⌝ }
+{
+    put_numbers(band, place * 3, c);
+}
+
 // The colours of n cells at their weights, put from the band's pixel numbered `place` on.
 fn put_plain(
     picture: &[u8],
@@ -108,14 +118,14 @@ fn put_plain(
     requires { ⌜ Picture (now picture) width height 3 ⌝ }
     requires { ⌜ n ≤ 64 ⌝ }
     requires { ⌜ Inside width height n (now columns) (now rows) ⌝ }
+    requires { ⌜ Mixable (now picture) width n (now columns) (now rows) (now w00) (now w10) (now w01) (now w11) (now ws) ⌝ }
     requires { ⌜ (place + n) * 3 * 4 ≤ length (now band) ⌝ }
     ensures { λ _.
         ⌜ now (band .exit) ≡ take (place * 3 * 4) (now (band .entry)) ++ joined (λ (k : ℕ). pixelBytes 3 (Plain.mixed (now (picture .entry)) width (getD (now (columns .entry)) k 0) (getD (now (rows .entry)) k 0) (Vectors.at (now (w00 .entry)) k) (Vectors.at (now (w10 .entry)) k) (Vectors.at (now (w01 .entry)) k) (Vectors.at (now (w11 .entry)) k) (Vectors.at (now (ws .entry)) k))) n ++ drop ((place + n) * 3 * 4) (now (band .entry)) ⌝ }
 {
     for k in 0..n {
-        put_pixel(
+        put_number_pixel(
             band,
-            3,
             place + k as u64,
             mixed(
                 picture,

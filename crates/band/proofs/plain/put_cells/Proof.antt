@@ -5,12 +5,15 @@ use Prim.Native.Nat.{ℕ, _+_, _*_}
 use lib.ListN.{take, drop}
 use denote.Ref.{now}
 use borrow.Author.Needs.{needs}
-use Rattle.band.proofs.PlainLaws.{blend-all}
+use Rattle.band.proofs.PlainLaws.{blend-all, mixable}
 use Rattle.band.proofs.plain.put_cells.Statement.{statement}
 use Rattle.band.proofs.plain.put_cells.Tie as tie
 
 put-plain-requires : tie.Need-put-plain-requires
-put-plain-requires c κs = let a = c .before .before .before .before .before .before .before .before .before .before .before .before .before .before in (a .pre .0, (a .pre .1 .0, (a .pre .1 .1 .0, a .pre .1 .1 .1 .1)))
+put-plain-requires c κs =
+    let a = c .before .before .before .before .before .before .before .before .before .before .before .before .before .before in
+    let F = a .pre .1 .1 .1 .0 in
+    (a .pre .0, (a .pre .1 .0, (a .pre .1 .1 .0, (mixable (now (a .args .picture)) (a .args .width) (now (a .args .columns)) (now (a .args .rows)) (a .args .height) (a .pre .0) (a .pre .1 .1 .0) (F .0) (F .1) (c .before .before .before .before .before .before .weigh .ensures), a .pre .1 .1 .1 .1))))
 
 returns : tie.Need-returns
 returns c =

@@ -21,33 +21,35 @@ abbrev μ-loop : tie.MeasureT-loop
 μ-loop picture width height columns rows w00 w10 w01 w11 ws n place band₀ k₀ band k = n - k
 
 loop-holds : tie.Need-loop-holds Inv-loop μ-loop
-loop-holds c = row-start (c .before .before .pre .1 .1 .1) (λ k. omega arith)
+loop-holds c = row-start (c .before .before .pre .1 .1 .1 .1) (λ k. omega arith)
 
-add-put-pixel : tie.Need-add-put-pixel Inv-loop μ-loop
-add-put-pixel c =
+add-put-number-pixel : tie.Need-add-put-number-pixel Inv-loop μ-loop
+add-put-number-pixel c =
     let e = c .before .before .before .before .before in
-    record { fits = omega (arith, place-small (e .args .place) (e .args .n) 3 _ (channels-pos 3 (inr (inl refl))) (e .pre .1 .1 .1), c .before .before .loop .inv .most, e .good .1 .1 .1 .1 .1 .1 .1 .1 .1 .1 .1 .1 .0 .0) }
+    record { fits = omega (arith, place-small (e .args .place) (e .args .n) 3 _ (channels-pos 3 (inr (inl refl))) (e .pre .1 .1 .1 .1), c .before .before .loop .inv .most, e .good .1 .1 .1 .1 .1 .1 .1 .1 .1 .1 .1 .1 .0 .0) }
 
 mixed-requires : tie.Need-mixed-requires Inv-loop μ-loop
 mixed-requires c κs =
     let e = c .before .before .before .before .before .before .before .before .before .before .before .before .before .before in
     (e .pre .0, (rw (c .before .before .before .before .before .before .before .wide .ensures) (e .pre .1 .1 .0 .column _ (search needs)), rw (c .before .before .before .before .before .wide2 .ensures) (e .pre .1 .1 .0 .row _ (search needs))))
 
-put-pixel-requires : tie.Need-put-pixel-requires Inv-loop μ-loop
-put-pixel-requires c κs = (search needs, row-room (c .before .before .before .before .before .before .before .before .before .before .before .before .before .before .before .pre .1 .1 .1) (c .before .before .before .before .before .before .before .before .before .before .before .before .loop .inv) (search needs))
+put-number-pixel-requires : tie.Need-put-number-pixel-requires Inv-loop μ-loop
+put-number-pixel-requires c κs =
+    let e = c .before .before .before .before .before .before .before .before .before .before .before .before .before .before .before in
+    (row-room (e .pre .1 .1 .1 .1) (c .before .before .before .before .before .before .before .before .before .before .before .before .loop .inv) (search needs), rw (c .mixed .ensures, c .before .before .before .before .before .before .before .before .wide .ensures, c .before .before .before .before .before .before .wide2 .ensures) (e .pre .1 .1 .1 .0 .numbers _ (search needs)))
 
 loop-again : tie.Need-loop-again Inv-loop μ-loop
 loop-again c =
-    row-next (c .before .before .before .before .before .before .before .before .before .before .before .before .before .before .before .before .before .before .pre .1 .1 .1) (c .before .before .before .before .before .before .before .before .before .before .before .before .before .before .before .loop .inv) (inr (inl refl)) (search needs) refl
-    (c .before .before .put-pixel .ensures ∙ rw (c .before .before .before .mixed .ensures, c .before .before .before .before .before .before .before .before .before .before .before .wide .ensures, c .before .before .before .before .before .before .before .before .before .wide2 .ensures))
+    row-next (c .before .before .before .before .before .before .before .before .before .before .before .before .before .before .before .before .before .before .pre .1 .1 .1 .1) (c .before .before .before .before .before .before .before .before .before .before .before .before .before .before .before .loop .inv) (inr (inl refl)) (search needs) refl
+    (c .before .before .put-number-pixel .ensures ∙ rw (c .before .before .before .mixed .ensures, c .before .before .before .before .before .before .before .before .before .before .before .wide .ensures, c .before .before .before .before .before .before .before .before .before .wide2 .ensures))
 
 same-length : tie.Need-same-length Inv-loop μ-loop
-same-length c = row-same (c .before .before .before .before .pre .1 .1 .1) (c .before .loop .inv)
+same-length c = row-same (c .before .before .before .before .pre .1 .1 .1 .1) (c .before .loop .inv)
 
 returns : tie.Need-returns Inv-loop μ-loop
 returns c =
     let H = c .before .loop .inv in
-    row-done (c .before .before .before .before .pre .1 .1 .1) H (le-antisymm (H .most) (search needs))
+    row-done (c .before .before .before .before .pre .1 .1 .1 .1) H (le-antisymm (H .most) (search needs))
 
 pub put-plain-spec : {M : Type 1} → statement M
 put-plain-spec =
@@ -56,7 +58,7 @@ put-plain-spec =
     Inv-loop
     μ-loop
     loop-holds
-    add-put-pixel
+    add-put-number-pixel
     (λ c. search needs)
     (λ c. search needs)
     (λ c κs. search needs)
@@ -74,7 +76,7 @@ put-plain-spec =
     (λ c. search needs)
     (λ c. search needs)
     mixed-requires
-    put-pixel-requires
+    put-number-pixel-requires
     (λ c. search needs)
     (λ c. search needs)
     loop-again

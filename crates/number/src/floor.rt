@@ -29,7 +29,7 @@ fn excess(x: f64, r: f64) -> f64
 }
 
 // The floor of an x in the domain, +0 for a zero: the whole number next to x, or one less.
-fn whole_below(x: f64) -> f64
+pub fn whole_below(x: f64) -> f64
     requires { ⌜ T (inDomain x) ⌝ }
     ensures { λ f. ⌜ f ≡ ofInt binary64 (floorℤ x) ⌝ }
 {

@@ -9,13 +9,13 @@ use native.Mathlib.Nat.{not-suc-le-zero}
 use native.Mathlib.Omega.{arith}
 use borrow.Author.Count.{below-more}
 use lib.Dec.{T}
-use lib.IntN.{ℤ, pos, natAbs}
+use lib.IntN.{pos, natAbs}
 use lib.ListN.{getD, length, set, length-set}
 use lib.Seq.{getD-set-same, getD-set-other}
-use lib.Ieee.{Float, nan, binary64, fits}
+use lib.Ieee.{Float, nan}
 use Rattle.exact.specs.Double.{_⊖_}
 use Rattle.exact.specs.Warp.{half}
-use Rattle.number.specs.Floor.{floorℤ, floorI64}
+use Rattle.number.specs.Floor.{floorℤ}
 use Rattle.number.proofs.FloorLaws.{floor-integer}
 use Rattle.taps.specs.Cell as Taps
 use Rattle.taps.proofs.CellFloor.{usable-reached}

@@ -4,13 +4,13 @@ use mathlib.Core.Path.{_≡_, refl, sym, ap, _∙_, subst}
 use mathlib.Core.Logic.{_⊎_, inl, inr}
 use mathlib.Core.Bool.{Bool, true, false, not, cond}
 use Prim.Native.Nat.{ℕ, zero, suc, _+_, _-_, _*_, _/_, _^_, _≤_, _<_}
-use native.Mathlib.Nat.{le-refl, le-trans, le-of-lt, le-of-eq, lt-of-lt-of-le, mul-pos, mul-one, one-mul, zero-mul, mul-le-mul-right, mul-right-comm, zero-lt-suc, div-mul-le-self, div-lt-iff-lt-mul, lt-irrefl}
+use native.Mathlib.Nat.{le-refl, le-trans, le-of-lt, lt-of-lt-of-le, mul-pos, mul-one, one-mul, zero-mul, mul-le-mul-right, zero-lt-suc, div-mul-le-self, div-lt-iff-lt-mul, lt-irrefl}
 use native.Mathlib.Omega.{arith}
 use borrow.Author.Tests.{le-ltb, ne-eqb}
 use lib.Dec.{T, le→leb, ltb→lt, nltb→le, eqb, lit≤, lit<}
 use lib.IntN.{ℤ, pos, negsuc}
 use lib.Pow.{pow-pos}
-use lib.Ieee.{Float, nan, inf, fin, Format, binary64, up, down, round, sum, add, sub, neg, le, lt, ofBits, ofInt, fits}
+use lib.Ieee.{Float, nan, inf, fin, Format, binary64, up, down, round, sum, sub, le, ofBits, ofInt, fits}
 use lib.Ieee.Bits.{ofBits-fits}
 use lib.Ieee.Exact.{HasValue}
 use lib.Ieee.Fits.{up-pos, down-pos, round-fits, sub-fits, and-l, and-r}
@@ -37,25 +37,31 @@ sum-less : (f : Format) (a b c : ℕ) → b ≤ a → sum f false a true b c ≡
 unfolding sum
 sum-less f a b c h = ap (λ (t : Bool). cond t (round f true (b - a) c) (round f false (a - b) c)) (le-ltb a b h)
 
-half-value : HasValue half false 1 2
+pub half-value : HasValue half false 1 2
 half-value = unfold ofBits in (refl, refl)
 
-pub less-half : (m : ℕ) (e : ℤ) → down e ≤ m * up e * 2 → fin false m e ⊖ half ≡ round binary64 false (m * up e * 2 - down e) (down e * 2)
-less-half m e h =
-    let a = m * up e in
-    let d = down e in
-    sub-values binary64 (fin false m e) half false false (a * 2) d (d * 2) (mul-pos (down-pos e) (zero-lt-suc 1))
-    (rescale (fin false m e) false a d (a * 2) (d * 2) (down-pos e) (turn a d) (refl, refl))
-    (rescale half false 1 2 d (d * 2) (zero-lt-suc 1) (one-mul (d * 2)) half-value)
-    ∙ sum-less binary64 (a * 2) d (d * 2) h
+-- x and 0.5 over twice the denominator of x
+pub twice : (m : ℕ) (e : ℤ) → HasValue (fin false m e) false (m * up e * 2) (down e * 2)
+twice m e = rescale (fin false m e) false (m * up e) (down e) (m * up e * 2) (down e * 2) (down-pos e) (turn (m * up e) (down e)) (refl, refl)
   where
     turn : (a d : ℕ) → a * (d * 2) ≡ a * 2 * d
     turn a d = omega arith
 
--- ---- the powers that results are compared with
-power-is : (y : Float) (p q : ℕ) → 0 < q → T (fits binary64 y) → HasValue y false p q → round binary64 false p q ≡ y
-power-is y p q Q t v = round-held binary64 y false p q Q t v
+pub half-over : (d : ℕ) → HasValue half false d (d * 2)
+half-over d = rescale half false 1 2 d (d * 2) (zero-lt-suc 1) (one-mul (d * 2)) half-value
 
+pub twice-pos : (e : ℤ) → 0 < down e * 2
+twice-pos e = mul-pos (down-pos e) (zero-lt-suc 1)
+
+pub less-half : (m : ℕ) (e : ℤ) → down e ≤ m * up e * 2 → fin false m e ⊖ half ≡ round binary64 false (m * up e * 2 - down e) (down e * 2)
+less-half m e h =
+    sub-values binary64 (fin false m e) half false false (m * up e * 2) (down e) (down e * 2) (twice-pos e) (twice m e) (half-over (down e))
+    ∙ sum-less binary64 (m * up e * 2) (down e) (down e * 2) h
+
+once : (d a : ℕ) → 1 * d ≤ a → d ≤ a
+once d a h = omega arith
+
+-- ---- the powers that results are compared with
 abbrev tiny : Float
 tiny = ofBits binary64 0x3b60_0000_0000_0000  -- 2^-73
 
@@ -63,15 +69,15 @@ tiny-value : HasValue tiny false 1 (2 ^ 73)
 tiny-value = unfold ofBits in (refl, refl)
 
 least-is : round binary64 false 1 (2 ^ 126) ≡ ofBits binary64 0x3810_0000_0000_0000
-least-is = power-is (ofBits binary64 0x3810_0000_0000_0000) 1 (2 ^ 126) (pow-pos 126) (ofBits-fits binary64 0x3810_0000_0000_0000) (unfold ofBits in (refl, refl))
+least-is = round-held binary64 (ofBits binary64 0x3810_0000_0000_0000) false 1 (2 ^ 126) (pow-pos 126) (ofBits-fits binary64 0x3810_0000_0000_0000) (unfold ofBits in (refl, refl))
 
 one-is : round binary64 false 1 1 ≡ ofBits binary64 0x3ff0_0000_0000_0000
-one-is = power-is (ofBits binary64 0x3ff0_0000_0000_0000) 1 1 (zero-lt-suc 0) (ofBits-fits binary64 0x3ff0_0000_0000_0000) (unfold ofBits in (refl, refl))
+one-is = round-held binary64 (ofBits binary64 0x3ff0_0000_0000_0000) false 1 1 (zero-lt-suc 0) (ofBits-fits binary64 0x3ff0_0000_0000_0000) (unfold ofBits in (refl, refl))
 
-abbrev large : Float
+abbrev pub large : Float
 large = ofBits binary64 0x41c0_0000_0000_0000  -- 2^29
 
-large-value : HasValue large false 536870912 1
+pub large-value : HasValue large false 536870912 1
 large-value = unfold ofBits in (refl, refl)
 
 limit-value : HasValue limit false 1073741824 1
@@ -80,7 +86,7 @@ limit-value = unfold ofBits in (refl, refl)
 -- more than 2^30, less 0.5
 pub large-less : (a d : ℕ) → 0 < d → 1073741824 * d < a → T (le large (round binary64 false (a * 2 - d) (d * 2)))
 large-less a d D h =
-    subst (λ (y : Float). T (le y (round binary64 false (a * 2 - d) (d * 2)))) (power-is large 536870912 1 (zero-lt-suc 0) (ofBits-fits binary64 0x41c0_0000_0000_0000) large-value)
+    subst (λ (y : Float). T (le y (round binary64 false (a * 2 - d) (d * 2)))) (round-held binary64 large false 536870912 1 (zero-lt-suc 0) (ofBits-fits binary64 0x41c0_0000_0000_0000) large-value)
     (round-mono binary64 536870912 1 (a * 2 - d) (d * 2) (zero-lt-suc 0) (mul-pos D (zero-lt-suc 1)) (far a d h))
   where
     far : (a d : ℕ) → 1073741824 * d < a → 536870912 * (d * 2) ≤ (a * 2 - d) * 1
@@ -102,20 +108,17 @@ significand m e t = units binary64 false m e t .1 .short
 
 -- ---- u - 0.5 is +0 or not tiny
 coarse : (m : ℕ) (e : ℤ) → T (fits binary64 (fin false m e)) → 1 * down e ≤ m * up e * 2 → (fin false m e ⊖ half ≡ nought) ⊎ T (le tiny (fin false m e ⊖ half))
-coarse m e t l = go (m * up e * 2 - down e) (less-half m e (plain (down e) (m * up e * 2) l))
+coarse m e t l = go (m * up e * 2 - down e) (less-half m e (once (down e) (m * up e * 2) l))
   where
-    plain : (d a : ℕ) → 1 * d ≤ a → d ≤ a
-    plain d a h = omega arith
-
     far : (n d : ℕ) → d ≤ 9007199254740992 * 2 → 1 * (d * 2) ≤ suc n * 9444732965739290427392
     far n d h = omega arith
 
     go : (n : ℕ) → fin false m e ⊖ half ≡ round binary64 false n (down e * 2) → (fin false m e ⊖ half ≡ nought) ⊎ T (le tiny (fin false m e ⊖ half))
-    go zero i = inl (i ∙ round-zero binary64 false (down e * 2) (mul-pos (down-pos e) (zero-lt-suc 1)) ∙ sym (zero-bits binary64))
+    go zero i = inl (i ∙ round-zero binary64 false (down e * 2) (twice-pos e) ∙ sym (zero-bits binary64))
     go (suc n) i =
         inr (subst (λ (x : Float). T (le tiny x)) (sym i)
-        (subst (λ (y : Float). T (le y (round binary64 false (suc n) (down e * 2)))) (power-is tiny 1 (2 ^ 73) (pow-pos 73) (ofBits-fits binary64 0x3b60_0000_0000_0000) tiny-value)
-        (round-mono binary64 1 (2 ^ 73) (suc n) (down e * 2) (pow-pos 73) (mul-pos (down-pos e) (zero-lt-suc 1)) (far n (down e) (digits-end m e 2 (zero-lt-suc 1) (significand m e t) l)))))
+        (subst (λ (y : Float). T (le y (round binary64 false (suc n) (down e * 2)))) (round-held binary64 tiny false 1 (2 ^ 73) (pow-pos 73) (ofBits-fits binary64 0x3b60_0000_0000_0000) tiny-value)
+        (round-mono binary64 1 (2 ^ 73) (suc n) (down e * 2) (pow-pos 73) (twice-pos e) (far n (down e) (digits-end m e 2 (zero-lt-suc 1) (significand m e t) l)))))
 
 pub round-from-zero : (n c : ℕ) → 0 < c → T (le nought (round binary64 false n c))
 round-from-zero n c C =
@@ -142,11 +145,28 @@ short-round r c C h l = record { held = round-fits binary64 false r c; short = g
         turned : (r c : ℕ) → r ≤ c → r * 1 ≤ 1 * c
         turned r c h = omega arith
 
-low-nought : Low nought
+pub low-nought : Low nought
 low-nought = unfold inDomain floorℤ ofBits in record { domain = tt; whole = 0; small = lit< tt; floor = refl }
 
 parted-nought : Parted nought
 parted-nought = unfold floorF64 floorℤ inDomain isZero ofBits ofInt sub fits in record { same = refl; rest = record { held = tt; short = inl refl } }
+
+-- ---- the tests of digits: a -0 is not negative, and 2^30 is the limit
+pub zero-digits : (m : ℕ) (e : ℤ) → T (le nought (fin true m e)) → m * up e ≡ 0
+zero-digits m e l = none (m * up e) (nltb→le 0 (m * up e + 0) (subst T (le-values nought (fin true m e) false true 0 (m * up e) (down e) (down-pos e) zero-value (refl, refl)) l))
+  where
+    zero-value : HasValue nought false 0 (down e)
+    zero-value = subst (λ (y : Float). HasValue y false 0 (down e)) (sym (zero-bits binary64)) (refl, zero-mul (down e))
+
+    none : (a : ℕ) → a + 0 ≤ 0 → a ≡ 0
+    none a h = omega arith
+
+pub within-is : (s : Bool) (m : ℕ) (e : ℤ) → m * up e ≤ 1073741824 * down e → T (within limit (fin s m e))
+within-is s m e h =
+    unfold within abs in
+    subst T (sym (sizes-order (fin false m e) limit (m * up e) (1073741824 * down e) (down e) (down-pos e) (refl, refl)
+    (rescale limit false 1073741824 1 (1073741824 * down e) (down e) (zero-lt-suc 0) (sym (mul-one (1073741824 * down e))) limit-value)))
+    (le→leb (m * up e) (1073741824 * down e) h)
 
 -- ---- the floor of a number below `reach`
 pub record Floored (reach : ℕ) (x : Float) : Type 0 where
@@ -195,15 +215,7 @@ module _ (reach : ℕ) (R : reach ≤ 65536) where
   floored-any (inf true) l h = absurd (unfold le ofBits in l)
   floored-any (inf false) l h = absurd (under-finite reach R h)
   floored-any (fin false m e) l h = floored m e (under-digits reach R m e h)
-  floored-any (fin true m e) l h =
-      floored-minus m e (none (m * up e) (nltb→le 0 (m * up e + 0) (subst T (le-values nought (fin true m e) false true 0 (m * up e) (down e) (down-pos e) zero-value (refl, refl)) l)))
-      (ltb→lt 0 (m * up e + reach * down e) (subst T (under-is reach R true m e) h))
-    where
-      zero-value : HasValue nought false 0 (down e)
-      zero-value = subst (λ (y : Float). HasValue y false 0 (down e)) (sym (zero-bits binary64)) (refl, zero-mul (down e))
-
-      none : (a : ℕ) → a + 0 ≤ 0 → a ≡ 0
-      none a h = omega arith
+  floored-any (fin true m e) l h = floored-minus m e (zero-digits m e l) (ltb→lt 0 (m * up e + reach * down e) (subst T (under-is reach R true m e) h))
 
   -- ---- what x has beyond it
   module _ (m : ℕ) (e : ℤ) (t : T (fits binary64 (fin false m e))) (lo : 1 * down e ≤ m * up e * 2 ^ 73) (hi : m * up e < reach * down e) where
@@ -292,13 +304,10 @@ module _ (reach : ℕ) (R : reach ≤ 65536) where
       | inr a ↦ floored-any (u ⊖ half) (subst (λ (y : Float). T (le nought (y ⊖ half))) (sym (a .is)) (from-zero (a .digits) (a .place) (a .least))) below
     ]
       where
-        plain : (d a : ℕ) → 1 * d ≤ a → d ≤ a
-        plain d a h = omega arith
-
         from-zero : (m : ℕ) (e : ℤ) → 1 * down e ≤ m * up e * 2 → T (le nought (fin false m e ⊖ half))
         from-zero m e l =
-            subst (λ (x : Float). T (le nought x)) (sym (less-half m e (plain (down e) (m * up e * 2) l)))
-            (round-from-zero (m * up e * 2 - down e) (down e * 2) (mul-pos (down-pos e) (zero-lt-suc 1)))
+            subst (λ (x : Float). T (le nought x)) (sym (less-half m e (once (down e) (m * up e * 2) l)))
+            (round-from-zero (m * up e * 2 - down e) (down e * 2) (twice-pos e))
 
     -- far from 2^30, or x would be 2^29 at least
     pub usable-of : T (within limit u)
@@ -308,17 +317,10 @@ module _ (reach : ℕ) (R : reach ≤ 65536) where
     ]
       where
         near : (m : ℕ) (e : ℤ) → 1 * down e ≤ m * up e * 2 → T (under reach (fin false m e ⊖ half)) → T (within limit (fin false m e))
-        near m e l b =
-            unfold within abs in
-            subst T (sym (sizes-order (fin false m e) limit (m * up e) (1073741824 * down e) (down e) (down-pos e) (refl, refl)
-            (rescale limit false 1073741824 1 (1073741824 * down e) (down e) (zero-lt-suc 0) (sym (mul-one (1073741824 * down e))) limit-value)))
-            (elim (lt-or-le (1073741824 * down e) (m * up e)) [
-              | inl g ↦ absurd (not-far 536870912 large (lit≤ tt) large-value (fin false m e ⊖ half) (subst (λ (x : Float). T (le large x)) (sym (less-half m e (plain (down e) (m * up e * 2) l))) (large-less (m * up e) (down e) (down-pos e) g)) b)
-              | inr g ↦ le→leb (m * up e) (1073741824 * down e) g
-            ])
-          where
-            plain : (d a : ℕ) → 1 * d ≤ a → d ≤ a
-            plain d a h = omega arith
+        near m e l b = within-is false m e (elim (lt-or-le (1073741824 * down e) (m * up e)) [
+          | inl g ↦ absurd (not-far 536870912 large (lit≤ tt) large-value (fin false m e ⊖ half) (subst (λ (x : Float). T (le large x)) (sym (less-half m e (once (down e) (m * up e * 2) l))) (large-less (m * up e) (down e) (down-pos e) g)) b)
+          | inr g ↦ g
+        ])
 
   -- ---- what is worked with in any case
   pub kept-in : (u : Float) {b : Bool} → T (fits binary64 u) → b ≡ inner reach u → b ≡ true → (u ⊖ half ≡ cond (inner reach u) (u ⊖ half) nought) × (Low (u ⊖ half) × Parted (u ⊖ half))

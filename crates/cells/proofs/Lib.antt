@@ -1,5 +1,8 @@
 -- The laws of the cells, a file for each subject.
 pub mod OrderLaws
 pub mod InnerLaws
+pub mod NearestLaws
 pub mod ShortLaws
+pub mod TestLaws
 pub mod CellsLaws
+pub mod PlacesLaws

@@ -4,9 +4,9 @@ use mathlib.Core.Path.{_≡_, refl, sym, subst}
 use mathlib.Core.Logic.{_⊎_, inl, inr}
 use mathlib.Core.Bool.{Bool, true, false, not}
 use Prim.Native.Nat.{ℕ, _+_, _*_, _≤_, _<_}
-use native.Mathlib.Nat.{mul-pos, mul-assoc, mul-right-comm, mul-one, le-trans, zero-lt-suc}
+use native.Mathlib.Nat.{mul-pos, mul-assoc, mul-one, le-trans, zero-lt-suc}
 use native.Mathlib.Omega.{arith}
-use lib.Dec.{T, ltb, nltb→le, ltb→lt, lit≤}
+use lib.Dec.{T, nltb→le, ltb→lt, lit≤}
 use lib.IntN.{ℤ, pos}
 use lib.Ieee.{Float, nan, inf, fin, binary64, up, down, below, le, lt, ofInt}
 use lib.Ieee.Exact.{HasValue}

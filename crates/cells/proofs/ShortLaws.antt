@@ -8,7 +8,7 @@ use native.Mathlib.Nat.{zero-add, le-trans, le-of-eq, mod-le, zero-lt-suc}
 use native.Mathlib.Omega.{arith}
 use lib.Dec.{T, leb→le, lit≤, lit<}
 use lib.Pow.{pow-add, pow-pos}
-use lib.IntN.{ℤ, pos}
+use lib.IntN.{ℤ}
 use lib.Ieee.{Float, nan, inf, fin, Format, binary32, binary64, low, top, ofBits, toBits, fits, isNan, nanBits, le}
 use lib.Ieee.Bits.{ofBits-toBits, ofBits-fits, nanBits-is}
 use lib.Ieee.Fits.{and-i}
@@ -24,7 +24,7 @@ use Rattle.number.specs.Narrow.{narrow}
 use Rattle.number.proofs.NarrowBits.{ordinary-bits}
 use Rattle.number.proofs.NarrowLaws.{narrow-fits}
 use Rattle.cells.specs.Inner.{nought, Short}
-use Rattle.cells.proofs.OrderLaws.{Above, above}
+use Rattle.cells.proofs.OrderLaws.{above}
 
 -- ---- one value by both patterns: k is the f64's without its last 29 digits
 fields : (k : ℕ) → 0x1c0800000 ≤ k → k ≤ 0x1ff800000

@@ -1,5 +1,6 @@
 -- The cells of a stretch: for each of its coordinates the column or row that lies below it in index space, as a natural number, and the fraction. Only
--- coordinates that can be used and lie inside the picture have one. Assumes nothing.
+-- coordinates that can be used and lie inside the picture have one. The code may say that it has no such lists, where it could have: its caller then goes
+-- pixel by pixel, and all that is lost is time. Assumes nothing.
 use mathlib.Core.Path.{_≡_}
 use mathlib.Core.List.{List}
 use Prim.Native.Nat.{ℕ, _<_}

@@ -2,11 +2,13 @@
 use mathlib.Core.Path.{_≡_}
 use mathlib.Core.Logic.{_⊎_}
 use mathlib.Core.Bool.{Bool, _&&_}
+use mathlib.Core.List.{List}
 use Prim.Native.Nat.{ℕ, _<_}
 use lib.Dec.{T}
 use lib.IntN.{pos}
-use lib.Ieee.{Float, binary64, ofBits, ofInt, le, lt, fits}
-use Rattle.exact.specs.Double.{_⊖_}
+use lib.ListN.{getD}
+use lib.Ieee.{Float, nan, binary64, ofBits, ofInt, le, lt, fits}
+use Rattle.exact.specs.Double.{_⊕_, _⊖_}
 use Rattle.exact.specs.Warp.{half}
 use Rattle.number.specs.Floor.{floorℤ, floorF64, inDomain}
 
@@ -20,6 +22,14 @@ under reach x = lt x (ofInt binary64 (pos reach))
 -- u - 0.5 stands from 0 up to below `reach`
 abbrev pub inner : ℕ → Float → Bool
 inner reach u = le half u && under reach (u ⊖ half)
+
+-- u is not negative, and u - 0.5 + 0.5 stands from 0 up to below `reach`
+abbrev pub nearby : ℕ → Float → Bool
+nearby reach u = le nought u && le nought (u ⊖ half ⊕ half) && under reach (u ⊖ half ⊕ half)
+
+-- each of the first n of a list passes
+pub record Every (test : Float → Bool) (n : ℕ) (us : List Float) : Type 0 where
+  pub each : (k : ℕ) → k < n → T (test (getD us k nan))
 
 -- the whole number below z is a natural number of 16 bits
 pub record Low (z : Float) : Type 0 where

@@ -5,12 +5,12 @@ ghost use mathlib.Core.Bool.{cond};
 ghost use Prim.Native.Nat.{_*_, _≤_};
 ghost use lib.IntN.{pos};
 ghost use lib.Ieee.Nearest.{closest};
-ghost use Rattle.exact.specs.Double.{_⊖_};
+ghost use Rattle.exact.specs.Double.{_⊕_, _⊖_};
 ghost use Rattle.exact.specs.Warp.{half};
 ghost use Rattle.number.specs.Floor.{floorℤ};
 ghost use Rattle.number.specs.Narrow.{narrow};
 ghost use Rattle.taps.specs.Cell.{fraction};
-ghost use Rattle.cells.specs.Inner.{nought, inner, Low, Short, Parted};
+ghost use Rattle.cells.specs.Inner.{nought, inner, nearby, Low, Short, Parted};
 use number::floor::whole_below;
 
 // Whether u has a cell.
@@ -28,6 +28,24 @@ pub fn kept(u: f64, reach: u64) -> f64
     ensures { λ z. ⌜ Low z × Parted z ⌝ }
 {
     if inside(u, reach) { u - 0.5 } else { 0.0 }
+}
+
+// Whether u has a place by `Nearest`. A u below 0 may have one too, and is passed over.
+pub fn beside(u: f64, reach: u64) -> bool
+    requires { ⌜ reach ≤ 65536 ⌝ }
+    ensures { λ r. ⌜ r ≡ nearby reach u ⌝ }
+{
+    let y = u - 0.5 + 0.5;
+    (u >= 0.0) & (y >= 0.0) & (y < reach as f64)
+}
+
+// What is worked with in any case, by `Nearest`.
+pub fn kept_beside(u: f64, reach: u64) -> f64
+    requires { ⌜ reach ≤ 65536 ⌝ }
+    ensures { λ z. ⌜ z ≡ cond (nearby reach u) (u ⊖ half ⊕ half) nought ⌝ }
+    ensures { λ z. ⌜ Low z ⌝ }
+{
+    if beside(u, reach) { u - 0.5 + 0.5 } else { 0.0 }
 }
 
 // The column, or the row, below z. A cast to 32 bits with a sign is one instruction for two of them.

@@ -1,6 +1,5 @@
 -- `cells::inner::column` meets its contract: the floor is a natural number of 16 bits, so that its float casts to it. Assumes nothing.
 use mathlib.Core.Path.{_≡_, sym, ap, _∙_, subst}
-use Prim.Native.Nat.{_<_}
 use native.Mathlib.Nat.{le-trans, le-of-lt, lt-of-lt-of-le}
 use lib.Dec.{T, lit≤}
 use lib.IntN.{ℤ, pos, natAbs}
@@ -10,7 +9,6 @@ use lib.Ieee.Back.{positive-back}
 use mir.Syntax.{w32}
 use mir.Val.{Fits, toZ, ofZ}
 use mir.ValLaws.{toZ-ofZ}
-use borrow.Author.Needs.{needs}
 use Rattle.exact.proofs.Integer.{counted}
 use Rattle.number.specs.Floor.{floorℤ}
 use Rattle.cells.specs.Inner.{Low}

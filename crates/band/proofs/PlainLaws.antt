@@ -1,7 +1,7 @@
 -- A stretch inside. With f32 fractions from 0 to 1 the weights' sum is a number to divide by, and the taps' alphas are 1, so that the quotients by it are the weighted mean; and the mean in a
 -- point's own cell is what `interpolate` shows there.
--- Provides: `Weighing`, `weigh-none`, `weigh-more`, `weigh-last` (the loop over weights); `mixed-blend`, `blend-all`, `mixable` (the colours of cells); `cells-inside`, `cells-units`, `cells-mattes`, `cells-colours` (from
--- cells to the band's definition). Assumes nothing.
+-- Provides: `Weighing`, `weigh-none`, `weigh-more`, `weigh-last` (the loop over weights); `mixed-blend`, `blend-all`, `mixable` (the colours of cells); `cells-inside`, `cells-units`, `cells-mattes`, `cells-colours`, `places-within`, `places-mattes`,
+-- `places-colours` (from cells and places to the band's definition). Assumes nothing.
 use mathlib.Core.Path.{_≡_, refl, sym, ap, _∙_}
 use mathlib.Core.Logic.{_≢_}
 use mathlib.Core.Bool.{Bool, true, false, cond, _&&_}
@@ -24,16 +24,17 @@ use Rattle.number.specs.Magnitude.{within}
 use Rattle.pixels.specs.Pixel.{Picture, pixelAt, widened}
 use Rattle.pixels.specs.declared.colour.Rgba.{Rgba}
 use Rattle.inverse.specs.Point.{limit, usable}
+use Rattle.taps.specs.Interpolation.{interpolation}
 use Rattle.taps.specs.Weighted.{added, weighted, mean}
 use Rattle.taps.specs.Weights.{corners}
 use Rattle.taps.proofs.CellFloor.{cell-law}
 use Rattle.taps.proofs.WeightedOpaque.{summed-four, opaque-four}
-use Rattle.cells.specs.Cells.{Cell, Cells}
+use Rattle.cells.specs.Cells.{Cell, Cells, Place, Places}
 use Rattle.sampler.specs.Square.{squareSums}
-use Rattle.sampler.proofs.OpaqueCode.{bilinear-inside}
+use Rattle.sampler.proofs.OpaqueCode.{bilinear-inside, single-inside}
 use Rattle.band.specs.Band.{Source, shown, keptColour, keptMatte, pixelBytes}
 use Rattle.band.specs.Joined.{joined, totalled}
-use Rattle.band.specs.Plain.{Inside, Fractions, Weighed, Weights, Mixable, blend, over, mixed}
+use Rattle.band.specs.Plain.{Within, Inside, Fractions, Weighed, Weights, Mixable, blend, over, mixed}
 use Rattle.band.proofs.JoinedLaws.{joined-same, totalled-same, totalled-most}
 use Rattle.band.proofs.NumberLaws.{blend-numbers}
 
@@ -106,20 +107,27 @@ both false b s t = absurd s
 next : (i n : ℕ) → i < n - 1 → i + 1 < n
 next i n l = omega arith
 
-module _ {p q : ℕ} {u v tx ty : Float} {i j : ℕ} (C : Cell p u i tx) (D : Cell q v j ty) where
+module _ (u v : Float) (a : T (within limit u)) (b : T (within limit v)) where
   marked : usable u v ≡ true
   unfolding usable
-  marked = both (within limit u) (within limit v) (C .usable) (D .usable)
+  marked = both (within limit u) (within limit v) a b
 
-  cell-matte : keptMatte u v ≡ 0
-  cell-matte = ap (λ (t : Bool). cond t 0 1) marked
+  no-matte : keptMatte u v ≡ 0
+  no-matte = ap (λ (t : Bool). cond t 0 1) marked
+
+no-mattes : (n : ℕ) (us vs : List Float) → ((k : ℕ) → k < n → keptMatte (at us k) (at vs k) ≡ 0) → 0 ≡ totalled (λ (k : ℕ). keptMatte (at us k) (at vs k)) n
+no-mattes n us vs h =
+    sym (totalled-same (λ (k : ℕ). keptMatte (at us k) (at vs k)) (λ (k : ℕ). 0) n h ∙ none n (totalled-most (λ (k : ℕ). 0) 0 (λ k. omega arith) n))
+  where
+    none : (n : ℕ) {r : ℕ} → r ≤ n * 0 → r ≡ 0
+    none n l = omega arith
 
 cell-colour : (bytes : List ℕ) (w h policy : ℕ) (background matte : Rgba) {u v tx ty : Float} {i j : ℕ} → Cell (w - 1) u i tx → Cell (h - 1) v j ty
     → blend bytes w i j tx ty
     ≡ keptColour (record { image = record { bytes = bytes; width = w; height = h; channels = 3 }; policy = policy; interpolation = 5; background = background; matte = matte }) u v
 unfolding shown blend
 cell-colour bytes w h policy background matte {u} {v} {tx} {ty} {i} {j} C D =
-    rw (marked C D)
+    rw (marked u v (C .usable) (D .usable))
     (bilinear-inside bytes w h policy background (u ⊖ half) (v ⊖ half) i j (next i w (C .below)) (next j h (D .below)) (sym (C .floor)) (sym (D .floor)) (C .fraction) (D .fraction) refl)
 
 -- ---- a stretch of them
@@ -148,13 +156,7 @@ module _ (w h : ℕ) {n : ℕ} {us vs : List Float} {columns rows : List ℕ} {x
   cells-inside = record { column = λ k l. next _ w (C .cell k l .below); row = λ k l. next _ h (D .cell k l .below) }
 
   pub cells-mattes : 0 ≡ totalled (λ (k : ℕ). keptMatte (at us k) (at vs k)) n
-  cells-mattes =
-      sym
-      (totalled-same (λ (k : ℕ). keptMatte (at us k) (at vs k)) (λ (k : ℕ). 0) n (λ k l. cell-matte (C .cell k l) (D .cell k l))
-      ∙ none n (totalled-most (λ (k : ℕ). 0) 0 (λ k. omega arith) n))
-    where
-      none : (n : ℕ) {r : ℕ} → r ≤ n * 0 → r ≡ 0
-      none n l = omega arith
+  cells-mattes = no-mattes n us vs (λ k l. no-matte (at us k) (at vs k) (C .cell k l .usable) (D .cell k l .usable))
 
   pub cells-colours : (bytes : List ℕ) (policy : ℕ) (background matte : Rgba)
       → joined (λ (k : ℕ). pixelBytes 3 (blend bytes w (getD columns k 0) (getD rows k 0) (at xs k) (at ys k))) n
@@ -163,3 +165,26 @@ module _ (w h : ℕ) {n : ℕ} {us vs : List Float} {columns rows : List ℕ} {x
       joined-same (λ (k : ℕ). pixelBytes 3 (blend bytes w (getD columns k 0) (getD rows k 0) (at xs k) (at ys k)))
       (λ (k : ℕ). pixelBytes 3 (keptColour (record { image = record { bytes = bytes; width = w; height = h; channels = 3 }; policy = policy; interpolation = 5; background = background; matte = matte }) (at us k) (at vs k))) n
       (λ k l. ap (pixelBytes 3) (cell-colour bytes w h policy background matte (C .cell k l) (D .cell k l)))
+
+-- ---- one tap
+place-colour : (bytes : List ℕ) (w h policy : ℕ) (background matte : Rgba) (code : ℕ) → code < 2 → {u v : Float} {i j : ℕ} → Place (interpolation code) w u i → Place (interpolation code) h v j
+    → pixelAt bytes w 3 i j
+    ≡ keptColour (record { image = record { bytes = bytes; width = w; height = h; channels = 3 }; policy = policy; interpolation = code; background = background; matte = matte }) u v
+unfolding shown pixelAt
+place-colour bytes w h policy background matte code small {u} {v} {i} {j} C D =
+    rw (marked u v (C .usable) (D .usable)) (single-inside bytes w h policy background (u ⊖ half) (v ⊖ half) code small i j (C .below) (D .below) (sym (C .first)) (sym (D .first)) refl)
+
+module _ (code : ℕ) {w h n : ℕ} {us vs : List Float} {columns rows : List ℕ} (C : Places (interpolation code) w n us columns) (D : Places (interpolation code) h n vs rows) where
+  pub places-within : Within w h n columns rows
+  places-within = record { column = λ k l. C .place k l .below; row = λ k l. D .place k l .below }
+
+  pub places-mattes : 0 ≡ totalled (λ (k : ℕ). keptMatte (at us k) (at vs k)) n
+  places-mattes = no-mattes n us vs (λ k l. no-matte (at us k) (at vs k) (C .place k l .usable) (D .place k l .usable))
+
+  pub places-colours : (bytes : List ℕ) (policy : ℕ) (background matte : Rgba) → code < 2
+      → joined (λ (k : ℕ). pixelBytes 3 (pixelAt bytes w 3 (getD columns k 0) (getD rows k 0))) n
+      ≡ joined (λ (k : ℕ). pixelBytes 3 (keptColour (record { image = record { bytes = bytes; width = w; height = h; channels = 3 }; policy = policy; interpolation = code; background = background; matte = matte }) (at us k) (at vs k))) n
+  places-colours bytes policy background matte small =
+      joined-same (λ (k : ℕ). pixelBytes 3 (pixelAt bytes w 3 (getD columns k 0) (getD rows k 0)))
+      (λ (k : ℕ). pixelBytes 3 (keptColour (record { image = record { bytes = bytes; width = w; height = h; channels = 3 }; policy = policy; interpolation = code; background = background; matte = matte }) (at us k) (at vs k))) n
+      (λ k l. ap (pixelBytes 3) (place-colour bytes w h policy background matte code small (C .place k l) (D .place k l)))

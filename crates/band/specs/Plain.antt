@@ -1,4 +1,4 @@
--- A stretch by `Bilinear` whose cells lie inside a picture of three channels: each point's four weights and their sum, and the colour that they make of the
+-- A stretch whose places or cells lie inside a picture of three channels. By `Bilinear`: each point's four weights and their sum, and the colour that they make of the
 -- cell's four pixels. Assumes nothing.
 use Prim.Native.Nat.{ℕ, _+_, _<_}
 use mathlib.Core.Path.{_≡_}
@@ -17,6 +17,11 @@ use Rattle.taps.specs.Weighted.{weighted}
 use Rattle.taps.specs.Weights.{corners}
 use Rattle.taps.specs.declared.weighted.Sums.{Sums}
 use Rattle.sampler.specs.Square.{squareSums}
+
+-- the first n places lie inside: their columns and rows
+pub record Within (width height n : ℕ) (columns rows : List ℕ) : Type 0 where
+  pub column : (k : ℕ) → k < n → getD columns k 0 < width
+  pub row : (k : ℕ) → k < n → getD rows k 0 < height
 
 -- the first n cells lie inside: their columns and rows, and the next of each
 pub record Inside (width height n : ℕ) (columns rows : List ℕ) : Type 0 where

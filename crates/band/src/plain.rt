@@ -1,18 +1,19 @@
-// A stretch by `Bilinear` that lies inside a picture of three channels: cells, fractions and weights are worked out first, several pixels at a time, so that the loop over the
+// Stretches that lie inside a picture of three channels: cells, fractions and weights are worked out first, several pixels at a time, so that the loop over the
 // pixels reads, sums and puts, and decides nothing. Assumes that the bytes are a picture's and that the band has room for the stretch.
 ghost use mathlib.Core.Path.{_≡_};
 ghost use mathlib.Core.List.{_++_};
 ghost use Prim.Native.Nat.{ℕ, _+_, _*_, _≤_, _<_};
 ghost use lib.ListN.{length, take, drop, getD};
 ghost use Rattle.matrix.specs.Matrix as Vectors;
-ghost use Rattle.pixels.specs.Pixel.{Picture};
+ghost use Rattle.pixels.specs.Pixel.{Picture, pixelAt};
 ghost use Rattle.pixels.specs.Store.{putPixel};
 ghost use Rattle.band.specs.Band.{pixelBytes};
 ghost use Rattle.band.specs.Joined.{joined};
 ghost use Rattle.band.specs.Plain as Plain;
-ghost use Rattle.band.specs.Plain.{Inside, Fractions, Numbers, Weights, Mixable, blend};
+ghost use Rattle.band.specs.Plain.{Within, Inside, Fractions, Numbers, Weights, Mixable, blend};
 use pixels::colour::Rgba;
 use pixels::store::put_numbers;
+use sampler::opaque::rgb;
 use sampler::opaque::sums;
 
 // An array has as many elements as its type says: a function is told so of one that it takes by value.
@@ -185,4 +186,40 @@ pub fn put_cells(
         place,
         band,
     );
+}
+
+// The pixel at column i and row j.
+fn own(picture: &[u8], width: u64, height: u64, i: u64, j: u64) -> Rgba
+    requires { ⌜ Picture (now picture) width height 3 ⌝ }
+    requires { ⌜ (i < width) × (j < height) ⌝ }
+    ensures { λ r. ⌜ r ≡ pixelAt (now (picture .entry)) width 3 i j ⌝ }
+{
+    rgb(picture, (j * width + i) * 3)
+}
+
+// The picture's own pixels at n places, put from the band's pixel numbered `place` on.
+pub fn put_places(
+    picture: &[u8],
+    width: u64,
+    height: u64,
+    columns: &[u32; 64],
+    rows: &[u32; 64],
+    n: usize,
+    place: u64,
+    band: &mut [u8],
+)
+    requires { ⌜ Picture (now picture) width height 3 ⌝ }
+    requires { ⌜ n ≤ 64 ⌝ }
+    requires { ⌜ Within width height n (now columns) (now rows) ⌝ }
+    requires { ⌜ (place + n) * 3 * 4 ≤ length (now band) ⌝ }
+    ensures { λ _.
+        ⌜ now (band .exit) ≡ take (place * 3 * 4) (now (band .entry)) ++ joined (λ (k : ℕ). pixelBytes 3 (pixelAt (now (picture .entry)) width 3 (getD (now (columns .entry)) k 0) (getD (now (rows .entry)) k 0))) n ++ drop ((place + n) * 3 * 4) (now (band .entry)) ⌝ }
+{
+    for k in 0..n {
+        put_number_pixel(
+            band,
+            place + k as u64,
+            own(picture, width, height, wide(columns[k]), wide(rows[k])),
+        );
+    }
 }

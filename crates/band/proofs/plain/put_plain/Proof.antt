@@ -2,7 +2,7 @@
 use mathlib.Core.Path.{_∙_, refl}
 use mathlib.Core.Logic.{inl, inr}
 use Prim.Native.Nat.{ℕ, _-_}
-use native.Mathlib.Nat.{le-antisymm, le-refl}
+use native.Mathlib.Nat.{le-antisymm}
 use native.Mathlib.Omega.{arith}
 use borrow.Author.Needs.{needs}
 use lib.ListN.{getD}

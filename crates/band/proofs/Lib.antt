@@ -1,5 +1,6 @@
 -- The laws of the band.
 pub mod JoinedLaws
+pub mod KernelLaws
 pub mod LengthLaws
 pub mod NumberLaws
 pub mod PixelLaws

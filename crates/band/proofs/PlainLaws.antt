@@ -1,7 +1,7 @@
 -- A stretch inside. With f32 fractions from 0 to 1 the weights' sum is a number to divide by, and the taps' alphas are 1, so that the quotients by it are the weighted mean; and the mean in a
 -- point's own cell is what `interpolate` shows there.
 -- Provides: `Weighing`, `weigh-none`, `weigh-more`, `weigh-last` (the loop over weights); `mixed-blend`, `blend-all`, `mixable` (the colours of cells); `cells-inside`, `cells-units`, `cells-mattes`, `cells-colours`, `places-within`, `places-mattes`,
--- `places-colours` (from cells and places to the band's definition). Assumes nothing.
+-- `places-colours` (from cells and places to the band's definition), `marked`, `no-matte`, `no-mattes` (points that can be used). Assumes nothing.
 use mathlib.Core.Path.{_≡_, refl, sym, ap, _∙_}
 use mathlib.Core.Logic.{_≢_}
 use mathlib.Core.Bool.{Bool, true, false, cond, _&&_}
@@ -108,14 +108,14 @@ next : (i n : ℕ) → i < n - 1 → i + 1 < n
 next i n l = omega arith
 
 module _ (u v : Float) (a : T (within limit u)) (b : T (within limit v)) where
-  marked : usable u v ≡ true
+  pub marked : usable u v ≡ true
   unfolding usable
   marked = both (within limit u) (within limit v) a b
 
-  no-matte : keptMatte u v ≡ 0
+  pub no-matte : keptMatte u v ≡ 0
   no-matte = ap (λ (t : Bool). cond t 0 1) marked
 
-no-mattes : (n : ℕ) (us vs : List Float) → ((k : ℕ) → k < n → keptMatte (at us k) (at vs k) ≡ 0) → 0 ≡ totalled (λ (k : ℕ). keptMatte (at us k) (at vs k)) n
+pub no-mattes : (n : ℕ) (us vs : List Float) → ((k : ℕ) → k < n → keptMatte (at us k) (at vs k) ≡ 0) → 0 ≡ totalled (λ (k : ℕ). keptMatte (at us k) (at vs k)) n
 no-mattes n us vs h =
     sym (totalled-same (λ (k : ℕ). keptMatte (at us k) (at vs k)) (λ (k : ℕ). 0) n h ∙ none n (totalled-most (λ (k : ℕ). 0) 0 (λ k. omega arith) n))
   where

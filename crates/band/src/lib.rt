@@ -2,5 +2,6 @@
 pub mod pixel;
 pub mod plain;
 pub mod rows;
+pub mod sixteen;
 pub mod stretch;
 pub mod three;

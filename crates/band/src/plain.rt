@@ -17,12 +17,12 @@ use sampler::opaque::rgb;
 use sampler::opaque::sums;
 
 // An array has as many elements as its type says: a function is told so of one that it takes by value.
-fn sized(a: [f32; 64])
+pub fn sized(a: [f32; 64])
     ensures { λ _. ⌜ length a ≡ 64 ⌝ }
 {}
 
 // A column or row as the sampler numbers it.
-fn wide(c: u32) -> u64
+pub fn wide(c: u32) -> u64
     ensures { λ r. ⌜ r ≡ c ⌝ }
 {
     c as u64

@@ -25,11 +25,12 @@ returns : tie.Need-returns
 returns c =
     let a = c .before .before .before .before .before .before .before .before .before .before .before .before .before .before .before .before .before .before .before .before .before .before .before .before .before .before .before .before .before .before .before .before .before .before in
     let S = c .before .before .before .before .before .before .before .before .before .before .before .before .before .before .before .before .before .before .before .before .before .before .before .before .before .before .before .squares .ensures (c .before .before .before .before .before .before .before .before .before .before .before .before .before .before .before .before .before .before .before .before .before .before .before .before .before .before .if1 .taken) in
-    let K = c .before .before .before .before .before .before .before .before .before .before .before .before .before .before .before .both-kernels .ensures (c .before .before .before .before .before .before .before .before .before .before .before .before .before .before .if2 .taken) in
-    (cubic-mattes S,
-    c .before .before .put-squares .ensures
-    ∙ ap (λ (z : List ℕ). take (a .args .place * 3 * 4) (now (a .args .band)) ++ z ++ drop ((a .args .place + a .args .n) * 3 * 4) (now (a .args .band)))
-    (cubic-colours S (a .args .code) (K .0) (K .1) _ (a .args .policy) (a .args .background) (a .args .matte) (a .pre .1 .0 .0) (a .pre .1 .0 .1)))
+    let K = c .before .before .before .before .before .before .before .before .before .before .before .before .before .before .before .both-kernels .ensures (c .before .before .before .before .before .before .before .before .before .before .before .before .before .before .if2 .taken) in (
+      cubic-mattes S,
+      c .before .before .put-squares .ensures
+          ∙ ap (λ (z : List ℕ). take (a .args .place * 3 * 4) (now (a .args .band)) ++ z ++ drop ((a .args .place + a .args .n) * 3 * 4) (now (a .args .band)))
+          (cubic-colours S (a .args .code) (K .0) (K .1) _ (a .args .policy) (a .args .background) (a .args .matte) (a .pre .1 .0 .0) (a .pre .1 .0 .1)),
+    )
 
 put-any-requires : tie.Need-put-any-requires
 put-any-requires c κs = let a = c .before .before .before .before .before .before .before .before .before in (a .pre .0, (inr (inl refl), (a .pre .1 .1 .0, a .pre .1 .1 .1)))

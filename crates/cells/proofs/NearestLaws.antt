@@ -23,7 +23,8 @@ use Rattle.number.specs.Magnitude.{within}
 use Rattle.cells.specs.Cells.{limit}
 use Rattle.cells.specs.Inner.{nought, under, nearby, Low}
 use Rattle.cells.proofs.OrderLaws.{above, under-finite}
-use Rattle.cells.proofs.InnerLaws.{Floored, floored-low, floored-any, twice, twice-pos, half-over, large, large-value, large-less, less-half, not-far, within-is, zero-digits, low-nought}
+use Rattle.cells.proofs.HalfLaws.{twice, twice-pos, half-over, large, large-value, large-less, less-half}
+use Rattle.cells.proofs.FlooredLaws.{Floored, floored-low, floored-any, not-far, within-is, zero-digits, low-nought}
 
 -- ---- x + 0.5
 more-half : (m : ℕ) (e : ℤ) → fin false m e ⊕ half ≡ round binary64 false (m * up e * 2 + down e) (down e * 2)

@@ -3,8 +3,8 @@
 ghost use mathlib.Core.Path.{_≡_};
 ghost use mathlib.Core.Bool.{true};
 ghost use Prim.Native.Nat.{_≤_, _<_};
-ghost use Rattle.taps.specs.Interpolation.{Integer, Nearest, interpolation};
 ghost use lib.ListN.{length};
+ghost use Rattle.taps.specs.Interpolation.{Integer, Nearest, interpolation};
 ghost use Rattle.cells.specs.Cells.{Cells, Places};
 ghost use Rattle.cells.specs.Inner.{inner, nearby, Every};
 use crate::inner::beside;
@@ -27,6 +27,7 @@ fn u32_sized(a: [u32; 64])
     ensures { λ _. ⌜ length a ≡ 64 ⌝ }
 {}
 
+// The loop. It answers true just where each coordinate has a cell.
 fn fill(us: &[f64; 64], n: usize, reach: u64, cs: &mut [u32; 64], ts: &mut [f32; 64]) -> bool
     requires { ⌜ n ≤ 64 ⌝ }
     requires { ⌜ reach ≤ 65536 ⌝ }
@@ -57,6 +58,7 @@ pub fn cells(us: &[f64; 64], n: usize, reach: u64, cs: &mut [u32; 64], ts: &mut 
     fill(us, n, reach, cs, ts)
 }
 
+// The same for `Integer`, and then for `Nearest`.
 fn integer_places(us: &[f64; 64], n: usize, reach: u64, cs: &mut [u32; 64]) -> bool
     requires { ⌜ n ≤ 64 ⌝ }
     requires { ⌜ reach ≤ 65536 ⌝ }

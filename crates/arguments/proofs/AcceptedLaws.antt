@@ -9,7 +9,7 @@ use native.Mathlib.Omega.{arith}
 use lib.Dec.{eqb, ltb}
 use lib.ListN.{length}
 use borrow.Author.Tests.{ltb-false, eqb-true, not-false}
-use Rattle.number.specs.Bytes.{argumentAt}
+use Rattle.endian.specs.Bytes.{argumentAt}
 use Rattle.arguments.specs.Method.{affineProjection, perspectiveProjection, polynomial, barrel, barrelInverse, present, pairMethod, skip, leastPairs}
 use Rattle.arguments.specs.Order.{goodOrder}
 use Rattle.arguments.specs.Store.{countOf, orderOf}

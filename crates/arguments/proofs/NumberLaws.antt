@@ -11,7 +11,7 @@ use lib.Ieee.Scale.{finite}
 use borrow.Author.Tests.{not-false}
 use Rattle.exact.specs.Loop.{upTo}
 use Rattle.exact.proofs.Loop.{upTo-next, upTo-keep, upTo-join}
-use Rattle.number.specs.Bytes.{argumentAt}
+use Rattle.endian.specs.Bytes.{argumentAt}
 use Rattle.number.specs.Magnitude.{within}
 use Rattle.number.proofs.MagnitudeLaws.{abs-limited}
 use Rattle.arguments.specs.Store.{countOf}

@@ -6,7 +6,7 @@ use mathlib.Core.List.{List}
 use Prim.Native.Nat.{ℕ, _+_, _*_, _<_}
 use native.Mathlib.Omega.{arith}
 use lib.Ieee.{binary64, ofBits}
-use Rattle.number.specs.Bytes.{argumentAt}
+use Rattle.endian.specs.Bytes.{argumentAt}
 use Rattle.arguments.specs.Method.{pairMethod, skip}
 use Rattle.arguments.specs.Store.{countOf, heldOf, valuesOf}
 use Rattle.arguments.specs.Pair.{ofPair}

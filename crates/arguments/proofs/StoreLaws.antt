@@ -12,7 +12,7 @@ use lib.Seq.{getD-set-same, getD-set-other}
 use borrow.Author.Tests.{eqb-true, eqb-false}
 use Rattle.exact.specs.Loop.{upTo}
 use Rattle.exact.proofs.Loop.{upTo-next, upTo-keep, upTo-join}
-use Rattle.number.specs.Bytes.{argumentAt}
+use Rattle.endian.specs.Bytes.{argumentAt}
 use Rattle.arguments.specs.Store.{countOf, heldOf, zeros, keep, valuesOf, orderOf}
 
 pub held-room : (bytes : List ℕ) → (heldOf bytes ≤ 257) × (8 * heldOf bytes ≤ length bytes)

@@ -7,7 +7,7 @@ use lib.Ieee.{ofBits, ofFields, odd, lt, le, sub, add, round, sum, neg, units, s
 use Rattle.exact.specs.Table.{firstOf}
 use Rattle.exact.specs.Loop.{turns, upTo}
 use Rattle.number.specs.Magnitude.{abs, within}
-use Rattle.number.specs.Bytes.{numberAt}
+use Rattle.endian.specs.Bytes.{numberAt}
 use Rattle.arguments.specs.Method.{affine, polynomial, present, skip, leastPairs}
 use Rattle.arguments.specs.Order.{bilinearOrder, degree, termsOf, goodOrder}
 use Rattle.arguments.specs.Store.{orderOf}

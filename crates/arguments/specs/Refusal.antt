@@ -8,7 +8,7 @@ use lib.Dec.{eqb, ltb}
 use lib.Ieee.{Float, binary64, ofBits}
 use Rattle.exact.specs.Loop.{upTo}
 use Rattle.exact.specs.Table.{firstOf}
-use Rattle.number.specs.Bytes.{argumentAt}
+use Rattle.endian.specs.Bytes.{argumentAt}
 use Rattle.number.specs.Magnitude.{within}
 use Rattle.arguments.specs.Method.{affineProjection, perspectiveProjection, polynomial, barrel, barrelInverse, present, skip, leastPairs}
 use Rattle.arguments.specs.Order.{goodOrder}

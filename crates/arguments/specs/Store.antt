@@ -6,7 +6,7 @@ use lib.Dec.{eqb}
 use lib.ListN.{length, set, replicate}
 use lib.Ieee.{Float, ofBits, binary64}
 use Rattle.exact.specs.Loop.{upTo}
-use Rattle.number.specs.Bytes.{argumentAt}
+use Rattle.endian.specs.Bytes.{argumentAt}
 
 -- how many whole arguments the bytes hold
 abbrev pub countOf : List ℕ → ℕ

@@ -73,7 +73,7 @@ pub fn bad_number(arguments: &[u8]) -> bool
 {
     let n = store::count_of(arguments);
     for k in 0..n {
-        if !number::bytes::f64_within(arguments, 8 * k, LIMIT) {
+        if !endian::bytes::f64_within(arguments, 8 * k, LIMIT) {
             return true;
         }
     }

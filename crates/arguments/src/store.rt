@@ -30,7 +30,7 @@ pub fn fill(arguments: &[u8]) -> Store
     let mut values = [0.0; 257];
     let count = held_of(arguments);
     for k in 0..count {
-        values[k] = number::bytes::f64_at(arguments, 8 * k);
+        values[k] = endian::bytes::f64_at(arguments, 8 * k);
     }
     Store { values, count }
 }
@@ -42,5 +42,5 @@ pub fn order_of(arguments: &[u8]) -> f64
     if arguments.len() < 8 {
         return 0.0;
     }
-    number::bytes::f64_at(arguments, 0)
+    endian::bytes::f64_at(arguments, 0)
 }

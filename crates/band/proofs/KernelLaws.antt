@@ -27,7 +27,7 @@ use Rattle.sampler.specs.Sixteen.{kernel}
 use Rattle.sampler.proofs.SixteenCode.{cubic-inside}
 use Rattle.band.specs.Band.{shown, keptColour, keptMatte, pixelBytes}
 use Rattle.band.specs.Joined.{joined, totalled}
-use Rattle.band.specs.Kernels.{Squares, Past, Weighed4, Kernels, Standing, fourth, squared}
+use Rattle.band.specs.Kernels.{Squares, Past, Weighed4, Kernels, Standing, ofFour, squared}
 use Rattle.band.proofs.JoinedLaws.{joined-same}
 use Rattle.band.proofs.PlainLaws.{marked, no-matte, no-mattes}
 
@@ -68,7 +68,7 @@ module _ {b c : Float} {ts w₀ w₁ w₂ w₃ : List Float} where
             let g = both good t e in
             record {
               weights =
-                  below-more (λ (i : ℕ). fourth (set w₀ k p) (set w₁ k q) (set w₂ k r) (set w₃ k s) i ≡ cubicWeights (at ts i) b c) k
+                  below-more (λ (i : ℕ). ofFour (set w₀ k p) (set w₁ k q) (set w₂ k r) (set w₃ k s) i ≡ cubicWeights (at ts i) b c) k
                   (λ i h. rw (getD-set-other w₀ k i p nan (below i h), getD-set-other w₁ k i q nan (below i h), getD-set-other w₂ k i r nan (below i h), getD-set-other w₃ k i s nan (below i h)) (old .done (g .0) .weights i h))
                   (rw (getD-set-same w₀ k p nan (rw (old .long-0) l), getD-set-same w₁ k q nan (rw (old .long-1) l), getD-set-same w₂ k r nan (rw (old .long-2) l), getD-set-same w₃ k s nan (rw (old .long-3) l)) (new (g .1)));
             };
@@ -127,10 +127,10 @@ module _ {w h n : ℕ} {us vs : List Float} {columns rows : List ℕ} {xs ys : L
   cubic-mattes = no-mattes n us vs (λ k l. no-matte (at us k) (at vs k) (S .across .cell k l .usable) (S .down .cell k l .usable))
 
   pub cubic-colours : {x₀ x₁ x₂ x₃ y₀ y₁ y₂ y₃ : List Float} (code : ℕ) → Kernels code n xs x₀ x₁ x₂ x₃ → Kernels code n ys y₀ y₁ y₂ y₃ → (bytes : List ℕ) (policy : ℕ) (background matte : Rgba) → 6 ≤ code → code < 8
-      → joined (λ (k : ℕ). pixelBytes 3 (squared bytes w (getD columns k 0) (getD rows k 0) (fourth x₀ x₁ x₂ x₃ k) (fourth y₀ y₁ y₂ y₃ k))) n
+      → joined (λ (k : ℕ). pixelBytes 3 (squared bytes w (getD columns k 0) (getD rows k 0) (ofFour x₀ x₁ x₂ x₃ k) (ofFour y₀ y₁ y₂ y₃ k))) n
       ≡ joined (λ (k : ℕ). pixelBytes 3 (keptColour (record { image = record { bytes = bytes; width = w; height = h; channels = 3 }; policy = policy; interpolation = code; background = background; matte = matte }) (at us k) (at vs k))) n
   cubic-colours {x₀} {x₁} {x₂} {x₃} {y₀} {y₁} {y₂} {y₃} code X Y bytes policy background matte least most =
-      joined-same (λ (k : ℕ). pixelBytes 3 (squared bytes w (getD columns k 0) (getD rows k 0) (fourth x₀ x₁ x₂ x₃ k) (fourth y₀ y₁ y₂ y₃ k)))
+      joined-same (λ (k : ℕ). pixelBytes 3 (squared bytes w (getD columns k 0) (getD rows k 0) (ofFour x₀ x₁ x₂ x₃ k) (ofFour y₀ y₁ y₂ y₃ k)))
       (λ (k : ℕ). pixelBytes 3 (keptColour (record { image = record { bytes = bytes; width = w; height = h; channels = 3 }; policy = policy; interpolation = code; background = background; matte = matte }) (at us k) (at vs k))) n
       (λ k l. ap (pixelBytes 3) (square-colour bytes w h policy background matte code least most (S .across .cell k l) (S .down .cell k l) (S .left .past k l) (S .above .past k l) (X .weights k l) (Y .weights k l)))
 

@@ -11,15 +11,15 @@ use lib.Ieee.{Float, nan, inf, fin, binary32, isNan, ofBits}
 use lib.Ieee.Scale.{finite}
 use Rattle.exact.specs.Fraction.{Fraction, frac, absF}
 use Rattle.exact.specs.Weighted.{Unit32}
-use Rattle.number.specs.Bytes.{u32At, sampleAt}
+use Rattle.endian.specs.Bytes.{u32At, sampleAt}
 use Rattle.number.proofs.MagnitudeTests.{within-bits}
 use Rattle.pixels.specs.Colour.{one}
 use Rattle.pixels.specs.Pixel.{Limited, Picture, widened, pixelAt}
 use Rattle.pixels.specs.declared.colour.Rgba.{Rgba}
-use Rattle.taps.specs.Weighted.{Bounded, BoundedBy, tapAt, weightAt, weighted}
+use Rattle.weighted.specs.Weighted.{Bounded, BoundedBy, tapAt, weightAt, weighted}
 use Rattle.taps.specs.Weights.{corners}
-use Rattle.taps.proofs.WeightedFinite.{most, weighted-bounded}
-use Rattle.taps.proofs.WeightedWeights.{bilinear-bounded}
+use Rattle.weighted.proofs.WeightedFinite.{most, weighted-bounded}
+use Rattle.weighted.proofs.WeightedWeights.{bilinear-bounded}
 use Rattle.sampler.proofs.AtFinite.{within-bounded}
 use Rattle.sampler.proofs.OpaqueCode.{room3}
 use Rattle.band.specs.Plain.{Numbers, blend}

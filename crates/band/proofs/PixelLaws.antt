@@ -9,11 +9,11 @@ use native.Mathlib.Omega.{arith}
 use lib.Ieee.{Float, binary32, toBits}
 use lib.ListN.{length, set, take, drop, replicate, length-append, length-drop, length-replicate, take-append-drop}
 use lib.Seq.{sets, sets-eq, length-take-le, take-at, drop-at, drop-drop}
-use Rattle.number.specs.Bytes.{putNumber}
+use Rattle.endian.specs.Bytes.{putNumber}
 use Rattle.pixels.specs.Colour.{luma}
-use Rattle.pixels.specs.Store.{putSample, putRgb, narrowed, putPixel}
+use Rattle.stored.specs.Store.{putSample, putRgb, narrowed, putPixel}
 use Rattle.pixels.specs.declared.colour.Rgba.{Rgba}
-use Rattle.pixels.proofs.StoreLaws.{put-pixel-length}
+use Rattle.stored.proofs.StoreLaws.{put-pixel-length}
 use Rattle.band.specs.Band.{pixelBytes}
 
 -- the channels that an output can have

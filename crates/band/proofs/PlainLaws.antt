@@ -23,12 +23,12 @@ use Rattle.matrix.specs.Matrix.{at}
 use Rattle.number.specs.Magnitude.{within}
 use Rattle.pixels.specs.Pixel.{Picture, pixelAt, widened}
 use Rattle.pixels.specs.declared.colour.Rgba.{Rgba}
-use Rattle.inverse.specs.Point.{limit, usable}
-use Rattle.taps.specs.Interpolation.{interpolation}
-use Rattle.taps.specs.Weighted.{added, weighted, mean}
+use Rattle.point.specs.Point.{limit, usable}
+use Rattle.cell.specs.Interpolation.{interpolation}
+use Rattle.weighted.specs.Weighted.{added, weighted, mean}
 use Rattle.taps.specs.Weights.{corners}
-use Rattle.taps.proofs.CellFloor.{cell-law}
-use Rattle.taps.proofs.WeightedOpaque.{summed-four, opaque-four}
+use Rattle.cell.proofs.CellFloor.{cell-law}
+use Rattle.weighted.proofs.WeightedOpaque.{summed-four, opaque-four}
 use Rattle.cells.specs.Cells.{Cell, Cells, Place, Places}
 use Rattle.sampler.specs.Square.{squareSums}
 use Rattle.sampler.proofs.OpaqueCode.{bilinear-inside, single-inside}

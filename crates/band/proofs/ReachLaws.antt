@@ -6,9 +6,9 @@ use lib.Ieee.{Float}
 use Rattle.exact.specs.Double.{_⊖_}
 use Rattle.exact.specs.Warp.{half}
 use Rattle.number.specs.Magnitude.{within}
-use Rattle.inverse.specs.Point.{limit, usable}
-use Rattle.taps.specs.Cell.{Reached}
-use Rattle.taps.proofs.CellFloor.{usable-reached}
+use Rattle.point.specs.Point.{limit, usable}
+use Rattle.cell.specs.Cell.{Reached}
+use Rattle.cell.proofs.CellFloor.{usable-reached}
 
 both : (a b : Bool) → a && b ≡ true → T a × T b
 both true b h = (tt, subst⁻¹ T h tt)

@@ -7,7 +7,7 @@ use Prim.Native.Nat.{ℕ, _+_, _*_, _≤_, _<_, zero-le}
 use native.Mathlib.Nat.{le-refl, le-trans, mul-one, mul-le-mul-left, mul-le-mul-right}
 use native.Mathlib.Omega.{arith}
 use lib.ListN.{length, take, drop, drop-of-length-le}
-use Rattle.pixels.specs.Store.{putPixel}
+use Rattle.stored.specs.Store.{putPixel}
 use Rattle.pixels.specs.declared.colour.Rgba.{Rgba}
 use Rattle.band.specs.Band.{pixelBytes}
 use Rattle.band.specs.Joined.{joined, totalled}

@@ -10,10 +10,10 @@ use lib.Ieee.{Float}
 use lib.IntN.{ℤ}
 use lib.ListN.{length, take, drop}
 use Rattle.matrix.specs.Matrix.{at}
-use Rattle.inverse.specs.Point.{usable}
-use Rattle.inverse.specs.declared.point.Point.{Point}
+use Rattle.point.specs.Point.{usable}
+use Rattle.point.specs.declared.point.Point.{Point}
 use Rattle.pixels.specs.declared.colour.Rgba.{Rgba}
-use Rattle.inverse.specs.Points.{Kept, Points}
+use Rattle.points.specs.Points.{Kept, Points}
 use Rattle.band.specs.Band.{Frame, Source, shown, pointAt, colourAt, matteAt, keptColour, keptMatte, pixelBytes}
 use Rattle.band.specs.Joined.{joined, totalled}
 use Rattle.band.proofs.JoinedLaws.{joined-same, joined-cut, joined-length, totalled-same, totalled-cut, totalled-most}

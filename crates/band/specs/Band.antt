@@ -11,10 +11,10 @@ use Rattle.exact.specs.Sums.{asked}
 use Rattle.exact.specs.Warp.{half}
 use Rattle.matrix.specs.Matrix.{Vector}
 use Rattle.inverse.specs.Inverse.{inverse}
-use Rattle.inverse.specs.Point.{point, usable}
-use Rattle.inverse.specs.declared.point.Point.{Point}
+use Rattle.point.specs.Point.{point, usable}
+use Rattle.point.specs.declared.point.Point.{Point}
 use Rattle.sampler.specs.Interpolate.{interpolate}
-use Rattle.pixels.specs.Store.{putPixel}
+use Rattle.stored.specs.Store.{putPixel}
 use Rattle.pixels.specs.declared.colour.Rgba.{Rgba}
 use Rattle.band.specs.Image.{Image}
 use Rattle.band.specs.Joined.{joined, totalled}

@@ -11,7 +11,7 @@ use Rattle.cells.specs.Cells.{Cells}
 use Rattle.matrix.specs.Matrix.{at}
 use Rattle.pixels.specs.declared.colour.Rgba.{Rgba}
 use Rattle.taps.specs.Taps.{taps}
-use Rattle.taps.specs.Weighted.{weighted}
+use Rattle.weighted.specs.Weighted.{weighted}
 use Rattle.taps.specs.Weights.{products}
 use Rattle.sampler.specs.Sixteen.{kernel, own}
 
@@ -34,16 +34,16 @@ pub record Standing (width height n : ℕ) (us vs : List Float) (columns rows : 
   pub above : Past n rows
 
 -- the k-th of four lists
-abbrev pub fourth : List Float → List Float → List Float → List Float → ℕ → List Float
-fourth w₀ w₁ w₂ w₃ k = at w₀ k ∷ at w₁ k ∷ at w₂ k ∷ at w₃ k ∷ []
+abbrev pub ofFour : List Float → List Float → List Float → List Float → ℕ → List Float
+ofFour w₀ w₁ w₂ w₃ k = at w₀ k ∷ at w₁ k ∷ at w₂ k ∷ at w₃ k ∷ []
 
 -- the weights of the first n fractions, by the kernel of B and C
 pub record Weighed4 (b c : Float) (n : ℕ) (ts w₀ w₁ w₂ w₃ : List Float) : Type 0 where
-  pub weights : (k : ℕ) → k < n → fourth w₀ w₁ w₂ w₃ k ≡ cubicWeights (at ts k) b c
+  pub weights : (k : ℕ) → k < n → ofFour w₀ w₁ w₂ w₃ k ≡ cubicWeights (at ts k) b c
 
 -- and by the interpolation's code
 pub record Kernels (code n : ℕ) (ts w₀ w₁ w₂ w₃ : List Float) : Type 0 where
-  pub weights : (k : ℕ) → k < n → fourth w₀ w₁ w₂ w₃ k ≡ kernel code (at ts k)
+  pub weights : (k : ℕ) → k < n → ofFour w₀ w₁ w₂ w₃ k ≡ kernel code (at ts k)
 
 -- the colour of the square around the cell at column i and row j
 unfoldable pub squared : List ℕ → ℕ → ℕ → ℕ → List Float → List Float → Rgba

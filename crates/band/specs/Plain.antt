@@ -13,9 +13,9 @@ use Rattle.matrix.specs.Matrix.{at}
 use Rattle.pixels.specs.Colour.{one}
 use Rattle.pixels.specs.Pixel.{pixelAt}
 use Rattle.pixels.specs.declared.colour.Rgba.{Rgba}
-use Rattle.taps.specs.Weighted.{weighted}
+use Rattle.weighted.specs.Weighted.{weighted}
 use Rattle.taps.specs.Weights.{corners}
-use Rattle.taps.specs.declared.weighted.Sums.{Sums}
+use Rattle.weighted.specs.declared.weighted.Sums.{Sums}
 use Rattle.sampler.specs.Square.{squareSums}
 
 -- the first n places lie inside: their columns and rows

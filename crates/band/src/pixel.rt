@@ -5,15 +5,15 @@ ghost use mathlib.Core.Bool.{true, cond};
 ghost use Prim.Native.Nat.{_+_, _*_, _≤_, _<_};
 ghost use lib.ListN.{length};
 ghost use Rattle.pixels.specs.Pixel.{Picture};
-ghost use Rattle.pixels.specs.Store.{putPixel};
-ghost use Rattle.inverse.specs.Point as Points;
+ghost use Rattle.stored.specs.Store.{putPixel};
+ghost use Rattle.point.specs.Point as Points;
 ghost use Rattle.band.specs.Band as Band;
 ghost use Rattle.band.specs.Band.{keptColour, keptMatte};
-use inverse::point::Point;
-use inverse::usable::point;
 use pixels::colour::Rgba;
-use pixels::store::put_pixel;
+use point::point::Point;
+use point::usable::point;
 use sampler::interpolate::interpolate;
+use stored::store::put_pixel;
 
 // The colour at a source point, whose mark says that its coordinates can be used.
 fn shown(

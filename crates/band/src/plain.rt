@@ -6,15 +6,15 @@ ghost use Prim.Native.Nat.{ℕ, _+_, _*_, _≤_, _<_};
 ghost use lib.ListN.{length, take, drop, getD};
 ghost use Rattle.matrix.specs.Matrix as Vectors;
 ghost use Rattle.pixels.specs.Pixel.{Picture, pixelAt};
-ghost use Rattle.pixels.specs.Store.{putPixel};
+ghost use Rattle.stored.specs.Store.{putPixel};
 ghost use Rattle.band.specs.Band.{pixelBytes};
 ghost use Rattle.band.specs.Joined.{joined};
 ghost use Rattle.band.specs.Plain as Plain;
 ghost use Rattle.band.specs.Plain.{Within, Inside, Fractions, Numbers, Weights, Mixable, blend};
 use pixels::colour::Rgba;
-use pixels::store::put_numbers;
 use sampler::opaque::rgb;
 use sampler::opaque::sums;
+use stored::store::put_numbers;
 
 // An array has as many elements as its type says: a function is told so of one that it takes by value.
 pub fn sized(a: [f32; 64])

@@ -9,7 +9,7 @@ ghost use Rattle.matrix.specs.Matrix as Vectors;
 ghost use Rattle.pixels.specs.Pixel.{Picture};
 ghost use Rattle.band.specs.Band.{keptColour, keptMatte, pixelBytes};
 ghost use Rattle.band.specs.Joined.{joined, totalled};
-ghost use Rattle.band.specs.Kernels.{Squares, Past, Weighed4, Kernels, Standing, fourth, squared};
+ghost use Rattle.band.specs.Kernels.{Squares, Past, Weighed4, Kernels, Standing, ofFour, squared};
 use crate::plain::sized;
 use crate::plain::wide;
 use crate::stretch::put_any;
@@ -18,8 +18,8 @@ use cubic::cubic::between;
 use cubic::cubic::middle;
 use number::magnitude::abs_f32;
 use pixels::colour::Rgba;
-use pixels::store::put_pixel;
 use sampler::sixteen::square3;
+use stored::store::put_pixel;
 
 // Whether the first n are all above 0.
 fn past(cs: &[u32; 64], n: usize) -> bool
@@ -139,7 +139,7 @@ fn put_squares(
     requires { ⌜ Squares width height n (now columns) (now rows) ⌝ }
     requires { ⌜ (place + n) * 3 * 4 ≤ length (now band) ⌝ }
     ensures { λ _.
-        ⌜ now (band .exit) ≡ take (place * 3 * 4) (now (band .entry)) ++ joined (λ (k : ℕ). pixelBytes 3 (squared (now (picture .entry)) width (getD (now (columns .entry)) k 0) (getD (now (rows .entry)) k 0) (fourth (now (x0 .entry)) (now (x1 .entry)) (now (x2 .entry)) (now (x3 .entry)) k) (fourth (now (y0 .entry)) (now (y1 .entry)) (now (y2 .entry)) (now (y3 .entry)) k))) n ++ drop ((place + n) * 3 * 4) (now (band .entry)) ⌝ }
+        ⌜ now (band .exit) ≡ take (place * 3 * 4) (now (band .entry)) ++ joined (λ (k : ℕ). pixelBytes 3 (squared (now (picture .entry)) width (getD (now (columns .entry)) k 0) (getD (now (rows .entry)) k 0) (ofFour (now (x0 .entry)) (now (x1 .entry)) (now (x2 .entry)) (now (x3 .entry)) k) (ofFour (now (y0 .entry)) (now (y1 .entry)) (now (y2 .entry)) (now (y3 .entry)) k))) n ++ drop ((place + n) * 3 * 4) (now (band .entry)) ⌝ }
 {
     for k in 0..n {
         put_pixel(

@@ -14,8 +14,8 @@ use crate::pixel::put_one;
 use crate::sixteen::put_cubic;
 use crate::three::put_bilinear;
 use crate::three::put_single;
-use inverse::points::points;
 use pixels::colour::Rgba;
+use points::points::points;
 
 // The colours of n pixels, by any interpolation, put `depth` samples a pixel from the band's pixel numbered `place` on; and how many are matte.
 pub fn put_any(

@@ -1,23 +1,23 @@
-// The stretches of a picture of three channels, put with three samples a pixel, by the interpolations that are asked for most: a loop for each, with nothing
-// to decide inside. Assumes that the bytes are a picture's and that the band has room for the stretch.
+// The stretches of a picture of three channels, put with three samples a pixel, by `Bilinear` and by one tap: where all of a stretch lies inside, by cells and places that are
+// worked out first, and else pixel by pixel. Assumes that the bytes are a picture's and that the band has room for the stretch.
 ghost use mathlib.Core.Path.{_≡_};
 ghost use mathlib.Core.List.{_++_};
 ghost use Prim.Native.Nat.{ℕ, _+_, _*_, _≤_, _<_};
 ghost use lib.ListN.{length, take, drop};
 ghost use Rattle.matrix.specs.Matrix as Vectors;
 ghost use Rattle.pixels.specs.Pixel.{Picture};
-ghost use Rattle.pixels.specs.Store.{putPixel};
+ghost use Rattle.stored.specs.Store.{putPixel};
 ghost use Rattle.band.specs.Band.{keptColour, keptMatte, pixelBytes};
 ghost use Rattle.band.specs.Joined.{joined, totalled};
 use crate::plain::put_cells;
 use crate::plain::put_places;
 use cells::cells::cells;
 use cells::cells::places;
-use inverse::usable::point;
 use pixels::colour::Rgba;
-use pixels::store::put_pixel;
+use point::usable::point;
 use sampler::opaque::bilinear3;
 use sampler::opaque::single3;
+use stored::store::put_pixel;
 
 // One pixel by `Bilinear`, as `put_one` puts it.
 fn put_bilinear_one(

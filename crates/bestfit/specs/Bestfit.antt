@@ -8,7 +8,7 @@ use lib.Ieee.{Float}
 use Rattle.matrix.specs.declared.invert.AffineInverse.{AffineInverse}
 use Rattle.matrix.specs.declared.invert.Inverse.{Inverse}
 use Rattle.matrix.specs.Invert.{invertAffine, invert3}
-use Rattle.fit.specs.Mapping.{affineKind, perspectiveKind}
+use Rattle.mappings.specs.Mapping.{affineKind, perspectiveKind}
 use Rattle.matrix.specs.Matrix.{Vector, at}
 use Rattle.bestfit.specs.declared.bestfit.Found.{Found}
 use Rattle.bestfit.specs.declared.bestfit.Found.the-variants.{Box, Nothing}

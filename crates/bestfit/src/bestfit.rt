@@ -6,7 +6,7 @@ use crate::corners::affine_edges;
 use crate::corners::any_lost;
 use crate::corners::perspective_edges;
 use crate::edges::Edges;
-use fit::mapping;
+use mappings::mapping;
 use matrix::invert::invert_affine;
 use matrix::invert::invert3;
 

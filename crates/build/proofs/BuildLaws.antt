@@ -13,9 +13,9 @@ use Rattle.arguments.specs.Refusal.{pairsOf, refusal}
 use Rattle.arguments.specs.Store.{countOf, heldOf, valuesOf, orderOf}
 use Rattle.arguments.proofs.AcceptedLaws.{Accepted, accepted}
 use Rattle.arguments.proofs.StoreLaws.{held-all}
-use Rattle.fit.specs.declared.mapping.Fitted.{Fitted}
+use Rattle.mappings.specs.declared.mapping.Fitted.{Fitted}
 use Rattle.build.specs.Build.{made, build}
-use Rattle.fit.specs.Mapping.{refused}
+use Rattle.mappings.specs.Mapping.{refused}
 use Rattle.matrix.specs.Matrix.{Vector}
 
 module _ (m : ℕ) (bytes : List ℕ) {number : ℕ} (told : number ≡ refusal m bytes) where

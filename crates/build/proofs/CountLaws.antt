@@ -14,13 +14,13 @@ use Rattle.arguments.specs.Method.{affineTerms}
 use Rattle.arguments.specs.Order.{termsOf}
 use Rattle.arguments.specs.Refusal.{pairsOf, refusal}
 use Rattle.arguments.specs.Store.{countOf, valuesOf, orderOf}
-use Rattle.fit.specs.declared.mapping.Fitted.{Fitted}
+use Rattle.mappings.specs.declared.mapping.Fitted.{Fitted}
 use Rattle.solve.specs.declared.solve.Solution.{Solution}
 use Rattle.fit.specs.Affine.{affineForward, affineProjection, shift, similarity, affine}
 use Rattle.fit.specs.Barrel.{barrel}
 use Rattle.build.specs.Build.{made, build}
 use Rattle.fit.specs.Fit.{both}
-use Rattle.fit.specs.Mapping.{polyKind, barrelKind, barrelInverseKind, shepardsKind, mapping, fitted, refused, solvedOr8}
+use Rattle.mappings.specs.Mapping.{polyKind, barrelKind, barrelInverseKind, shepardsKind, mapping, fitted, refused, solvedOr8}
 use Rattle.matrix.specs.Matrix.{Vector}
 use Rattle.fit.specs.Perspective.{forward, perspectiveProjection, perspective}
 use Rattle.fit.specs.Shepards.{shepards}

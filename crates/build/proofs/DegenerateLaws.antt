@@ -11,14 +11,14 @@ use lib.Ieee.{Float, binary64, ofInt}
 use borrow.Author.Tests.{eq-eqb}
 use Rattle.arguments.specs.Refusal.{pairsOf, refusal}
 use Rattle.arguments.specs.Store.{countOf, valuesOf, orderOf}
-use Rattle.fit.specs.declared.mapping.Fitted.{Fitted}
-use Rattle.fit.specs.declared.mapping.Mapping.{Mapping}
+use Rattle.mappings.specs.declared.mapping.Fitted.{Fitted}
+use Rattle.mappings.specs.declared.mapping.Mapping.{Mapping}
 use Rattle.solve.specs.declared.solve.Solution.{Solution}
 use Rattle.fit.specs.Affine.{affineProjection, shift, similarity, affine}
 use Rattle.fit.specs.Barrel.{barrel}
 use Rattle.build.specs.Build.{made, build}
 use Rattle.fit.specs.Fit.{both}
-use Rattle.fit.specs.Mapping.{fitted, refused, solvedOr8}
+use Rattle.mappings.specs.Mapping.{fitted, refused, solvedOr8}
 use Rattle.fit.specs.Matrix.{Vector}
 use Rattle.fit.specs.Perspective.{perspectiveProjection, perspective}
 use Rattle.fit.specs.Shepards.{shepards}

@@ -8,10 +8,10 @@ use lib.Ieee.{Float, binary64, ofInt}
 use Rattle.arguments.specs.Method as Method
 use Rattle.arguments.specs.Refusal.{pairsOf, refusal}
 use Rattle.arguments.specs.Store.{countOf, valuesOf, orderOf}
-use Rattle.fit.specs.declared.mapping.Fitted.{Fitted}
+use Rattle.mappings.specs.declared.mapping.Fitted.{Fitted}
 use Rattle.fit.specs.Affine.{affine, affineProjection}
 use Rattle.fit.specs.Barrel.{barrel}
-use Rattle.fit.specs.Mapping.{barrelKind, barrelInverseKind, refused}
+use Rattle.mappings.specs.Mapping.{barrelKind, barrelInverseKind, refused}
 use Rattle.matrix.specs.Matrix.{Vector}
 use Rattle.fit.specs.Perspective.{perspective, perspectiveProjection}
 use Rattle.fit.specs.Polynomial.{polynomial, bilinearReverse, bilinearForward}

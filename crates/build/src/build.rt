@@ -19,14 +19,14 @@ use arguments::store::order_of;
 use fit::affine::affine;
 use fit::affine::affine_projection;
 use fit::barrel::barrel;
-use fit::mapping;
-use fit::mapping::Fitted;
 use fit::perspective::perspective;
 use fit::perspective::perspective_projection;
 use fit::polynomial::bilinear_forward;
 use fit::polynomial::bilinear_reverse;
 use fit::polynomial::polynomial;
 use fit::shepards::shepards;
+use mappings::mapping;
+use mappings::mapping::Fitted;
 
 // Each method's maker, for arguments that no refusal from 3 to 7 keeps away.
 fn made(

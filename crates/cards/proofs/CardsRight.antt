@@ -6,7 +6,7 @@ use lib.IntN.{pos, negsuc}
 use lib.Ieee.{add, sub, mul, div, neg, sum, round, ofBits, lt, le, ofInt, isNan}
 use Rattle.exact.specs.Loop.{turns, upTo}
 use Rattle.exact.specs.Table.{firstOf}
-use Rattle.number.specs.Bytes.{numberAt, putNumber}
+use Rattle.endian.specs.Bytes.{numberAt, putNumber}
 use Rattle.number.specs.Floor.{floorI64, floorF64, floorℤ, inDomain, isZero}
 use Rattle.number.specs.Magnitude as Magnitude
 use Rattle.number.specs.Narrow.{narrow}
@@ -19,19 +19,19 @@ use Rattle.fit.specs.Affine as Affine
 use Rattle.fit.specs.Barrel as Barrel
 use Rattle.build.specs.Build as Build
 use Rattle.matrix.specs.Invert as Invert
-use Rattle.fit.specs.Mapping as Mappings
-use Rattle.fit.specs.declared.mapping.Fitted.{Fitted}
+use Rattle.mappings.specs.Mapping as Mappings
+use Rattle.mappings.specs.declared.mapping.Fitted.{Fitted}
 use Rattle.inverse.specs.Inverse as Inverse
-use Rattle.inverse.specs.Point as Point
+use Rattle.point.specs.Point as Point
 use Rattle.pixels.specs.At.{at}
 use Rattle.cubic.specs.Cubic.{catrom, pieces}
 use Rattle.policies.specs.Index as Index
 use Rattle.sampler.specs.Interpolate.{interpolate}
-use Rattle.taps.specs.Interpolation.{interpolation}
+use Rattle.cell.specs.Interpolation.{interpolation}
 use Rattle.policies.specs.Named.{named, policy}
 use Rattle.pixels.specs.Pixel.{widened, pixelAt}
 use Rattle.taps.specs.Taps.{taps}
-use Rattle.taps.specs.Weighted.{weighted, mean, added, quotient}
+use Rattle.weighted.specs.Weighted.{weighted, mean, added, quotient}
 use Rattle.policies.specs.declared.named.Tap.the-variants as Tap
 use Rattle.bestfit.specs.Bestfit as Bestfit
 use Rattle.window.specs.Ceil as Ceil

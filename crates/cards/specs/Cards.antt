@@ -6,13 +6,13 @@ use mathlib.Core.List.{List, [], _∷_, _++_}
 use lib.IntN.{ℤ, pos, negsuc}
 use lib.ListN.{replicate}
 use lib.Ieee.{Float, binary32, binary64, ofBits}
-use Rattle.number.specs.Bytes.{putU32, putU64}
+use Rattle.endian.specs.Bytes.{putU32, putU64}
 use Rattle.arguments.specs.Method as Method
 use Rattle.build.specs.Build.{build}
-use Rattle.fit.specs.declared.mapping.Fitted.{Fitted}
-use Rattle.fit.specs.declared.mapping.Mapping.{Mapping}
+use Rattle.mappings.specs.declared.mapping.Fitted.{Fitted}
+use Rattle.mappings.specs.declared.mapping.Mapping.{Mapping}
 use Rattle.inverse.specs.Inverse.{inverse}
-use Rattle.inverse.specs.declared.point.Point.{Point}
+use Rattle.point.specs.declared.point.Point.{Point}
 use Rattle.cubic.specs.Cubic.{catrom}
 use Rattle.sampler.specs.Interpolate.{interpolate}
 use Rattle.policies.specs.Named.{named}

@@ -9,9 +9,9 @@ ghost use Rattle.distort.specs.Job.{callOf};
 ghost use Rattle.cards.specs.Cards.{opaqueBlack};
 use distort::answer::put_answer;
 use distort::call::distort;
+use endian::bytes::put_u64;
+use endian::bytes::u64_at;
 use libc::STDOUT_FILENO;
-use number::bytes::put_u64;
-use number::bytes::u64_at;
 
 const AFFINE_PROJECTION: u64 = 1;
 

@@ -17,8 +17,8 @@ use Rattle.exact.specs.Double.{_⊖_}
 use Rattle.exact.specs.Warp.{half}
 use Rattle.number.specs.Floor.{floorℤ}
 use Rattle.number.proofs.FloorLaws.{floor-integer}
-use Rattle.taps.specs.Cell as Taps
-use Rattle.taps.proofs.CellFloor.{usable-reached}
+use Rattle.cell.specs.Cell as Taps
+use Rattle.cell.proofs.CellFloor.{usable-reached}
 use Rattle.cells.specs.Cells.{Cell, Cells}
 use Rattle.cells.specs.Inner.{nought, inner}
 use Rattle.cells.proofs.InnerLaws.{floored-of, usable-of}

@@ -16,8 +16,8 @@ use Rattle.exact.specs.Double.{_⊕_, _⊖_}
 use Rattle.exact.specs.Warp.{half}
 use Rattle.number.specs.Floor.{floorℤ}
 use Rattle.number.proofs.FloorLaws.{floor-integer}
-use Rattle.taps.specs.Interpolation.{Interpolation, Integer, Nearest, interpolation}
-use Rattle.taps.proofs.CellFloor.{usable-reached}
+use Rattle.cell.specs.Interpolation.{Interpolation, Integer, Nearest, interpolation}
+use Rattle.cell.proofs.CellFloor.{usable-reached}
 use Rattle.cells.specs.Cells.{Place, Places}
 use Rattle.cells.specs.Inner.{nought, inner, nearby}
 use Rattle.cells.proofs.CellsLaws.{both, cell}

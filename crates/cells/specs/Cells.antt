@@ -12,8 +12,8 @@ use Rattle.exact.specs.Double.{_⊖_}
 use Rattle.exact.specs.Warp.{half}
 use Rattle.number.specs.Floor.{floorI64}
 use Rattle.number.specs.Magnitude.{within}
-use Rattle.taps.specs.Cell as Taps
-use Rattle.taps.specs.Interpolation.{Interpolation}
+use Rattle.cell.specs.Cell as Taps
+use Rattle.cell.specs.Interpolation.{Interpolation}
 
 -- a coordinate of a source point is usable up to this, 2^30
 abbrev pub limit : Float

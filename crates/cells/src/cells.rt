@@ -4,7 +4,7 @@ ghost use mathlib.Core.Path.{_≡_};
 ghost use mathlib.Core.Bool.{true};
 ghost use Prim.Native.Nat.{_≤_, _<_};
 ghost use lib.ListN.{length};
-ghost use Rattle.taps.specs.Interpolation.{Integer, Nearest, interpolation};
+ghost use Rattle.cell.specs.Interpolation.{Integer, Nearest, interpolation};
 ghost use Rattle.cells.specs.Cells.{Cells, Places};
 ghost use Rattle.cells.specs.Inner.{inner, nearby, Every};
 use crate::inner::beside;

@@ -9,7 +9,7 @@ ghost use Rattle.exact.specs.Double.{_⊕_, _⊖_};
 ghost use Rattle.exact.specs.Warp.{half};
 ghost use Rattle.number.specs.Floor.{floorℤ};
 ghost use Rattle.number.specs.Narrow.{narrow};
-ghost use Rattle.taps.specs.Cell.{fraction};
+ghost use Rattle.cell.specs.Cell.{fraction};
 ghost use Rattle.cells.specs.Inner.{nought, inner, nearby, Low, Short, Parted};
 use number::floor::whole_below;
 

@@ -13,7 +13,7 @@ use Rattle.exact.specs.Weighted.{Unit32}
 use Rattle.exact.proofs.Near.{within-same}
 use Rattle.exact.proofs.Products.{eq-refl}
 use Rattle.exact.proofs.Samples.{one-value}
-use Rattle.number.specs.Bytes.{sampleAt, u32At}
+use Rattle.endian.specs.Bytes.{sampleAt, u32At}
 use Rattle.pixels.specs.Colour.{one}
 use Rattle.sampler.specs.Opaque.{OpaquePicture}
 use Rattle.pixels.specs.Pixel.{Picture}

@@ -21,11 +21,11 @@ use Rattle.exact.proofs.Samples.{one-value, sample-along}
 use Rattle.exact.proofs.Scale.{at-eq, at-add, at-ratio}
 use Rattle.exact.proofs.Warp.{exact-unit, exact-opaque}
 use Rattle.build.specs.Build.{build}
-use Rattle.fit.specs.declared.mapping.Fitted.{Fitted}
-use Rattle.fit.specs.declared.mapping.Mapping.{Mapping}
+use Rattle.mappings.specs.declared.mapping.Fitted.{Fitted}
+use Rattle.mappings.specs.declared.mapping.Mapping.{Mapping}
 use Rattle.nearness.specs.Conditions as Conditions
 use Rattle.nearness.specs.ExactPoint.{exactPoint}
-use Rattle.inverse.specs.declared.point.Point.{Point}
+use Rattle.point.specs.declared.point.Point.{Point}
 use Rattle.nearness.proofs.PointNear.{asked-near}
 use Rattle.pixels.specs.Colour.{one}
 use Rattle.sampler.specs.Interpolate.{interpolate}

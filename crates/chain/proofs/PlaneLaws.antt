@@ -15,13 +15,13 @@ use lib.Ieee.{Float}
 use Rattle.exact.specs.Fraction.{Fraction, frac, value, _≈_, Within, Unit01}
 use Rattle.exact.proofs.Near.{within-same}
 use Rattle.exact.proofs.Products.{eq-refl, back, unit-one, unit-same}
-use Rattle.number.specs.Bytes.{sampleAt}
+use Rattle.endian.specs.Bytes.{sampleAt}
 use Rattle.pixels.specs.At.{samples, at}
 use Rattle.pixels.specs.Colour as Colour
 use Rattle.policies.specs.Named.{Policy, Transparent, policies, policy, named, Lies}
 use Rattle.sampler.specs.Opaque.{OpaquePlace, Exact, UnitExact, NearExact}
 use Rattle.pixels.specs.Pixel.{Picture, widened, pixelAt}
-use Rattle.taps.specs.Weighted.{Opaque}
+use Rattle.weighted.specs.Weighted.{Opaque}
 use Rattle.pixels.specs.declared.colour.Rgba.{Rgba}
 use Rattle.policies.specs.declared.named.Tap.{Tap}
 use Rattle.policies.specs.declared.named.Tap.the-variants as Tap

@@ -10,7 +10,7 @@ use native.Mathlib.Omega.{arith}
 use lib.Ieee.{Float}
 use Rattle.exact.specs.Fraction.{frac}
 use Rattle.exact.specs.Weighted.{Unit32, Sample}
-use Rattle.number.specs.Bytes.{sampleAt}
+use Rattle.endian.specs.Bytes.{sampleAt}
 use Rattle.pixels.specs.Colour.{one}
 use Rattle.sampler.specs.Finite.{BoundedPicture}
 use Rattle.pixels.specs.Pixel.{Picture}

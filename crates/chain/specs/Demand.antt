@@ -10,10 +10,10 @@ use lib.Ieee.{Float}
 use lib.Ieee.Scale.{finite}
 use Rattle.exact.specs.Fraction.{Fraction, frac, value, Within, Unit01}
 use Rattle.exact.specs.Sums.{askedF}
-use Rattle.number.specs.Bytes.{sampleAt}
+use Rattle.endian.specs.Bytes.{sampleAt}
 use Rattle.arguments.specs.Method as Method
-use Rattle.fit.specs.declared.mapping.Fitted.{Fitted}
-use Rattle.fit.specs.declared.mapping.Mapping.{Mapping}
+use Rattle.mappings.specs.declared.mapping.Fitted.{Fitted}
+use Rattle.mappings.specs.declared.mapping.Mapping.{Mapping}
 use Rattle.nearness.specs.Conditions.{Meets}
 use Rattle.pixels.specs.Colour.{one}
 use Rattle.pixels.specs.declared.colour.Rgba.{Rgba}

@@ -6,10 +6,10 @@ use lib.IntN.{ℤ}
 use Rattle.exact.specs.Fraction.{Fraction, frac, value, _-F_}
 use Rattle.exact.specs.Sums.{askedF}
 use Rattle.exact.specs.Warp.{exactSample}
-use Rattle.number.specs.Bytes.{sampleAt}
+use Rattle.endian.specs.Bytes.{sampleAt}
 use Rattle.build.specs.Build.{build}
-use Rattle.fit.specs.declared.mapping.Fitted.{Fitted}
-use Rattle.fit.specs.declared.mapping.Mapping.{Mapping}
+use Rattle.mappings.specs.declared.mapping.Fitted.{Fitted}
+use Rattle.mappings.specs.declared.mapping.Mapping.{Mapping}
 use Rattle.nearness.specs.ExactPoint.{exactPoint}
 use Rattle.pixels.specs.Colour as Colour
 use Rattle.policies.specs.Named.{named}

@@ -11,9 +11,9 @@ use lib.ListN.{length}
 use lib.Ieee as Ieee
 use Rattle.exact.specs.Fraction.{_+F_, _*F_, _/F_, absF}
 use Rattle.exact.specs.Sums.{askedF}
-use Rattle.number.specs.Bytes as Bytes
-use Rattle.fit.specs.declared.mapping.Fitted.{Fitted}
-use Rattle.fit.specs.declared.mapping.Mapping.{Mapping}
+use Rattle.endian.specs.Bytes as Bytes
+use Rattle.mappings.specs.declared.mapping.Fitted.{Fitted}
+use Rattle.mappings.specs.declared.mapping.Mapping.{Mapping}
 use Rattle.nearness.specs.Conditions.{Terms, Meets}
 use Rattle.nearness.specs.ExactPoint.{monomialsF, exactPoint}
 use Rattle.pixels.specs.Colour.{one}

@@ -5,7 +5,7 @@ use mathlib.Core.List.{List}
 use lib.Dec.{eqb}
 use lib.ListN.{getD}
 use lib.Ieee.{Float, nan, binary32, ofBits, le}
-use Rattle.number.specs.Bytes.{putF32}
+use Rattle.endian.specs.Bytes.{putF32}
 use Rattle.cubic.specs.Cubic.{zero, half, one, cubicWeights}
 
 -- w[k], of four

@@ -2,8 +2,8 @@
 ghost use mathlib.Core.Path.{_≡_};
 ghost use Rattle.cubic_probes.specs.Weights.{noFraction, putWeights, probeCubic};
 use cubic::cubic::cubic_weights;
-use number::bytes::put_f32;
-use number::pattern::f32_of_bits;
+use endian::bytes::put_f32;
+use endian::pattern::f32_of_bits;
 
 fn no_fraction(t: f32) -> bool
     ensures { λ r. ⌜ r ≡ noFraction t ⌝ }

@@ -17,8 +17,8 @@ use Rattle.arguments.specs.Method.{present}
 use Rattle.arguments.specs.Refusal as Arguments
 use Rattle.arguments.proofs.AcceptedLaws.{Accepted, accepted}
 use Rattle.arguments.proofs.CountLaws.{neither}
-use Rattle.fit.specs.declared.mapping.Fitted.{Fitted}
-use Rattle.fit.specs.declared.mapping.Mapping.{Mapping}
+use Rattle.mappings.specs.declared.mapping.Fitted.{Fitted}
+use Rattle.mappings.specs.declared.mapping.Mapping.{Mapping}
 use Rattle.build.proofs.DegenerateLaws.{build-8}
 use Rattle.window.specs.Window.{refusalOf, widthOf, heightOf, xOf, yOf}
 use Rattle.window.specs.declared.window.Placed.{Placed}
@@ -26,7 +26,7 @@ use Rattle.window.specs.declared.window.Placed.the-variants.{Window, Refused}
 use Rattle.window.proofs.WindowLaws.{Side, Limits, window-limits}
 use Rattle.pixels.specs.Colour.{one}
 use Rattle.sampler.specs.Finite.{BoundedPicture}
-use Rattle.taps.specs.Weighted.{BoundedBy}
+use Rattle.weighted.specs.Weighted.{BoundedBy}
 use Rattle.pixels.specs.declared.colour.Rgba.{Rgba}
 use Rattle.distort.specs.Job.{Image, Given, Call, yes, colourOf}
 use Rattle.distort.specs.Refusal.{fitOf, windowOf, transparent, widest, channelsOf, badSize, badStock, badCode, large, badNumber, degenerate, badWindow, badRows, badTray, ofJob, unfit, jobRefusal, refusal}

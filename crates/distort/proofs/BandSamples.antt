@@ -6,7 +6,7 @@ use Prim.Native.Nat.{ℕ, zero, suc, _+_, _*_, _/_, _%_, _<_}
 use native.Mathlib.Nat.{le-trans, add-zero, mul-le-mul-right, mod-lt, div-add-mod', div-lt-iff-lt-mul}
 use native.Mathlib.Omega.{arith}
 use lib.Ieee.{Float}
-use Rattle.number.specs.Bytes.{sampleAt}
+use Rattle.endian.specs.Bytes.{sampleAt}
 use Rattle.pixels.specs.Colour.{one, luma}
 use Rattle.sampler.specs.Finite.{FitsBy}
 use Rattle.pixels.specs.Pixel.{Picture, widened, pixelAt}

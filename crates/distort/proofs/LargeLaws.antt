@@ -6,13 +6,13 @@ use Prim.Native.Nat.{ℕ, _*_, _<_}
 use lib.Dec.{T, lit≤}
 use lib.ListN.{length}
 use Rattle.exact.specs.Fraction.{frac}
-use Rattle.number.specs.Bytes.{sampleAt}
+use Rattle.endian.specs.Bytes.{sampleAt}
 use Rattle.number.specs.Magnitude.{within}
 use Rattle.sampler.proofs.AtFinite.{limit, within-bounded}
 use Rattle.pixels.specs.Pixel.{Limited, widened, pixelAt}
 use Rattle.pixels.proofs.LimitedLaws as Limits
 use Rattle.pixels.proofs.LimitedLaws.{limited-by}
-use Rattle.taps.specs.Weighted.{Bounded, BoundedBy}
+use Rattle.weighted.specs.Weighted.{Bounded, BoundedBy}
 use Rattle.distort.specs.Job.{colourOf}
 use Rattle.distort.specs.Refusal.{large}
 

@@ -11,16 +11,16 @@ use lib.Ieee.{Float, binary32, ofBits, toBits}
 use lib.Ieee.Bits.{ofBits-fits}
 use lib.Ieee.Fits.{add-fits}
 use lib.ListN.{length, getD, replicate}
-use Rattle.number.specs.Bytes.{numberAt, sampleAt}
-use Rattle.number.proofs.BytesLaws.{put-length}
-use Rattle.number.proofs.FloatBytes.{sample-put, sample-beside}
+use Rattle.endian.specs.Bytes.{numberAt, sampleAt}
+use Rattle.endian.proofs.BytesLaws.{put-length}
+use Rattle.endian.proofs.FloatBytes.{sample-put, sample-beside}
 use Rattle.pixels.specs.Colour.{luma}
 use Rattle.sampler.specs.Finite.{FitsBy}
 use Rattle.pixels.specs.Pixel.{Picture, widened, pixelAt}
-use Rattle.pixels.specs.Store.{putSample, putRgb, narrowed, putPixel}
+use Rattle.stored.specs.Store.{putSample, putRgb, narrowed, putPixel}
 use Rattle.pixels.specs.declared.colour.Rgba.{Rgba}
 use Rattle.sampler.proofs.InterpolateFinite.{interpolate-fits}
-use Rattle.inverse.specs.declared.point.Point.{Point}
+use Rattle.point.specs.declared.point.Point.{Point}
 use Rattle.band.specs.Band.{Frame, Source, pointAt, shown, colourAt, pixelBytes}
 use Rattle.distort.specs.Job.{colourOf}
 use Rattle.band.specs.Joined.{joined}

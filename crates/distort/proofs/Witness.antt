@@ -7,7 +7,7 @@ use lib.ListN.{replicate}
 use lib.Ieee.{ofBits, ofFields, ofInt, odd, lt, le, eq, add, sub, mul, div, neg, isNan, sum, round, units, size, span, climb}
 use Rattle.exact.specs.Loop.{turns, upTo}
 use Rattle.exact.specs.Table.{firstOf}
-use Rattle.number.specs.Bytes.{numberAt}
+use Rattle.endian.specs.Bytes.{numberAt}
 use Rattle.number.specs.Magnitude.{abs, within}
 use Rattle.arguments.specs.Method as Method
 use Rattle.arguments.specs.Method.{present, skip, leastPairs}
@@ -18,7 +18,7 @@ use Rattle.arguments.proofs.Witness.{zeros, float}
 use Rattle.fit.specs.Affine.{affineProjection, shift, affine}
 use Rattle.build.specs.Build.{made, build}
 use Rattle.matrix.specs.Invert.{invertAffine}
-use Rattle.fit.specs.Mapping.{mapping, refused, solvedOr8}
+use Rattle.mappings.specs.Mapping.{mapping, refused, solvedOr8}
 use Rattle.window.specs.Span.{goodOffset, goodLength, held}
 use Rattle.window.specs.Window.{joined, window}
 use Rattle.pixels.specs.Pixel.{widened, pixelAt}

@@ -8,13 +8,13 @@ use lib.ListN.{length, take}
 use lib.Ieee.{binary32, ofBits, lt}
 use Rattle.exact.specs.Loop.{upTo}
 use Rattle.exact.specs.Table.{firstOf}
-use Rattle.number.specs.Bytes.{sampleAt}
+use Rattle.endian.specs.Bytes.{sampleAt}
 use Rattle.number.specs.Magnitude.{within}
 use Rattle.arguments.specs.Method.{present}
 use Rattle.arguments.specs.Refusal as Arguments
 use Rattle.build.specs.Build.{build}
-use Rattle.fit.specs.declared.mapping.Fitted.{Fitted}
-use Rattle.fit.specs.declared.mapping.Mapping.{Mapping}
+use Rattle.mappings.specs.declared.mapping.Fitted.{Fitted}
+use Rattle.mappings.specs.declared.mapping.Mapping.{Mapping}
 use Rattle.pixels.specs.Colour.{one}
 use Rattle.pixels.specs.declared.colour.Rgba.{Rgba}
 use Rattle.window.specs.Window.{window, refusalOf, widthOf, heightOf}

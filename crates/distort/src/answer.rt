@@ -1,8 +1,8 @@
 // What a distort call answers, and the answer in bytes. Assumes nothing.
 ghost use mathlib.Core.Path.{_≡_};
 ghost use Rattle.distort.specs.Call.{numberOf, putAnswer};
-use number::bytes::put_i64;
-use number::bytes::put_u64;
+use endian::bytes::put_i64;
+use endian::bytes::put_u64;
 
 // An accepted call: the output's size, where it lies, its channels, and the matte pixels of the band. A refused one: the number.
 pub enum Answer {

@@ -11,7 +11,7 @@ use arguments::code::is_present;
 use arguments::refusal::bad_count;
 use arguments::refusal::bad_order;
 use arguments::refusal::few_pairs;
-use number::bytes::f32_within;
+use endian::bytes::f32_within;
 
 // 65536.0, the largest sample in magnitude, by its pattern.
 const LIMIT: u32 = 0x4780_0000;

@@ -11,10 +11,10 @@ use Rattle.arguments.specs.Order.{termsOf}
 use Rattle.arguments.proofs.OrderLaws.{terms-range}
 use lib.Ieee.{Float}
 use lib.ListN.{take}
-use Rattle.fit.specs.declared.mapping.Mapping.{Mapping}
-use Rattle.fit.specs.declared.mapping.Fitted.{Fitted}
+use Rattle.mappings.specs.declared.mapping.Mapping.{Mapping}
+use Rattle.mappings.specs.declared.mapping.Fitted.{Fitted}
 use Rattle.solve.specs.declared.solve.Solution.{Solution}
-use Rattle.fit.specs.Mapping.{mapping, fitted, refused, solvedOr8}
+use Rattle.mappings.specs.Mapping.{mapping, fitted, refused, solvedOr8}
 use Rattle.fit.specs.Fit.{both}
 use Rattle.matrix.specs.Matrix.{Vector, System}
 use Rattle.solve.specs.Normal.{addRow, normal, inTurn}

@@ -8,17 +8,17 @@ use Rattle.exact.specs.Double.{_⊖_}
 use Rattle.number.specs.Power.{one}
 use Rattle.arguments.specs.Method.{affineTerms}
 use Rattle.matrix.specs.declared.invert.AffineInverse.{AffineInverse}
-use Rattle.fit.specs.declared.mapping.Fitted.{Fitted}
-use Rattle.fit.specs.declared.pairs.Pair.{Pair}
-use Rattle.fit.specs.declared.rows.Side.the-variants.{OfU, OfV}
-use Rattle.fit.specs.declared.rows.Terms.the-variants.{Affine}
-use Rattle.fit.specs.declared.rows.Twin.the-variants.{Similarity}
+use Rattle.mappings.specs.declared.mapping.Fitted.{Fitted}
+use Rattle.equations.specs.declared.pairs.Pair.{Pair}
+use Rattle.equations.specs.declared.rows.Side.the-variants.{OfU, OfV}
+use Rattle.equations.specs.declared.rows.Terms.the-variants.{Affine}
+use Rattle.equations.specs.declared.rows.Twin.the-variants.{Similarity}
 use Rattle.solve.specs.declared.solve.Solution.{Solution}
 use Rattle.fit.specs.Fit.{fitTwin, fitBoth}
 use Rattle.matrix.specs.Invert.{invertAffine}
-use Rattle.fit.specs.Mapping.{affineKind, mapping, fitted, solvedOr8}
+use Rattle.mappings.specs.Mapping.{affineKind, mapping, fitted, solvedOr8}
 use Rattle.matrix.specs.Matrix.{Vector, at, nought}
-use Rattle.fit.specs.Pairs.{pairAt}
+use Rattle.equations.specs.Pairs.{pairAt}
 
 -- ---- the arguments are a forward map, column by column
 

@@ -7,8 +7,8 @@ use lib.Ieee.{Float}
 use Rattle.exact.specs.Double.{_⊕_, _⊖_, _⊘_}
 use Rattle.number.specs.Magnitude.{fmin}
 use Rattle.number.specs.Power.{one}
-use Rattle.fit.specs.declared.mapping.Fitted.{Fitted}
-use Rattle.fit.specs.Mapping.{mapping, fitted}
+use Rattle.mappings.specs.declared.mapping.Fitted.{Fitted}
+use Rattle.mappings.specs.Mapping.{mapping, fitted}
 use Rattle.matrix.specs.Matrix.{Vector, at}
 use Rattle.fit.specs.Perspective.{two}
 

@@ -4,16 +4,16 @@ use mathlib.Core.Bool.{_&&_}
 use mathlib.Core.List.{_++_}
 use lib.ListN.{take}
 use lib.Ieee.{Float}
-use Rattle.fit.specs.declared.mapping.Fitted.{Fitted}
-use Rattle.fit.specs.declared.rows.Side.{Side}
-use Rattle.fit.specs.declared.rows.Terms.{Terms}
-use Rattle.fit.specs.declared.rows.Twin.{Twin}
+use Rattle.mappings.specs.declared.mapping.Fitted.{Fitted}
+use Rattle.equations.specs.declared.rows.Side.{Side}
+use Rattle.equations.specs.declared.rows.Terms.{Terms}
+use Rattle.equations.specs.declared.rows.Twin.{Twin}
 use Rattle.solve.specs.declared.solve.Solution.{Solution}
-use Rattle.fit.specs.Mapping.{mapping, solvedOr8}
+use Rattle.mappings.specs.Mapping.{mapping, solvedOr8}
 use Rattle.matrix.specs.Matrix.{Vector}
 use Rattle.solve.specs.Normal.{lstsq, inTurn}
-use Rattle.fit.specs.Pairs.{pairAt}
-use Rattle.fit.specs.Rows.{rowOf, sideOf, firstRow, secondRow}
+use Rattle.equations.specs.Pairs.{pairAt}
+use Rattle.equations.specs.Rows.{rowOf, sideOf, firstRow, secondRow}
 
 -- ---- one row a pair
 

@@ -7,14 +7,14 @@ use Rattle.exact.specs.Double.{_⊕_, _⊗_, _⊘_}
 use Rattle.exact.specs.Loop.{upTo}
 use Rattle.number.specs.Power.{one}
 use Rattle.matrix.specs.declared.invert.Inverse.{Inverse}
-use Rattle.fit.specs.declared.mapping.Fitted.{Fitted}
-use Rattle.fit.specs.declared.rows.Side.{Side}
-use Rattle.fit.specs.declared.rows.Side.the-variants.{OfX, OfY}
-use Rattle.fit.specs.declared.rows.Twin.the-variants.{Perspective}
+use Rattle.mappings.specs.declared.mapping.Fitted.{Fitted}
+use Rattle.equations.specs.declared.rows.Side.{Side}
+use Rattle.equations.specs.declared.rows.Side.the-variants.{OfX, OfY}
+use Rattle.equations.specs.declared.rows.Twin.the-variants.{Perspective}
 use Rattle.solve.specs.declared.solve.Solution.{Solution}
 use Rattle.fit.specs.Fit.{fitTwin, sidesOf}
 use Rattle.matrix.specs.Invert.{invert3}
-use Rattle.fit.specs.Mapping.{perspectiveKind, mapping, solvedOr8}
+use Rattle.mappings.specs.Mapping.{perspectiveKind, mapping, solvedOr8}
 use Rattle.matrix.specs.Matrix.{Vector, at, nought}
 use Rattle.fit.specs.Orient.{orient}
 

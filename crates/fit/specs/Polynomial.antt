@@ -4,11 +4,11 @@ use Prim.Native.Nat.{ℕ}
 use mathlib.Core.Bool.{cond}
 use lib.Ieee.{Float}
 use Rattle.arguments.specs.Order.{bilinearOrder, degree, termsOf}
-use Rattle.fit.specs.declared.mapping.Fitted.{Fitted}
-use Rattle.fit.specs.declared.rows.Side.the-variants.{OfU, OfV, OfX, OfY}
-use Rattle.fit.specs.declared.rows.Terms.the-variants.{Polynomial, Forward}
+use Rattle.mappings.specs.declared.mapping.Fitted.{Fitted}
+use Rattle.equations.specs.declared.rows.Side.the-variants.{OfU, OfV, OfX, OfY}
+use Rattle.equations.specs.declared.rows.Terms.the-variants.{Polynomial, Forward}
 use Rattle.fit.specs.Fit.{fitBoth}
-use Rattle.fit.specs.Mapping.{polyKind, bilinearForwardKind}
+use Rattle.mappings.specs.Mapping.{polyKind, bilinearForwardKind}
 use Rattle.matrix.specs.Matrix.{Vector}
 
 -- 0 for the terms 1, x, y, xy and else the degree

@@ -1,8 +1,8 @@
 -- What Shepard's method is fitted to: the pairs u, v, x, y as they are. Assumes nothing.
 use Prim.Native.Nat.{ℕ, _*_}
 use lib.ListN.{take}
-use Rattle.fit.specs.declared.mapping.Fitted.{Fitted}
-use Rattle.fit.specs.Mapping.{shepardsKind, mapping, fitted}
+use Rattle.mappings.specs.declared.mapping.Fitted.{Fitted}
+use Rattle.mappings.specs.Mapping.{shepardsKind, mapping, fitted}
 use Rattle.matrix.specs.Matrix.{Vector}
 
 unfoldable pub shepards : Vector → ℕ → Fitted

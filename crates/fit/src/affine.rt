@@ -4,13 +4,13 @@ ghost use Prim.Native.Nat.{_*_, _≤_};
 ghost use Rattle.fit.specs.Affine as Maker;
 use crate::lstsq::fit_both;
 use crate::lstsq::fit_twin;
-use crate::mapping;
-use crate::mapping::Fitted;
-use crate::pairs::pair_at;
-use crate::rows::Side;
-use crate::rows::Terms;
-use crate::rows::Twin;
 use arguments::method::Affine;
+use equations::pairs::pair_at;
+use equations::rows::Side;
+use equations::rows::Terms;
+use equations::rows::Twin;
+use mappings::mapping;
+use mappings::mapping::Fitted;
 use matrix::invert::invert_affine;
 
 // The arguments are a forward map, column by column.

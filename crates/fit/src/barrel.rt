@@ -3,8 +3,8 @@ ghost use mathlib.Core.Path.{_≡_};
 ghost use Prim.Native.Nat.{_<_};
 ghost use Rattle.fit.specs.Barrel.{givenOr};
 ghost use Rattle.fit.specs.Barrel as Maker;
-use crate::mapping;
-use crate::mapping::Fitted;
+use mappings::mapping;
+use mappings::mapping::Fitted;
 use number::magnitude::min;
 
 // args.get(k), or else what stands for it.

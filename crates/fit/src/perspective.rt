@@ -4,14 +4,14 @@ ghost use Prim.Native.Nat.{_*_, _≤_};
 ghost use Rattle.fit.specs.Perspective.{mean, projected};
 ghost use Rattle.fit.specs.Perspective as Maker;
 use crate::lstsq::fit_twin;
-use crate::mapping;
-use crate::mapping::Fitted;
 use crate::orient::orient;
-use crate::pairs::pair_at;
-use crate::rows::Side;
-use crate::rows::Twin;
-use crate::rows::side_of;
 use arguments::method::Perspective;
+use equations::pairs::pair_at;
+use equations::rows::Side;
+use equations::rows::Twin;
+use equations::rows::side_of;
+use mappings::mapping;
+use mappings::mapping::Fitted;
 use matrix::invert::invert3;
 
 // Where row k of a homography's numerators takes (u, v).

@@ -4,13 +4,13 @@ ghost use Prim.Native.Nat.{_+_, _*_, _≤_};
 ghost use Rattle.fit.specs.Polynomial.{orderNumber, bilinearReverse, bilinearForward};
 ghost use Rattle.fit.specs.Polynomial as Maker;
 use crate::lstsq::fit_both;
-use crate::mapping;
-use crate::mapping::Fitted;
-use crate::rows::Side;
-use crate::rows::Terms;
 use arguments::method::BilinearForward;
 use arguments::method::BilinearReverse;
 use arguments::method::Polynomial;
+use equations::rows::Side;
+use equations::rows::Terms;
+use mappings::mapping;
+use mappings::mapping::Fitted;
 
 // The order as a number: 0 for the terms 1, x, y, xy and else the degree.
 fn order_number(order: f64) -> u64

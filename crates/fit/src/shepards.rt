@@ -2,8 +2,8 @@
 ghost use mathlib.Core.Path.{_≡_};
 ghost use Prim.Native.Nat.{_≤_};
 ghost use Rattle.fit.specs.Shepards as Maker;
-use crate::mapping;
-use crate::mapping::Fitted;
+use mappings::mapping;
+use mappings::mapping::Fitted;
 
 pub fn shepards(values: &[f64; 257], pairs: usize) -> Fitted
     requires { ⌜ pairs ≤ 64 ⌝ }

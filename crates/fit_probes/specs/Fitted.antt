@@ -7,9 +7,9 @@ use lib.Dec.{eqb}
 use lib.ListN.{getD}
 use lib.Ieee.{Float, nan}
 use Rattle.exact.specs.Loop.{upTo}
-use Rattle.number.specs.Bytes.{putU64, putF64}
-use Rattle.fit.specs.declared.mapping.Fitted.{Fitted}
-use Rattle.fit.specs.declared.mapping.Mapping.{Mapping}
+use Rattle.endian.specs.Bytes.{putU64, putF64}
+use Rattle.mappings.specs.declared.mapping.Fitted.{Fitted}
+use Rattle.mappings.specs.declared.mapping.Mapping.{Mapping}
 use Rattle.fit_probes.specs.Sized.{sizedFit}
 
 unfoldable pub putCoefficient : List Float → ℕ → List ℕ → List ℕ

@@ -3,8 +3,8 @@ use Prim.Native.Nat.{ℕ}
 use mathlib.Core.Bool.{cond, _||_}
 use mathlib.Core.List.{List}
 use Rattle.build.specs.Build.{build}
-use Rattle.fit.specs.Mapping.{refused}
-use Rattle.fit.specs.declared.mapping.Fitted.{Fitted}
+use Rattle.mappings.specs.Mapping.{refused}
+use Rattle.mappings.specs.declared.mapping.Fitted.{Fitted}
 use Rattle.number_probes.specs.Size.{wrongSize}
 
 unfoldable pub sizedFit : ℕ → List ℕ → ℕ → ℕ → Fitted

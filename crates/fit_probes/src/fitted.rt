@@ -3,11 +3,11 @@ ghost use mathlib.Core.Path.{_≡_};
 ghost use Prim.Native.Nat.{_+_, _*_, _≤_, min};
 ghost use lib.ListN.{length};
 ghost use Rattle.exact.specs.Loop.{upTo};
-ghost use Rattle.number.specs.Bytes.{putU64};
+ghost use Rattle.endian.specs.Bytes.{putU64};
 ghost use Rattle.fit_probes.specs.Fitted.{putCoefficient, probeFit};
 use crate::sized::sized_fit;
-use number::bytes::put_f64;
-use number::bytes::put_u64;
+use endian::bytes::put_f64;
+use endian::bytes::put_u64;
 
 fn most(count: u64) -> usize
     ensures { λ r. ⌜ r ≡ min count 256 ⌝ }

@@ -2,8 +2,8 @@
 ghost use mathlib.Core.Path.{_≡_};
 ghost use Rattle.fit_probes.specs.Sized.{sizedFit};
 use build::build::build;
-use fit::mapping::Fitted;
-use fit::mapping::refused;
+use mappings::mapping::Fitted;
+use mappings::mapping::refused;
 use number_probes::size::wrong_size;
 
 // Width or height 0 or above 4,096 is refused by 1.

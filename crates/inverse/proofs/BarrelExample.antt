@@ -7,7 +7,7 @@ use lib.Ieee.{Float, fin, add, sub, mul, div, sum, round, ofBits, le}
 use Rattle.number.specs.Magnitude.{abs, within}
 use Rattle.root.specs.Root.{root, rootOf, nearestRoot, wholeRoot}
 use Rattle.matrix.specs.Matrix.{Vector}
-use Rattle.inverse.specs.Point.{usable}
+use Rattle.point.specs.Point.{usable}
 use Rattle.inverse.specs.Barrel.{barrel}
 
 abbrev zero : Float

@@ -12,9 +12,9 @@ use Rattle.exact.specs.Double.{_⊕_, _⊗_}
 use Rattle.exact.specs.Loop.{upTo, turns}
 use Rattle.exact.proofs.Loop.{upTo-same}
 use Rattle.matrix.specs.Matrix.{Vector, at, nought}
-use Rattle.fit.specs.Padded.{padded}
-use Rattle.fit.specs.Monomials.{push, ofDegree, upToDegree, monomials}
-use Rattle.inverse.specs.Point.{point}
+use Rattle.mappings.specs.Padded.{padded}
+use Rattle.equations.specs.Monomials.{push, ofDegree, upToDegree, monomials}
+use Rattle.point.specs.Point.{point}
 use Rattle.inverse.specs.Polynomial.{dot, dots, ofU, ofV, terms, polynomial}
 
 module _ (m : Vector) (c : ℕ → Float) (n : ℕ) (h : n ≤ length m) where

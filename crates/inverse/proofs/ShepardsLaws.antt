@@ -9,9 +9,9 @@ use Rattle.exact.specs.Double.{_⊕_, _⊖_, _⊗_}
 use Rattle.exact.specs.Loop.{upTo}
 use Rattle.exact.proofs.Loop.{upTo-next, upTo-last, upTo-stay}
 use Rattle.matrix.specs.Matrix.{Vector, at}
-use Rattle.inverse.specs.declared.point.Point.{Point}
-use Rattle.inverse.specs.Point.{point}
-use Rattle.inverse.specs.Course.{Course, on, out, turn, ended}
+use Rattle.point.specs.declared.point.Point.{Point}
+use Rattle.point.specs.Point.{point}
+use Rattle.point.specs.Course.{Course, on, out, turn, ended}
 use Rattle.inverse.specs.Shepards.{Sums, d2, wgt, addPair, pairTurn, zeroSums, shift, ofPairs}
 
 -- with the sums s after j pairs

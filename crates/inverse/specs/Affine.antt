@@ -2,8 +2,8 @@
 use lib.Ieee.{Float}
 use Rattle.exact.specs.Sums.{linear}
 use Rattle.matrix.specs.Matrix.{Vector, at}
-use Rattle.inverse.specs.declared.point.Point.{Point}
-use Rattle.inverse.specs.Point.{point}
+use Rattle.point.specs.declared.point.Point.{Point}
+use Rattle.point.specs.Point.{point}
 
 abbrev pub affine : Vector → Float → Float → Point
 affine m x y = point (linear (at m 0) (at m 1) (at m 2) x y) (linear (at m 3) (at m 4) (at m 5) x y)

@@ -7,8 +7,8 @@ use Rattle.number.specs.Magnitude.{abs}
 use Rattle.number.specs.Power.{one}
 use Rattle.root.specs.Root.{root}
 use Rattle.matrix.specs.Matrix.{Vector, at}
-use Rattle.inverse.specs.declared.point.Point.{Point}
-use Rattle.inverse.specs.Point.{point, none}
+use Rattle.point.specs.declared.point.Point.{Point}
+use Rattle.point.specs.Point.{point, none}
 
 -- dx = (x - cx) / norm, dy = (y - cy) / norm
 abbrev pub across : Vector → Float → Float

@@ -4,13 +4,13 @@ use mathlib.Core.Bool.{cond}
 use lib.Dec.{eqb}
 use lib.Ieee.{Float}
 use Rattle.matrix.specs.Matrix.{Vector}
-use Rattle.fit.specs.Mapping.{affineKind, perspectiveKind, polyKind, bilinearForwardKind, barrelKind, barrelInverseKind, shepardsKind}
-use Rattle.inverse.specs.declared.point.Point.{Point}
-use Rattle.inverse.specs.Point.{none}
+use Rattle.mappings.specs.Mapping.{affineKind, perspectiveKind, polyKind, bilinearForwardKind, barrelKind, barrelInverseKind, shepardsKind}
+use Rattle.point.specs.declared.point.Point.{Point}
+use Rattle.point.specs.Point.{none}
 use Rattle.inverse.specs.Affine.{affine}
 use Rattle.inverse.specs.Perspective.{perspective}
 use Rattle.inverse.specs.Polynomial.{polynomial}
-use Rattle.inverse.specs.Forward.{bilinearForward}
+use Rattle.forward.specs.Forward.{bilinearForward}
 use Rattle.inverse.specs.Barrel.{barrel, barrelInverse}
 use Rattle.inverse.specs.Shepards.{shepards}
 

@@ -5,8 +5,8 @@ use lib.Ieee.{Float, binary64, ofBits, le}
 use Rattle.exact.specs.Double.{_⊘_}
 use Rattle.exact.specs.Sums.{linear}
 use Rattle.matrix.specs.Matrix.{Vector, at}
-use Rattle.inverse.specs.declared.point.Point.{Point}
-use Rattle.inverse.specs.Point.{point, none}
+use Rattle.point.specs.declared.point.Point.{Point}
+use Rattle.point.specs.Point.{point, none}
 
 abbrev pub wq : Vector → Float → Float → Float
 wq m x y = linear (at m 6) (at m 7) (at m 8) x y

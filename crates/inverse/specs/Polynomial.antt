@@ -6,9 +6,9 @@ use lib.Ieee.{Float}
 use Rattle.exact.specs.Double.{_⊗_}
 use Rattle.exact.specs.Sums.{summed}
 use Rattle.matrix.specs.Matrix.{Vector, at, nought}
-use Rattle.fit.specs.Monomials.{monomials}
-use Rattle.inverse.specs.declared.point.Point.{Point}
-use Rattle.inverse.specs.Point.{point}
+use Rattle.equations.specs.Monomials.{monomials}
+use Rattle.point.specs.declared.point.Point.{Point}
+use Rattle.point.specs.Point.{point}
 
 -- the sum of mono[k] * c[k] for the first n k
 abbrev pub dot : Vector → (ℕ → Float) → ℕ → Float

@@ -7,9 +7,9 @@ use Rattle.exact.specs.Double.{_⊕_, _⊖_, _⊗_, _⊘_}
 use Rattle.exact.specs.Loop.{upTo}
 use Rattle.number.specs.Power.{one}
 use Rattle.matrix.specs.Matrix.{Vector, at, nought}
-use Rattle.inverse.specs.declared.point.Point.{Point}
-use Rattle.inverse.specs.Point.{point}
-use Rattle.inverse.specs.Course.{Course, on, out, turn, ended}
+use Rattle.point.specs.declared.point.Point.{Point}
+use Rattle.point.specs.Point.{point}
+use Rattle.point.specs.Course.{Course, on, out, turn, ended}
 
 pub record Sums : Type 0 where
   pub su : Float

@@ -1,8 +1,8 @@
 // Affine: two sums of three terms. Assumes nothing.
 ghost use mathlib.Core.Path.{_≡_};
 ghost use Rattle.inverse.specs.Affine as Affine;
-use crate::point::Point;
-use crate::usable::point;
+use point::point::Point;
+use point::usable::point;
 
 pub fn affine(m: &[f64; 256], x: f64, y: f64) -> Point
     ensures { λ r. ⌜ r ≡ Affine.affine (now (m .entry)) x y ⌝ }

@@ -1,10 +1,10 @@
 // Barrel and BarrelInverse: the offset from the centre times a factor of the radius. Assumes nothing.
 ghost use mathlib.Core.Path.{_≡_};
 ghost use Rattle.inverse.specs.Barrel as Barrel;
-use crate::point::Point;
-use crate::usable::none;
-use crate::usable::point;
 use number::magnitude::abs;
+use point::point::Point;
+use point::usable::none;
+use point::usable::point;
 use root::root::root;
 
 fn factor(c: &[f64; 256], dx: f64, dy: f64) -> f64

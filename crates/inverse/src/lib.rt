@@ -2,12 +2,7 @@
 // of its types, NaN and infinities included.
 pub mod affine;
 pub mod barrel;
-pub mod forward;
 pub mod perspective;
-pub mod pixel;
-pub mod point;
-pub mod points;
 pub mod polynomial;
 pub mod shepards;
 pub mod source;
-pub mod usable;

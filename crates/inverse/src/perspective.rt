@@ -1,9 +1,9 @@
 // Perspective: two sums over a third. Assumes nothing.
 ghost use mathlib.Core.Path.{_≡_};
 ghost use Rattle.inverse.specs.Perspective as Perspective;
-use crate::point::Point;
-use crate::usable::none;
-use crate::usable::point;
+use point::point::Point;
+use point::usable::none;
+use point::usable::point;
 
 pub fn perspective(m: &[f64; 256], x: f64, y: f64) -> Point
     ensures { λ r. ⌜ r ≡ Perspective.perspective (now (m .entry)) x y ⌝ }

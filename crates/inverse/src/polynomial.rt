@@ -2,11 +2,11 @@
 ghost use mathlib.Core.Path.{_≡_};
 ghost use Prim.Native.Nat.{_≤_};
 ghost use lib.ListN.{length};
-ghost use Rattle.fit.specs.Monomials.{monomials};
+ghost use Rattle.equations.specs.Monomials.{monomials};
 ghost use Rattle.inverse.specs.Polynomial as Polynomial;
-use crate::point::Point;
-use crate::usable::point;
-use fit::monomials::monomials;
+use equations::monomials::monomials;
+use point::point::Point;
+use point::usable::point;
 
 // Both sums in one loop: n coefficients of u, then n of v.
 fn dots(mono: &[f64; 21], coef: &[f64; 256], n: usize) -> Point

@@ -3,8 +3,8 @@ ghost use mathlib.Core.Path.{_≡_};
 ghost use Prim.Native.Nat.{_≤_};
 ghost use Rattle.inverse.specs.Shepards.{ofPairs, pairsOf};
 ghost use Rattle.inverse.specs.Shepards as Shepards;
-use crate::point::Point;
-use crate::usable::point;
+use point::point::Point;
+use point::usable::point;
 
 // Over the first n pairs; one that lies at (x, y) is the answer.
 fn of_pairs(c: &[f64; 256], x: f64, y: f64, n: usize) -> Point

@@ -4,19 +4,19 @@ ghost use Rattle.inverse.specs.Inverse as Inverse;
 use crate::affine::affine;
 use crate::barrel::barrel;
 use crate::barrel::barrel_inverse;
-use crate::forward::bilinear_forward;
 use crate::perspective::perspective;
-use crate::point::Point;
 use crate::polynomial::polynomial;
 use crate::shepards::shepards;
-use crate::usable::none;
-use fit::mapping::AFFINE;
-use fit::mapping::BARREL;
-use fit::mapping::BARREL_INVERSE;
-use fit::mapping::BILINEAR_FORWARD;
-use fit::mapping::PERSPECTIVE;
-use fit::mapping::POLY;
-use fit::mapping::SHEPARDS;
+use forward::forward::bilinear_forward;
+use mappings::mapping::AFFINE;
+use mappings::mapping::BARREL;
+use mappings::mapping::BARREL_INVERSE;
+use mappings::mapping::BILINEAR_FORWARD;
+use mappings::mapping::PERSPECTIVE;
+use mappings::mapping::POLY;
+use mappings::mapping::SHEPARDS;
+use point::point::Point;
+use point::usable::none;
 
 pub fn inverse(kind: u64, order: u64, count: u64, coef: &[f64; 256], x: f64, y: f64) -> Point
     ensures { λ r. ⌜ r ≡ Inverse.inverse kind order count (now (coef .entry)) x y ⌝ }

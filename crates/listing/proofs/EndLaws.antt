@@ -8,7 +8,7 @@ use borrow.Author.Tests.{ltb-false}
 use mathlib.Core.List.{List}
 use lib.Dec.{eqb, ltb}
 use lib.ListN.{length, take}
-use Rattle.fit.specs.declared.mapping.Fitted.{Fitted}
+use Rattle.mappings.specs.declared.mapping.Fitted.{Fitted}
 use Rattle.build.specs.Build.{build}
 use Rattle.listing.specs.declared.reader.Reader.{Reader}
 use Rattle.listing.specs.declared.reader.Outcome.{Outcome}

@@ -7,9 +7,9 @@ use Prim.Native.Nat.{ℕ, zero, suc, _+_, _-_, _*_, _≤_, _<_}
 use native.Mathlib.Omega.{arith}
 use lib.ListN.{length}
 use lib.Ieee.{Float}
-use Rattle.number.specs.Bytes.{f64At}
-use Rattle.number.proofs.BytesLaws.{put-length}
-use Rattle.number.proofs.FloatBytes.{f64-put, f64-beside}
+use Rattle.endian.specs.Bytes.{f64At}
+use Rattle.endian.proofs.BytesLaws.{put-length}
+use Rattle.endian.proofs.FloatBytes.{f64-put, f64-beside}
 use Rattle.exact.proofs.Naturals.{lt-or-le}
 use Rattle.listing.specs.declared.names.Names.{Names}
 use Rattle.listing.specs.Word.{pixels}

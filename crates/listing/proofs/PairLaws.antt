@@ -9,7 +9,7 @@ use borrow.Author.Tests.{ne-eqb, lt-ltb, le-ltb}
 use native.Mathlib.Nat.{add-zero}
 use lib.Dec.{lit<}
 use lib.ListN.{length}
-use Rattle.number.specs.Bytes.{putF64}
+use Rattle.endian.specs.Bytes.{putF64}
 use Rattle.listing.specs.declared.word.Word.the-variants.{Empty, Number}
 use Rattle.listing.specs.declared.names.Names.{Names}
 use Rattle.listing.specs.declared.reader.Reader.{Reader}

@@ -10,7 +10,7 @@ use lib.Dec.{T, T-not, eqb, eqb-refl}
 use lib.ListN.{length, length-append}
 use lib.Ieee.{Float}
 use lib.Ieee.Fits.{and-l, and-r}
-use Rattle.number.specs.Bytes.{f64At, argumentAt}
+use Rattle.endian.specs.Bytes.{f64At, argumentAt}
 use Rattle.listing.specs.declared.reader.Outcome.the-variants.{Arguments, Refused}
 use Rattle.listing.specs.declared.names.Names.{Names}
 use Rattle.listing.specs.Word.{limit, pixels}

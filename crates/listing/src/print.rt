@@ -43,7 +43,7 @@ fn put_line(out: &mut [u8; 124], at: usize, name: u8, x: f64) -> usize
 {
     out[at] = name;
     out[at + 1] = b' ';
-    put_hex(out, at + 2, number::pattern::bits_of_f64(x));
+    put_hex(out, at + 2, endian::pattern::bits_of_f64(x));
     out[at + 18] = b'\n';
     at + 19
 }

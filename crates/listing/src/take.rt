@@ -47,7 +47,7 @@ fn keep(s: Reader, x: f64, arguments: &mut [u8; 2048])
     }
     let names = s.names;
     let at = 32 * (lines - 1) + 8 * names::slot_of(names, s.column);
-    number::bytes::put_f64(arguments, at as usize, x);
+    endian::bytes::put_f64(arguments, at as usize, x);
 }
 
 // A number is taken on every line but the first.

@@ -17,8 +17,8 @@ use Rattle.exact.proofs.Relative.{relative-one, relative-more}
 use Rattle.exact.proofs.Powers.{coordinate-relative, monomial-relative, product-relative}
 use Rattle.number.specs.Power.{one, power}
 use Rattle.matrix.specs.Matrix.{Vector, at}
-use Rattle.fit.specs.Monomials.{push, ofDegree, monomials}
-use Rattle.fit.proofs.LoopLaws.{upTo-both}
+use Rattle.equations.specs.Monomials.{push, ofDegree, monomials}
+use Rattle.equations.proofs.LoopLaws.{upTo-both}
 use Rattle.nearness.specs.ExactPoint.{pushF, ofDegreeF, monomialsF}
 
 pub record Rounded (a : Float) (M : Fraction) : Type 0 where

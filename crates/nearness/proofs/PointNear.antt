@@ -19,16 +19,16 @@ use Rattle.exact.proofs.Linear.{affine-close}
 use Rattle.exact.proofs.Perspective.{perspective-passes, perspective-close}
 use Rattle.exact.proofs.Polynomial.{plus-zero, polynomial-close}
 use Rattle.matrix.specs.Matrix.{Vector, at, nought}
-use Rattle.fit.specs.Monomials.{monomials}
-use Rattle.inverse.specs.declared.point.Point.{Point}
-use Rattle.inverse.specs.Point.{point, none}
+use Rattle.equations.specs.Monomials.{monomials}
+use Rattle.point.specs.declared.point.Point.{Point}
+use Rattle.point.specs.Point.{point, none}
 use Rattle.inverse.specs.Affine.{affine}
 use Rattle.inverse.specs.Perspective.{perspective}
 use Rattle.inverse.specs.Polynomial.{dot, dots, ofU, ofV, polynomial}
 use Rattle.inverse.specs.Inverse.{inverse}
 use Rattle.nearness.specs.ExactPoint.{sumU, sumV, denominator, monomialsF, powerAt, many, polyF, exactPoint}
 use Rattle.nearness.specs.Conditions.{AffineTerms, PerspectiveTerms, PolyTerms, Terms, Meets, Faithful}
-use Rattle.inverse.proofs.UsableLaws.{usable-close}
+use Rattle.point.proofs.UsableLaws.{usable-close}
 use Rattle.inverse.proofs.PolynomialLaws.{monomials-length, terms-few}
 use Rattle.nearness.proofs.MonomialsNear.{Alike, alike-length, alike-at, alike-monomials}
 

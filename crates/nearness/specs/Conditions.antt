@@ -10,7 +10,7 @@ use Rattle.exact.specs.Fraction.{Fraction, frac, value, _≤F_, _*F_, absF}
 use Rattle.exact.specs.Sums.{Linear}
 use Rattle.exact.specs.Warp.{Coordinate}
 use Rattle.matrix.specs.Matrix.{Vector, at}
-use Rattle.inverse.specs.declared.point.Point.{Point}
+use Rattle.point.specs.declared.point.Point.{Point}
 use Rattle.inverse.specs.Polynomial.{ofU, ofV}
 use Rattle.nearness.specs.ExactPoint.{denominator, powerAt, many, exactPoint}
 

@@ -1,7 +1,4 @@
 -- The laws of the number tools, a file for each subject. Other crates cite the `..Laws`.
-pub mod BytesLaws
-pub mod BytesParts
-pub mod FloatBytes
 pub mod FloorCode
 pub mod FloorLaws
 pub mod FloorNear

@@ -1,5 +1,4 @@
 -- The definitions of the number tools, a file for each module of src/.
-pub mod Bytes
 pub mod Floor
 pub mod Magnitude
 pub mod Narrow

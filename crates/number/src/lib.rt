@@ -1,9 +1,7 @@
 // The number tools: what f64 methods, saturating casts and byte conversions are in the Rust. Every later
 // crate reads them. Each function equals its definition in specs/ for every input of its types.
-pub mod bytes;
 pub mod floor;
 pub mod magnitude;
 pub mod narrow;
-pub mod pattern;
 pub mod power;
 pub mod wrapping;

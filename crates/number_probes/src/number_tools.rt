@@ -6,9 +6,9 @@ ghost use Rattle.number.specs.Narrow as Narrow;
 ghost use Rattle.root.specs.Root as Root;
 ghost use Rattle.number.specs.Power.{power};
 ghost use Rattle.number.specs.Wrapping.{wrapped};
-use number::pattern::bits_of_f32;
-use number::pattern::bits_of_f64;
-use number::pattern::f64_of_bits;
+use endian::pattern::bits_of_f32;
+use endian::pattern::bits_of_f64;
+use endian::pattern::f64_of_bits;
 
 // The floor, or the least i64 outside a magnitude of 2^31.
 #[no_mangle]

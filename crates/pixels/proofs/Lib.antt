@@ -2,4 +2,3 @@
 pub mod AtLaws
 pub mod LimitedLaws
 pub mod PixelCode
-pub mod StoreLaws

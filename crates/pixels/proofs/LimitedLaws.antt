@@ -11,7 +11,7 @@ use lib.ListN.{length}
 use lib.Ieee.{Float, binary32, ofBits}
 use Rattle.exact.specs.Loop.{upTo}
 use Rattle.exact.proofs.Loop.{upTo-next, upTo-keep, upTo-join}
-use Rattle.number.specs.Bytes.{u32At, sampleAt}
+use Rattle.endian.specs.Bytes.{u32At, sampleAt}
 use Rattle.number.specs.Magnitude.{within}
 use Rattle.number.proofs.MagnitudeTests.{within-bits}
 use Rattle.pixels.specs.Pixel.{Limited}

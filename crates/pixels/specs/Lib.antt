@@ -2,4 +2,3 @@
 pub mod At
 pub mod Colour
 pub mod Pixel
-pub mod Store

@@ -5,7 +5,7 @@ use mathlib.Core.Bool.{cond}
 use mathlib.Core.List.{List}
 use lib.Dec.{eqb}
 use lib.ListN.{length}
-use Rattle.number.specs.Bytes.{u32At, sampleAt}
+use Rattle.endian.specs.Bytes.{u32At, sampleAt}
 use Rattle.pixels.specs.Colour.{one, grey}
 use Rattle.pixels.specs.declared.colour.Rgba.{Rgba}
 pub use Rattle.policies.specs.Named.{Sizes}

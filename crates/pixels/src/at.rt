@@ -6,7 +6,7 @@ ghost use Rattle.pixels.specs.Pixel.{Picture};
 use crate::colour::Rgba;
 use crate::colour::grey;
 use crate::pixel::pixel;
-use number::pattern::bits_of_i64;
+use endian::pattern::bits_of_i64;
 use policies::named::Tap;
 use policies::named::named;
 

@@ -3,4 +3,3 @@
 pub mod at;
 pub mod colour;
 pub mod pixel;
-pub mod store;

@@ -3,12 +3,12 @@
 ghost use mathlib.Core.Path.{_≡_};
 ghost use Prim.Native.Nat.{_+_, _*_, _≤_, _<_};
 ghost use lib.ListN.{length};
-ghost use Rattle.number.specs.Bytes.{sampleAt};
+ghost use Rattle.endian.specs.Bytes.{sampleAt};
 ghost use Rattle.pixels.specs.Pixel as Pixel;
 ghost use Rattle.pixels.specs.Pixel.{Limited, Inside, pixelAt};
 use crate::colour::Rgba;
 use crate::colour::grey;
-use number::bytes::f32_plain_at;
+use endian::bytes::f32_plain_at;
 
 // The sample numbered k, which is no NaN.
 pub fn sample(picture: &[u8], k: u64) -> f32

@@ -5,11 +5,11 @@ use mathlib.Core.Bool.{Bool, cond}
 use mathlib.Core.List.{List}
 use lib.Dec.{eqb}
 use lib.Ieee.{Float, binary64, ofBits}
-use Rattle.number.specs.Bytes.{putU64, putF64}
-use Rattle.fit.specs.declared.mapping.Fitted.{Fitted}
-use Rattle.fit.specs.declared.mapping.Mapping.{Mapping}
+use Rattle.endian.specs.Bytes.{putU64, putF64}
+use Rattle.mappings.specs.declared.mapping.Fitted.{Fitted}
+use Rattle.mappings.specs.declared.mapping.Mapping.{Mapping}
 use Rattle.inverse.specs.Inverse.{inverse}
-use Rattle.inverse.specs.declared.point.Point.{Point}
+use Rattle.point.specs.declared.point.Point.{Point}
 use Rattle.fit_probes.specs.Sized.{sizedFit}
 
 abbrev pub flag : Bool → ℕ

@@ -7,9 +7,9 @@ use lib.Dec.{eqb}
 use lib.ListN.{length}
 use lib.Ieee.{Float}
 use Rattle.exact.specs.Loop.{upTo}
-use Rattle.number.specs.Bytes.{f64At}
-use Rattle.fit.specs.declared.mapping.Fitted.{Fitted}
-use Rattle.fit.specs.declared.mapping.Mapping.{Mapping}
+use Rattle.endian.specs.Bytes.{f64At}
+use Rattle.mappings.specs.declared.mapping.Fitted.{Fitted}
+use Rattle.mappings.specs.declared.mapping.Mapping.{Mapping}
 use Rattle.inverse.specs.Inverse.{inverse}
 use Rattle.point_probes.specs.Pointed.{putPoint}
 use Rattle.fit_probes.specs.Sized.{sizedFit}

@@ -3,12 +3,12 @@ ghost use mathlib.Core.Path.{_≡_};
 ghost use Prim.Native.Nat.{_+_, _≤_};
 ghost use lib.ListN.{length};
 ghost use Rattle.point_probes.specs.Pointed.{flag, putPoint, probeInverse};
+use endian::bytes::put_f64;
+use endian::bytes::put_u64;
+use endian::pattern::f64_of_bits;
 use fit_probes::sized::sized_fit;
-use inverse::point::Point;
 use inverse::source::inverse;
-use number::bytes::put_f64;
-use number::bytes::put_u64;
-use number::pattern::f64_of_bits;
+use point::point::Point;
 
 fn flag(b: bool) -> u64
     ensures { λ r. ⌜ r ≡ flag b ⌝ }

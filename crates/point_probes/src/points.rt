@@ -5,9 +5,9 @@ ghost use lib.ListN.{length};
 ghost use Rattle.exact.specs.Loop.{upTo};
 ghost use Rattle.point_probes.specs.Points.{wrongLengths, putNext, probePoints};
 use crate::pointed::put_point;
+use endian::bytes::f64_at;
 use fit_probes::sized::sized_fit;
 use inverse::source::inverse;
-use number::bytes::f64_at;
 
 // Points of 16 bytes go in, points of 24 come out, as many.
 fn wrong_lengths(points: usize, out: usize) -> bool

@@ -11,7 +11,7 @@ use mir.Syntax.{w64}
 use mir.Val.{SFits, ofZ, toZ}
 use mir.Facts.{toZ-ofZ}
 use borrow.Author.Tests.{lt-ltb, le-ltb, ltb-false}
-use Rattle.number.specs.Bytes.{twosComplement}
+use Rattle.endian.specs.Bytes.{twosComplement}
 use Rattle.policies.specs.Index.{signed, within}
 
 -- ---- bits and index

@@ -8,7 +8,7 @@ use lib.Dec.{eqb}
 use lib.IntN.{ℤ, pos}
 use lib.Signed.{mag}
 use borrow.Author.Tests.{lt-ltb}
-use Rattle.number.specs.Bytes.{twosComplement}
+use Rattle.endian.specs.Bytes.{twosComplement}
 use Rattle.policies.specs.Index.{within, tile, parity}
 use Rattle.policies.specs.Random.{mix}
 use Rattle.policies.specs.Named.{Policy, Edge, Background, Black, White, Gray, Transparent, Tile, Mirror, HorizontalTile, VerticalTile, HorizontalTileEdge, VerticalTileEdge, CheckerTile, Random, policy, picked, outside, named, Lies}

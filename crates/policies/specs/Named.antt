@@ -7,7 +7,7 @@ use lib.Dec.{eqb}
 use lib.ListN.{getD}
 use lib.IntN.{ℤ}
 use lib.Signed.{mag}
-use Rattle.number.specs.Bytes.{twosComplement}
+use Rattle.endian.specs.Bytes.{twosComplement}
 use Rattle.policies.specs.Index.{within, clamped, tile, mirror, parity}
 use Rattle.policies.specs.Random.{mix}
 use Rattle.policies.specs.declared.named.Tap.{Tap}

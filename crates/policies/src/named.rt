@@ -10,7 +10,7 @@ use crate::index::mirror;
 use crate::index::parity;
 use crate::index::tile;
 use crate::random::mix;
-use number::pattern::bits_of_i64;
+use endian::pattern::bits_of_i64;
 
 // A pixel by its column and row, or a colour by its kind.
 pub enum Tap {

@@ -11,7 +11,7 @@ use lib.Ieee.{binary64, ofBits}
 use borrow.Author.Tests.{eqb-true, eqb-false, ltb-false, not-false}
 use Rattle.number_probes.specs.Size.{wrongSize}
 use Rattle.probes.specs.Sampled.{wrongChannels, wrongPicture, wrongCodes, large, beyond, outside}
-use Rattle.taps.specs.Cell.{reach, Reached}
+use Rattle.cell.specs.Cell.{reach, Reached}
 use Rattle.pixels.specs.Pixel.{Sizes, Picture, Inside}
 use Rattle.pixels.proofs.LimitedLaws.{limited-by}
 use Rattle.number.specs.Magnitude.{within}

@@ -6,13 +6,13 @@ use lib.Dec.{eqb, ltb}
 use lib.ListN.{length}
 use lib.Ieee.{binary32, binary64, ofBits}
 use Rattle.exact.specs.Loop.{upTo}
-use Rattle.number.specs.Bytes.{sampleAt}
+use Rattle.endian.specs.Bytes.{sampleAt}
 use Rattle.number.specs.Magnitude.{within}
 use Rattle.number_probes.specs.Size.{wrongSize}
-use Rattle.taps.specs.Cell.{reach}
+use Rattle.cell.specs.Cell.{reach}
 use Rattle.sampler.specs.Interpolate.{interpolate}
 use Rattle.pixels.specs.Pixel.{pixelAt}
-use Rattle.pixels.specs.Store.{putPixel}
+use Rattle.stored.specs.Store.{putPixel}
 use Rattle.pixels.specs.declared.colour.Rgba.{Rgba}
 
 -- ---- what is outside the domain

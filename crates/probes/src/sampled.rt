@@ -5,16 +5,16 @@ ghost use Prim.Native.Nat.{_+_, _*_, _≤_};
 ghost use lib.ListN.{length};
 ghost use lib.Ieee.{binary64, ofBits};
 ghost use Rattle.probes.specs.Sampled.{wrongChannels, wrongPicture, wrongCodes, large, beyond, outside, putColour, probeInterpolate};
-ghost use Rattle.taps.specs.Cell.{Reached};
+ghost use Rattle.cell.specs.Cell.{Reached};
 ghost use Rattle.pixels.specs.Pixel.{Picture};
-use number::bytes::f32_within;
-use number::pattern::f64_bits_within;
-use number::pattern::f64_of_bits;
+use endian::bytes::f32_within;
+use endian::pattern::f64_bits_within;
+use endian::pattern::f64_of_bits;
 use number_probes::size::wrong_size;
 use pixels::colour::Rgba;
 use pixels::pixel::pixel;
-use pixels::store::put_pixel;
 use sampler::interpolate::interpolate;
+use stored::store::put_pixel;
 
 fn wrong_channels(n: u64) -> bool
     ensures { λ r. ⌜ r ≡ wrongChannels n ⌝ }

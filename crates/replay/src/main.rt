@@ -7,14 +7,14 @@ ghost use mathlib.Core.Path.{_≡_};
 ghost use mathlib.Core.Bool.{_&&_};
 ghost use Prim.Native.Nat.{_≤_};
 ghost use lib.ListN.{take};
-ghost use Rattle.number.specs.Bytes.{twosComplement};
+ghost use Rattle.endian.specs.Bytes.{twosComplement};
 ghost use Rattle.replay.specs.Same as Same;
 use distort::answer::Answer;
 use distort::answer::put_answer;
 use distort::call::distort;
+use endian::bytes::u64_at;
 use libc::STDIN_FILENO;
 use libc::STDOUT_FILENO;
-use number::bytes::u64_at;
 
 // How a job ended; Broken is a file that ends too early or has another form.
 enum Outcome {

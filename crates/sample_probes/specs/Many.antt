@@ -5,7 +5,7 @@ use mathlib.Core.List.{List}
 use lib.Dec.{eqb}
 use lib.ListN.{length}
 use Rattle.exact.specs.Loop.{upTo}
-use Rattle.number.specs.Bytes.{u64At}
+use Rattle.endian.specs.Bytes.{u64At}
 use Rattle.probes.specs.Sampled.{beyond, outside, putColour}
 use Rattle.pixels.specs.Pixel.{pixelAt}
 use Rattle.pixels.specs.declared.colour.Rgba.{Rgba}

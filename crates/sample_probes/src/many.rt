@@ -5,7 +5,7 @@ ghost use lib.ListN.{length};
 ghost use Rattle.exact.specs.Loop.{upTo};
 ghost use Rattle.sample_probes.specs.Many.{putSampled, putSamples, probeSamples};
 ghost use Rattle.pixels.specs.Pixel.{Picture};
-use number::bytes::u64_at;
+use endian::bytes::u64_at;
 use pixels::colour::Rgba;
 use pixels::pixel::pixel;
 use probes::sampled::beyond;

@@ -17,14 +17,14 @@ use Rattle.exact.specs.Fraction.{Fraction, frac, value, _≤F_, _≈_, absF}
 use Rattle.exact.proofs.Near.{le-trans}
 use Rattle.exact.proofs.Products.{le-same}
 use Rattle.exact.proofs.Signed.{le-value}
-use Rattle.number.specs.Bytes.{sampleAt}
+use Rattle.endian.specs.Bytes.{sampleAt}
 use Rattle.number.specs.Magnitude.{abs, within}
 use Rattle.number.proofs.MagnitudeLaws.{abs-limited}
 use Rattle.pixels.specs.At.{at}
 use Rattle.pixels.specs.Colour.{zero, half, one, grey}
 use Rattle.sampler.specs.Finite.{BoundedPicture, FitsBy}
 use Rattle.pixels.specs.Pixel.{Picture, widened, pixelAt}
-use Rattle.taps.specs.Weighted.{Bounded, BoundedBy}
+use Rattle.weighted.specs.Weighted.{Bounded, BoundedBy}
 use Rattle.pixels.specs.declared.colour.Rgba.{Rgba}
 use Rattle.pixels.proofs.AtLaws.{at-keep}
 use Rattle.pixels.proofs.PixelCode.{number-lt}

@@ -13,14 +13,14 @@ use lib.IntN.{ℤ}
 use lib.Signed.{mag}
 use lib.Ieee.{ofBits, fits}
 use Rattle.exact.specs.Weighted.{Unit32}
-use Rattle.number.specs.Bytes.{sampleAt, twosComplement}
+use Rattle.endian.specs.Bytes.{sampleAt, twosComplement}
 use Rattle.pixels.specs.At.{at}
 use Rattle.pixels.specs.Colour.{zero, half, one}
 use Rattle.policies.specs.Index.{within, tile, parity}
 use Rattle.policies.specs.Named.{Policy, Edge, Background, Black, White, Gray, Transparent, Tile, Mirror, HorizontalTile, VerticalTile, HorizontalTileEdge, VerticalTileEdge, CheckerTile, Random, policy, picked, outside, named}
 use Rattle.sampler.specs.Opaque.{OpaquePicture, OpaquePlace}
 use Rattle.pixels.specs.Pixel.{widened, pixelAt}
-use Rattle.taps.specs.Weighted.{Opaque}
+use Rattle.weighted.specs.Weighted.{Opaque}
 use Rattle.pixels.specs.declared.colour.Rgba.{Rgba}
 use Rattle.policies.specs.declared.named.Tap.{Tap}
 use Rattle.policies.specs.declared.named.Tap.the-variants as Tap

@@ -15,19 +15,19 @@ use Rattle.exact.proofs.Weighted.{alpha-one}
 use Rattle.exact.proofs.Warp.{warp-demand}
 use Rattle.number.specs.Floor.{floorI64}
 use Rattle.pixels.specs.At.{at}
-use Rattle.taps.specs.Cell.{Reached, fraction, cell}
+use Rattle.cell.specs.Cell.{Reached, fraction, cell}
 use Rattle.pixels.specs.Colour.{one}
 use Rattle.sampler.specs.Interpolate.{several, interpolate}
-use Rattle.taps.specs.Interpolation.{Bilinear, interpolation}
+use Rattle.cell.specs.Interpolation.{Bilinear, interpolation}
 use Rattle.sampler.specs.Opaque.{OpaquePlace, Exact, UnitExact, NearExact, NearSample}
 use Rattle.taps.specs.Taps.{Plane, tap, taps}
-use Rattle.taps.specs.Weighted.{mean, weighted, Opaque}
+use Rattle.weighted.specs.Weighted.{mean, weighted, Opaque}
 use Rattle.taps.specs.Weights.{corners, weights}
 use Rattle.pixels.specs.declared.colour.Rgba.{Rgba}
 use Rattle.sampler.proofs.AtOpaque.{at-opaque}
-use Rattle.taps.proofs.CellFloor.{cell-law, less-half-reached}
+use Rattle.cell.proofs.CellFloor.{cell-law, less-half-reached}
 use Rattle.taps.proofs.TapsLaws.{four-corners}
-use Rattle.taps.proofs.WeightedOpaque.{four, summed-four, opaque-four}
+use Rattle.weighted.proofs.WeightedOpaque.{four, summed-four, opaque-four}
 
 -- ---- the four taps by name
 module _ (plane : Plane) (x y : Float) where

@@ -4,10 +4,10 @@ use Prim.Native.Nat.{ℕ, zero, suc, _≤_, _<_}
 use native.Mathlib.Omega.{arith}
 use lib.Ieee.{Float}
 use Rattle.pixels.specs.declared.colour.Rgba.{Rgba}
-use Rattle.taps.specs.Cell.{cell}
-use Rattle.taps.specs.Interpolation.{interpolation}
+use Rattle.cell.specs.Cell.{cell}
+use Rattle.cell.specs.Interpolation.{interpolation}
 use Rattle.taps.specs.Taps.{Plane}
-use Rattle.taps.proofs.InterpolationCode.{each-code}
+use Rattle.cell.proofs.InterpolationCode.{each-code}
 use Rattle.sampler.specs.Interpolate.{single, several, interpolated}
 
 module _ (plane : Plane) (background : Rgba) (x y : Float) where

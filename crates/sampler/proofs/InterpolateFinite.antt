@@ -18,24 +18,24 @@ use Rattle.exact.specs.Single.{_⊗_, _⊘_}
 use Rattle.exact.specs.Weighted.{Unit32}
 use Rattle.number.specs.Magnitude.{abs}
 use Rattle.pixels.specs.At.{at}
-use Rattle.taps.specs.Cell.{Cell, Reached, fraction, cell}
+use Rattle.cell.specs.Cell.{Cell, Reached, fraction, cell}
 use Rattle.pixels.specs.Colour as Colour
 use Rattle.cubic.specs.Cubic.{catrom, spline}
 use Rattle.sampler.specs.Finite.{BoundedPicture, FitsBy}
 use Rattle.sampler.specs.Interpolate.{several, interpolated, interpolate}
-use Rattle.taps.specs.Interpolation.{Interpolation, Integer, Nearest, Average, Average9, Average16, Bilinear, Catrom, Spline, Background, interpolation}
+use Rattle.cell.specs.Interpolation.{Interpolation, Integer, Nearest, Average, Average9, Average16, Bilinear, Catrom, Spline, Background, interpolation}
 use Rattle.pixels.specs.Pixel.{Picture}
 use Rattle.taps.specs.Taps.{Plane, side, count, sixteen, tap, taps}
-use Rattle.taps.specs.Weighted.{least, quotient, mean, tapAt, weightAt, summed, weighted, Bounded, BoundedBy}
+use Rattle.weighted.specs.Weighted.{least, quotient, mean, tapAt, weightAt, summed, weighted, Bounded, BoundedBy}
 use Rattle.taps.specs.Weights.{corners, products, alike, weights}
 use Rattle.pixels.specs.declared.colour.Rgba.{Rgba}
-use Rattle.taps.specs.declared.weighted.Sums.{Sums}
+use Rattle.weighted.specs.declared.weighted.Sums.{Sums}
 use Rattle.sampler.proofs.AtFinite.{bounded-more, at-bounded, at-fits}
-use Rattle.taps.proofs.CellFloor.{cell-law}
+use Rattle.cell.proofs.CellFloor.{cell-law}
 use Rattle.cubic.proofs.CubicBounds.{BoundedEach, catrom-bounded, spline-bounded, product-bounded}
 use Rattle.taps.proofs.TapsLaws.{sixteen-at, tap-at, side-small, square-small}
-use Rattle.taps.proofs.WeightedFinite.{most, weighted-bounded}
-use Rattle.taps.proofs.WeightedWeights.{one-bounded, bilinear-bounded}
+use Rattle.weighted.proofs.WeightedFinite.{most, weighted-bounded}
+use Rattle.weighted.proofs.WeightedWeights.{one-bounded, bilinear-bounded}
 
 -- ---- the weights
 abbrev Small : Float → Type 0

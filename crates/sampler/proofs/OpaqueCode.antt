@@ -14,10 +14,10 @@ use Rattle.pixels.specs.Pixel.{Picture, widened, pixelAt}
 use Rattle.pixels.specs.declared.colour.Rgba.{Rgba}
 use Rattle.pixels.proofs.AtLaws.{at-inside}
 use Rattle.pixels.proofs.PixelCode.{room, number-small}
-use Rattle.taps.specs.Cell.{cell, first, fraction}
-use Rattle.taps.specs.Interpolation.{interpolation, Bilinear}
+use Rattle.cell.specs.Cell.{cell, first, fraction}
+use Rattle.cell.specs.Interpolation.{interpolation, Bilinear}
 use Rattle.taps.specs.Taps.{taps}
-use Rattle.taps.specs.Weighted.{weighted}
+use Rattle.weighted.specs.Weighted.{weighted}
 use Rattle.taps.specs.Weights.{corners, weights}
 use Rattle.taps.proofs.TapsLaws.{inside-corners}
 use Rattle.sampler.specs.Interpolate.{interpolate}

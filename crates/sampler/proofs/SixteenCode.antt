@@ -17,13 +17,13 @@ use Rattle.pixels.specs.At.{at}
 use Rattle.pixels.specs.Pixel.{Picture, widened, pixelAt}
 use Rattle.pixels.specs.declared.colour.Rgba.{Rgba}
 use Rattle.pixels.proofs.AtLaws.{at-inside}
-use Rattle.taps.specs.Cell.{Cell, fraction}
-use Rattle.taps.specs.Interpolation.{interpolation}
+use Rattle.cell.specs.Cell.{Cell, fraction}
+use Rattle.cell.specs.Interpolation.{interpolation}
 use Rattle.taps.specs.Taps.{Plane, taps}
-use Rattle.taps.specs.Weighted.{added, weightAt, lined, weighted}
+use Rattle.weighted.specs.Weighted.{added, weightAt, lined, weighted}
 use Rattle.taps.specs.Weights.{products}
-use Rattle.taps.specs.declared.weighted.Sums.{Sums}
-use Rattle.taps.proofs.InterpolationCode.{each-code}
+use Rattle.weighted.specs.declared.weighted.Sums.{Sums}
+use Rattle.cell.proofs.InterpolationCode.{each-code}
 use Rattle.taps.proofs.TapsLaws.{sixteen-at, number-small, step, started, grown, row-done}
 use Rattle.sampler.specs.Interpolate.{several, interpolated, interpolate}
 use Rattle.sampler.specs.Sixteen.{kernel, own}

@@ -4,9 +4,9 @@ use mathlib.Core.List.{List}
 use lib.Dec.{T}
 use lib.Ieee.{binary32, fits}
 use Rattle.exact.specs.Fraction.{frac}
-use Rattle.number.specs.Bytes.{sampleAt}
+use Rattle.endian.specs.Bytes.{sampleAt}
 use Rattle.pixels.specs.Pixel.{Picture}
-use Rattle.taps.specs.Weighted.{Bounded, BoundedBy}
+use Rattle.weighted.specs.Weighted.{Bounded, BoundedBy}
 use Rattle.pixels.specs.declared.colour.Rgba.{Rgba}
 
 pub record BoundedPicture (bytes : List ℕ) (width height channels : ℕ) : Type 0 where

@@ -4,10 +4,10 @@ use Prim.Native.Nat.{ℕ}
 use mathlib.Core.List.{List}
 use lib.Ieee.{Float}
 use Rattle.pixels.specs.At.{at}
-use Rattle.taps.specs.Cell.{Cell, cell, fraction}
-use Rattle.taps.specs.Interpolation.{Interpolation, Integer, Nearest, Average, Average9, Average16, Bilinear, Catrom, Spline, Background, interpolation}
+use Rattle.cell.specs.Cell.{Cell, cell, fraction}
+use Rattle.cell.specs.Interpolation.{Interpolation, Integer, Nearest, Average, Average9, Average16, Bilinear, Catrom, Spline, Background, interpolation}
 use Rattle.taps.specs.Taps.{Plane, side, count, taps}
-use Rattle.taps.specs.Weighted.{weighted}
+use Rattle.weighted.specs.Weighted.{weighted}
 use Rattle.taps.specs.Weights.{weights}
 use Rattle.pixels.specs.declared.colour.Rgba.{Rgba}
 

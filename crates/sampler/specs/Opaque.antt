@@ -8,12 +8,12 @@ use lib.IntN.{ℤ}
 use Rattle.exact.specs.Fraction.{Fraction, Unit01}
 use Rattle.exact.specs.Warp.{exactSample}
 use Rattle.exact.specs.Weighted.{Unit32, Sample}
-use Rattle.number.specs.Bytes.{sampleAt}
+use Rattle.endian.specs.Bytes.{sampleAt}
 use Rattle.pixels.specs.Colour.{one}
 use Rattle.policies.specs.Named.{Transparent, policy}
 use Rattle.pixels.specs.Pixel.{Picture}
 use Rattle.taps.specs.Taps.{Plane}
-use Rattle.taps.specs.Weighted.{Opaque}
+use Rattle.weighted.specs.Weighted.{Opaque}
 use Rattle.pixels.specs.declared.colour.Rgba.{Rgba}
 
 -- three channels, or four with every alpha 1

@@ -3,8 +3,8 @@ use Prim.Native.Nat.{ℕ, _+_}
 use mathlib.Core.List.{List}
 use lib.Ieee.{Float}
 use Rattle.pixels.specs.Pixel.{pixelAt}
-use Rattle.taps.specs.Weighted.{nothing, added}
-use Rattle.taps.specs.declared.weighted.Sums.{Sums}
+use Rattle.weighted.specs.Weighted.{nothing, added}
+use Rattle.weighted.specs.declared.weighted.Sums.{Sums}
 
 unfoldable pub squareSums : List ℕ → ℕ → ℕ → ℕ → Float → Float → Float → Float → Sums
 squareSums bytes width i j a b c d =

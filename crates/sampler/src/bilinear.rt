@@ -5,22 +5,22 @@ ghost use mathlib.Core.List.{[], _∷_};
 ghost use Prim.Native.Nat.{_+_, _≤_, _<_};
 ghost use lib.Signed.{mag};
 ghost use Rattle.pixels.specs.At.{at};
-ghost use Rattle.taps.specs.Cell.{Reached};
+ghost use Rattle.cell.specs.Cell.{Reached};
 ghost use Rattle.sampler.specs.Interpolate as Interpolate;
-ghost use Rattle.taps.specs.Interpolation.{Bilinear};
+ghost use Rattle.cell.specs.Interpolation.{Bilinear};
 ghost use Rattle.pixels.specs.Pixel.{Picture, pixelAt};
 ghost use Rattle.taps.specs.Taps.{taps};
-ghost use Rattle.taps.specs.Weighted.{weighted};
+ghost use Rattle.weighted.specs.Weighted.{weighted};
 ghost use Rattle.taps.specs.Weights.{corners, weights};
-use number::pattern::bits_of_i64;
+use cell::cell::below;
+use cell::cell::fraction;
+use endian::pattern::bits_of_i64;
 use pixels::colour::Rgba;
 use pixels::pixel::pixel;
-use taps::cell::below;
-use taps::cell::fraction;
 use taps::taps::tap;
-use taps::weighted::added;
-use taps::weighted::mean;
-use taps::weighted::nothing;
+use weighted::weighted::added;
+use weighted::weighted::mean;
+use weighted::weighted::nothing;
 
 // The weighted mean of the four taps of `Bilinear`.
 fn blended(a: Rgba, b: Rgba, c: Rgba, d: Rgba, tx: f32, ty: f32) -> Rgba

@@ -6,26 +6,26 @@ ghost use lib.IntN.{pos};
 ghost use lib.ListN.{length};
 ghost use Rattle.exact.specs.Single.{_⊗_};
 ghost use Rattle.pixels.specs.Pixel.{Limited, Picture, widened};
-ghost use Rattle.taps.specs.Cell.{Reached};
+ghost use Rattle.cell.specs.Cell.{Reached};
 ghost use Rattle.taps.specs.Taps.{taps};
-ghost use Rattle.taps.specs.Weighted.{weightAt, weighted};
-ghost use Rattle.taps.specs.Weighted as Weighted;
+ghost use Rattle.weighted.specs.Weighted.{weightAt, weighted};
+ghost use Rattle.weighted.specs.Weighted as Weighted;
 ghost use Rattle.taps.specs.Weights.{products};
 ghost use Rattle.sampler.specs.Interpolate as Interpolate;
 ghost use Rattle.sampler.specs.Sixteen.{kernel, own};
 use crate::opaque::rgb;
 use crate::square::several;
+use cell::cell::before;
+use cell::cell::below;
+use cell::cell::fraction;
 use cubic::cubic::catrom;
 use cubic::cubic::spline;
-use number::pattern::bits_of_i64;
+use endian::pattern::bits_of_i64;
 use pixels::colour::Rgba;
-use taps::cell::before;
-use taps::cell::below;
-use taps::cell::fraction;
-use taps::weighted::Sums;
-use taps::weighted::added;
-use taps::weighted::mean;
-use taps::weighted::nothing;
+use weighted::weighted::Sums;
+use weighted::weighted::added;
+use weighted::weighted::mean;
+use weighted::weighted::nothing;
 
 // The sums with a row of four taps added, whose samples are numbered from k on.
 fn line3(picture: &[u8], k: u64, wx: &[f32; 4], v: f32, s: Sums) -> Sums

@@ -4,22 +4,22 @@ ghost use mathlib.Core.Path.{_≡_};
 ghost use Prim.Native.Nat.{_*_, _≤_, _<_};
 ghost use lib.Signed.{mag};
 ghost use Rattle.pixels.specs.At.{at};
-ghost use Rattle.taps.specs.Cell.{Reached};
+ghost use Rattle.cell.specs.Cell.{Reached};
 ghost use Rattle.sampler.specs.Interpolate as Interpolate;
-ghost use Rattle.taps.specs.Interpolation.{interpolation};
+ghost use Rattle.cell.specs.Interpolation.{interpolation};
 ghost use Rattle.pixels.specs.Pixel.{Picture};
 ghost use Rattle.taps.specs.Taps.{taps};
-ghost use Rattle.taps.specs.Weighted.{lined, weighted};
+ghost use Rattle.weighted.specs.Weighted.{lined, weighted};
+use cell::cell::first;
+use cell::cell::fraction;
 use pixels::colour::Rgba;
-use taps::cell::first;
-use taps::cell::fraction;
 use taps::taps::nearby;
 use taps::taps::side;
-use taps::weighted::Sums;
-use taps::weighted::added;
-use taps::weighted::mean;
-use taps::weighted::nothing;
 use taps::weights::weights;
+use weighted::weighted::Sums;
+use weighted::weighted::added;
+use weighted::weighted::mean;
+use weighted::weighted::nothing;
 
 // The sums with a row of taps added, the row numbered j of n by n.
 fn line(

@@ -14,17 +14,17 @@ use lib.Ieee.{Float, nan}
 use Rattle.exact.specs.Loop.{upTo}
 use Rattle.exact.proofs.Loop.{upTo-none, upTo-next, upTo-join}
 use Rattle.pixels.specs.At.{at}
-use Rattle.taps.specs.Cell.{Cell}
+use Rattle.cell.specs.Cell.{Cell}
 use Rattle.pixels.specs.Colour.{grey}
-use Rattle.taps.specs.Interpolation.{Interpolation, Integer, Nearest, Average, Average9, Average16, Bilinear, Catrom, Spline, Background}
+use Rattle.cell.specs.Interpolation.{Interpolation, Integer, Nearest, Average, Average9, Average16, Bilinear, Catrom, Spline, Background}
 use Rattle.pixels.specs.Pixel.{pixelAt}
 use Rattle.taps.specs.Taps.{Plane, side, sixteen, tap, taps}
-use Rattle.taps.specs.Weighted.{nothing, added, mean, tapAt, weightAt, summed, lined, weighted}
+use Rattle.weighted.specs.Weighted.{nothing, added, mean, tapAt, weightAt, summed, lined, weighted}
 use Rattle.taps.specs.Weights.{corners, weights}
 use Rattle.pixels.specs.declared.colour.Rgba.{Rgba}
-use Rattle.taps.specs.declared.weighted.Sums.{Sums}
+use Rattle.weighted.specs.declared.weighted.Sums.{Sums}
 use Rattle.pixels.proofs.AtLaws.{at-inside}
-use Rattle.taps.proofs.WeightedOpaque.{summed-four}
+use Rattle.weighted.proofs.WeightedOpaque.{summed-four}
 
 pub sixteen-at : {A : Type 0} (f : ℕ → A) (d : A) (k : ℕ) → k < 16 → getD (sixteen f) k d ≡ f k
 sixteen-at f d zero h = refl

@@ -3,8 +3,8 @@
 use Prim.Native.Nat.{ℕ, _*_, _/_, _%_}
 use mathlib.Core.List.{List, [], _∷_}
 use lib.IntN.{ℤ, pos, _+ℤ_}
-use Rattle.taps.specs.Cell.{Cell}
-use Rattle.taps.specs.Interpolation.{Interpolation, Integer, Nearest, Average, Average9, Average16, Bilinear, Catrom, Spline, Background}
+use Rattle.cell.specs.Cell.{Cell}
+use Rattle.cell.specs.Interpolation.{Interpolation, Integer, Nearest, Average, Average9, Average16, Bilinear, Catrom, Spline, Background}
 use Rattle.pixels.specs.declared.colour.Rgba.{Rgba}
 
 abbrev pub Plane : Type 0

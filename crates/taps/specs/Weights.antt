@@ -7,9 +7,9 @@ use Rattle.exact.specs.Single.{_⊗_}
 use Rattle.exact.specs.Weighted.{w00, w10, w01, w11}
 use Rattle.pixels.specs.Colour.{zero, one}
 use Rattle.cubic.specs.Cubic.{catrom, spline}
-use Rattle.taps.specs.Interpolation.{Interpolation, Integer, Nearest, Average, Average9, Average16, Bilinear, Catrom, Spline, Background}
+use Rattle.cell.specs.Interpolation.{Interpolation, Integer, Nearest, Average, Average9, Average16, Bilinear, Catrom, Spline, Background}
 use Rattle.taps.specs.Taps.{sixteen}
-use Rattle.taps.specs.Weighted.{weightAt}
+use Rattle.weighted.specs.Weighted.{weightAt}
 
 -- of the four taps of `Bilinear`
 abbrev pub corners : Float → Float → List Float

@@ -1,6 +1,6 @@
 // The weights of an interpolation's taps, in the taps' order. Assumes nothing.
 ghost use mathlib.Core.Path.{_≡_};
-ghost use Rattle.taps.specs.Interpolation.{Bilinear, interpolation};
+ghost use Rattle.cell.specs.Interpolation.{Bilinear, interpolation};
 ghost use Rattle.taps.specs.Weights.{products, weights};
 use cubic::cubic::catrom;
 use cubic::cubic::spline;

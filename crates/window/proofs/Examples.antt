@@ -9,7 +9,7 @@ use Rattle.number.specs.Floor.{floorℤ}
 use Rattle.number.specs.Magnitude.{abs, fmin, fmax}
 use Rattle.number.specs.Power.{one}
 use Rattle.matrix.specs.Invert.{invertAffine}
-use Rattle.fit.specs.Mapping.{affineKind}
+use Rattle.mappings.specs.Mapping.{affineKind}
 use Rattle.matrix.specs.Matrix.{Vector, nought}
 use Rattle.window.specs.declared.window.Placed.the-variants.{Window, Refused}
 use Rattle.bestfit.specs.Bestfit.{affineFound, bestfit}

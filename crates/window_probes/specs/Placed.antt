@@ -5,9 +5,9 @@ use mathlib.Core.Bool.{Bool, cond, not}
 use mathlib.Core.List.{List}
 use lib.Dec.{eqb}
 use lib.IntN.{ℤ}
-use Rattle.number.specs.Bytes.{putU64, putI64}
-use Rattle.fit.specs.declared.mapping.Fitted.{Fitted}
-use Rattle.fit.specs.declared.mapping.Mapping.{Mapping}
+use Rattle.endian.specs.Bytes.{putU64, putI64}
+use Rattle.mappings.specs.declared.mapping.Fitted.{Fitted}
+use Rattle.mappings.specs.declared.mapping.Mapping.{Mapping}
 use Rattle.window.specs.Window.{window}
 use Rattle.window.specs.declared.window.Placed.{Placed}
 use Rattle.window.specs.declared.window.Placed.the-variants.{Window, Refused}

@@ -3,9 +3,9 @@ ghost use mathlib.Core.Path.{_≡_};
 ghost use Prim.Native.Nat.{_≤_};
 ghost use lib.ListN.{length};
 ghost use Rattle.window_probes.specs.Placed.{yes, putPlaced, probeWindow};
+use endian::bytes::put_i64;
+use endian::bytes::put_u64;
 use fit_probes::sized::sized_fit;
-use number::bytes::put_i64;
-use number::bytes::put_u64;
 use window::window::Placed;
 use window::window::window;
 

@@ -3,7 +3,7 @@ use Prim.Native.Nat.{ℕ}
 use mathlib.Core.Path.{_≡_}
 use mathlib.Core.List.{List}
 use borrow.Author.Needs.{needs}
-use Rattle.number.specs.Bytes.{putNumber}
+use Rattle.endian.specs.Bytes.{putNumber}
 use Rattle.distort.specs.Call.{answer, numberOf, putAnswer}
 use Rattle.distort.specs.Job.{Call}
 use Rattle.distort.specs.declared.answer.Answer.{Answer}

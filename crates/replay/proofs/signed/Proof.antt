@@ -7,7 +7,7 @@ use mir.Syntax.{w64}
 use mir.Val.{SFits, ofZ, toZ}
 use mir.Facts.{toZ-ofZ}
 use borrow.Author.Needs.{needs}
-use Rattle.number.specs.Bytes.{twosComplement}
+use Rattle.endian.specs.Bytes.{twosComplement}
 use Rattle.replay.proofs.signed.Statement.{statement}
 use Rattle.replay.proofs.signed.Tie as tie
 

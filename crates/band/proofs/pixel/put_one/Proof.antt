@@ -1,7 +1,7 @@
 -- `band::pixel::put_one` meets its contract: one call after the other, and the mark of the source point is its test. Assumes nothing.
 use mathlib.Core.Path.{_∙_, subst⁻¹}
 use borrow.Author.Needs.{needs}
-use Rattle.inverse.proofs.MarkLaws.{Marked}
+use Rattle.points.proofs.MarkLaws.{Marked}
 use Rattle.band.proofs.pixel.put_one.Statement.{statement}
 use Rattle.band.proofs.pixel.put_one.Tie as tie
 

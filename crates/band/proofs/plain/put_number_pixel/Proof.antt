@@ -1,6 +1,6 @@
 -- `band::plain::put_number_pixel` meets its contract: three samples, as of three channels. Assumes nothing.
 use borrow.Author.Needs.{needs}
-use Rattle.pixels.specs.Store.{narrowed, putPixel}
+use Rattle.stored.specs.Store.{narrowed, putPixel}
 use Rattle.band.proofs.plain.put_number_pixel.Statement.{statement}
 use Rattle.band.proofs.plain.put_number_pixel.Tie as tie
 

@@ -6,7 +6,7 @@ use native.Mathlib.Nat.{le-antisymm}
 use native.Mathlib.Omega.{arith}
 use borrow.Author.Needs.{needs}
 use lib.ListN.{getD}
-use Rattle.band.specs.Kernels.{fourth, squared}
+use Rattle.band.specs.Kernels.{ofFour, squared}
 use Rattle.band.proofs.PixelLaws.{channels-pos}
 use Rattle.band.proofs.RowLaws.{RowHolds, row-start, row-room, row-next, row-done, row-same, place-small}
 use Rattle.band.proofs.sixteen.put_squares.Statement.{statement}
@@ -14,7 +14,7 @@ use Rattle.band.proofs.sixteen.put_squares.Tie as tie
 
 abbrev Inv-loop : tie.InvT-loop
 Inv-loop picture width height columns rows x0 x1 x2 x3 y0 y1 y2 y3 n place band₀ k₀ band k =
-    RowHolds 3 n place (λ (i : ℕ). squared picture width (getD columns i 0) (getD rows i 0) (fourth x0 x1 x2 x3 i) (fourth y0 y1 y2 y3 i)) (λ (i : ℕ). 0) band₀ band 0 k
+    RowHolds 3 n place (λ (i : ℕ). squared picture width (getD columns i 0) (getD rows i 0) (ofFour x0 x1 x2 x3 i) (ofFour y0 y1 y2 y3 i)) (λ (i : ℕ). 0) band₀ band 0 k
 
 abbrev μ-loop : tie.MeasureT-loop
 μ-loop picture width height columns rows x0 x1 x2 x3 y0 y1 y2 y3 n place band₀ k₀ band k = n - k

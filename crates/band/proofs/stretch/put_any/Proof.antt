@@ -6,7 +6,7 @@ use native.Mathlib.Nat.{le-antisymm}
 use native.Mathlib.Omega.{arith}
 use borrow.Author.Needs.{needs}
 use Rattle.matrix.specs.Matrix.{at}
-use Rattle.inverse.specs.Point.{usable}
+use Rattle.point.specs.Point.{usable}
 use Rattle.band.specs.Band.{Source, keptColour, keptMatte}
 use Rattle.band.proofs.PixelLaws.{channels-pos}
 use Rattle.band.proofs.RowLaws.{RowHolds, row-start, row-room, row-one, row-next, row-done, row-same, bit-most, place-small}

@@ -2,7 +2,7 @@
 use mathlib.Core.Path.{_≡_, sym, ap, _∙_}
 use mathlib.Core.Bool.{Bool, true}
 use borrow.Author.Needs.{needs}
-use Rattle.inverse.specs.declared.point.Point.{Point}
+use Rattle.point.specs.declared.point.Point.{Point}
 use Rattle.band.specs.Band.{shown}
 use Rattle.band.proofs.ReachLaws.{both-reached}
 use Rattle.band.proofs.three.put_bilinear_one.Statement.{statement}

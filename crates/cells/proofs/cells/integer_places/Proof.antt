@@ -1,5 +1,5 @@
 -- `cells::cells::integer_places` meets its contract. The loop's invariant: the first k places are filled in, if the answer is still true, and it is where each coordinate passed. Assumes nothing.
-use Rattle.taps.specs.Interpolation.{Integer}
+use Rattle.cell.specs.Interpolation.{Integer}
 use Rattle.cells.proofs.PlacesLaws.{integer, Placing, place-none, place-more, place-last}
 use Rattle.cells.specs.Inner.{inner}
 use Rattle.cells.proofs.TestLaws.{Passing, pass-none, pass-more, pass-last}

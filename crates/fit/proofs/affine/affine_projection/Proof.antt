@@ -5,7 +5,7 @@ use Rattle.matrix.proofs.InvertLaws.{affine-length}
 use Rattle.fit.specs.Affine.{affineProjection}
 use Rattle.fit.proofs.FitLaws.{none-8, some-8}
 use borrow.Author.Tests.{not-true, not-false}
-use Rattle.fit.specs.Mapping.{fitted}
+use Rattle.mappings.specs.Mapping.{fitted}
 use mathlib.Core.Path.{_≡_, ap, _∙_}
 use Prim.Native.Nat.{_-_}
 use borrow.Author.Needs.{needs}

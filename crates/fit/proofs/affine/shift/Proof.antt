@@ -1,6 +1,6 @@
 -- `fit::affine::shift` meets its contract: the array is the definition's list. Assumes nothing.
 use Rattle.fit.specs.Affine.{shifted, shift}
-use Rattle.fit.specs.Mapping.{affineKind, mapping, fitted}
+use Rattle.mappings.specs.Mapping.{affineKind, mapping, fitted}
 use mathlib.Core.Path.{ap, _∙_}
 use Prim.Native.Nat.{_-_}
 use borrow.Author.Needs.{needs}

@@ -4,7 +4,7 @@ use Rattle.fit.proofs.FitLaws.{affine-terms}
 use Rattle.fit.specs.Affine.{similarity}
 use Rattle.fit.proofs.FitLaws.{none-8, some-8}
 use borrow.Author.Tests.{not-true, not-false}
-use Rattle.fit.specs.Mapping.{fitted}
+use Rattle.mappings.specs.Mapping.{fitted}
 use mathlib.Core.Path.{ap, _∙_}
 use Prim.Native.Nat.{_-_}
 use borrow.Author.Needs.{needs}

@@ -1,6 +1,6 @@
 -- `fit::barrel::barrel` meets its contract: by what the calls ensure. Assumes nothing.
 use Rattle.fit.specs.Barrel.{barrel}
-use Rattle.fit.specs.Mapping.{fitted}
+use Rattle.mappings.specs.Mapping.{fitted}
 use mathlib.Core.Path.{ap, _∙_}
 use Prim.Native.Nat.{_-_}
 use borrow.Author.Needs.{needs}

@@ -1,7 +1,7 @@
 -- `fit::lstsq::fit_both` meets its contract: each way out is the case of the two solutions that were or were not found.
 -- Assumes nothing.
 use borrow.Author.Tests.{not-true, not-false}
-use Rattle.fit.specs.Mapping.{fitted}
+use Rattle.mappings.specs.Mapping.{fitted}
 use Rattle.fit.proofs.FitLaws.{both-first, both-second, both-found}
 use mathlib.Core.Path.{ap, _∙_}
 use Prim.Native.Nat.{_-_}

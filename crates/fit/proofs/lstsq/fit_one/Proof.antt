@@ -1,7 +1,7 @@
 -- `fit::lstsq::fit_one` meets its contract. The loop's invariant: the equations are the definition's after j rows. Assumes nothing.
 use Rattle.fit.proofs.FitLaws.{row-added}
 use Rattle.solve.proofs.NormalLaws.{normal-none, normal-last, normal-solved}
-use Rattle.fit.specs.Rows.{rowOf, sideOf}
+use Rattle.equations.specs.Rows.{rowOf, sideOf}
 use Rattle.fit.specs.Fit.{rowsOf, sidesOf}
 use Rattle.solve.specs.Normal.{normal}
 use mathlib.Core.Path.{_≡_, ap, _∙_}

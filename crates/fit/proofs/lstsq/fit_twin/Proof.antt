@@ -2,7 +2,7 @@
 -- j pairs. Assumes nothing.
 use Rattle.fit.proofs.FitLaws.{two-added}
 use Rattle.solve.proofs.NormalLaws.{normal-none, normal-last, normal-solved}
-use Rattle.fit.specs.Rows.{firstRow, secondRow}
+use Rattle.equations.specs.Rows.{firstRow, secondRow}
 use Rattle.fit.specs.Fit.{firstRows, secondRows, allU, allV}
 use Rattle.solve.specs.Normal.{normal, inTurn}
 use mathlib.Core.Path.{_≡_, ap, _∙_}

@@ -3,7 +3,7 @@
 use Rattle.fit.specs.Perspective.{perspectiveProjection}
 use Rattle.fit.proofs.FitLaws.{none-8, some-8}
 use borrow.Author.Tests.{not-true, not-false}
-use Rattle.fit.specs.Mapping.{perspectiveKind, mapping, fitted}
+use Rattle.mappings.specs.Mapping.{perspectiveKind, mapping, fitted}
 use mathlib.Core.Path.{ap, _∙_}
 use Prim.Native.Nat.{_-_}
 use borrow.Author.Needs.{needs}

@@ -5,7 +5,7 @@ use Prim.Native.Nat.{_-_, _≤_}
 use borrow.Author.Needs.{needs}
 use Rattle.exact.specs.Loop.{upTo}
 use Rattle.exact.proofs.Loop.{upTo-none}
-use Rattle.inverse.specs.Course.{on}
+use Rattle.point.specs.Course.{on}
 use Rattle.inverse.specs.Shepards.{pairTurn, zeroSums}
 use Rattle.inverse.proofs.ShepardsLaws.{pair-adds, pair-leaves, pairs-end}
 use Rattle.inverse.proofs.shepards.of_pairs.Statement.{statement}

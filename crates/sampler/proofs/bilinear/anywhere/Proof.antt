@@ -1,6 +1,6 @@
 -- `sampler::bilinear::anywhere` meets its contract: the four taps are those of the list. Assumes nothing.
 use mir.Facts.{toZ-ofZ}
-use Rattle.taps.proofs.SignedCode.{small}
+use Rattle.cell.proofs.SignedCode.{small}
 use Rattle.taps.proofs.TapsLaws.{four-corners}
 use borrow.Author.Needs.{needs}
 use Rattle.sampler.proofs.bilinear.anywhere.Statement.{statement}

@@ -5,7 +5,7 @@ use mir.Facts.{toZ-ofZ}
 use borrow.Author.Tests.{ltb-true}
 use Prim.Native.Nat.{ℕ, _+_, _-_, _<_}
 use Rattle.policies.proofs.IndexCode.{argument, bits-before}
-use Rattle.taps.proofs.SignedCode.{small}
+use Rattle.cell.proofs.SignedCode.{small}
 use Rattle.taps.proofs.TapsLaws.{inside-corners}
 use borrow.Author.Needs.{needs}
 use Rattle.sampler.proofs.bilinear.around.Statement.{statement}

@@ -1,8 +1,8 @@
 -- `sampler::bilinear::bilinear` meets its contract: the cell and the fractions of the point. Assumes nothing.
 use mathlib.Core.Path.{_∙_}
-use Rattle.taps.specs.Interpolation.{Bilinear}
-use Rattle.taps.proofs.CellLaws.{first-small}
-use Rattle.taps.proofs.SignedCode.{again, asked}
+use Rattle.cell.specs.Interpolation.{Bilinear}
+use Rattle.cell.proofs.CellLaws.{first-small}
+use Rattle.cell.proofs.SignedCode.{again, asked}
 use borrow.Author.Needs.{needs}
 use Rattle.sampler.proofs.bilinear.bilinear.Statement.{statement}
 use Rattle.sampler.proofs.bilinear.bilinear.Tie as tie

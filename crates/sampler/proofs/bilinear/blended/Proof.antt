@@ -1,9 +1,9 @@
 -- `sampler::bilinear::blended` meets its contract: a loop over four taps is the sums written out. Assumes nothing.
 use mathlib.Core.Path.{sym, ap, _∙_}
 use mathlib.Core.List.{[], _∷_}
-use Rattle.taps.specs.Weighted.{mean, weighted}
+use Rattle.weighted.specs.Weighted.{mean, weighted}
 use Rattle.taps.specs.Weights.{corners}
-use Rattle.taps.proofs.WeightedOpaque.{summed-four}
+use Rattle.weighted.proofs.WeightedOpaque.{summed-four}
 use borrow.Author.Needs.{needs}
 use Rattle.sampler.proofs.bilinear.blended.Statement.{statement}
 use Rattle.sampler.proofs.bilinear.blended.Tie as tie

@@ -2,8 +2,8 @@
 use mathlib.Core.Path.{_≡_, sym, _∙_}
 use Prim.Native.Nat.{ℕ, _≤_, _<_}
 use native.Mathlib.Omega.{arith}
-use Rattle.taps.specs.Interpolation.{interpolation}
-use Rattle.taps.proofs.InterpolationCode.{background-code}
+use Rattle.cell.specs.Interpolation.{interpolation}
+use Rattle.cell.proofs.InterpolationCode.{background-code}
 use Rattle.sampler.specs.Interpolate.{interpolate}
 use Rattle.sampler.proofs.InterpolateCode.{single-code, several-code}
 use mathlib.Core.Path.{_≡_, refl, sym, ap, _∙_}

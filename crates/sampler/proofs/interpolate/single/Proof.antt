@@ -1,6 +1,6 @@
 -- `sampler::interpolate::single` meets its contract: the tap at the cell itself. Assumes nothing.
 use mathlib.Core.Path.{_∙_}
-use Rattle.taps.proofs.SignedCode.{again}
+use Rattle.cell.proofs.SignedCode.{again}
 use borrow.Author.Needs.{needs}
 use Rattle.sampler.proofs.interpolate.single.Statement.{statement}
 use Rattle.sampler.proofs.interpolate.single.Tie as tie

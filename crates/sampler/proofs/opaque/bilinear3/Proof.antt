@@ -4,9 +4,9 @@ use Prim.Native.Nat.{ℕ, _+_, _-_, _<_}
 use native.Mathlib.Omega.{arith}
 use borrow.Author.Tests.{ltb-true}
 use Rattle.policies.proofs.IndexCode.{argument, bits-before}
-use Rattle.taps.specs.Interpolation.{Bilinear}
-use Rattle.taps.proofs.CellLaws.{first-small}
-use Rattle.taps.proofs.SignedCode.{again, asked}
+use Rattle.cell.specs.Interpolation.{Bilinear}
+use Rattle.cell.proofs.CellLaws.{first-small}
+use Rattle.cell.proofs.SignedCode.{again, asked}
 use Rattle.sampler.proofs.OpaqueCode.{bilinear-inside, bilinear-anywhere}
 use mathlib.Core.Path.{_≡_, refl, sym, ap, _∙_}
 use Prim.Native.Nat.{ℕ, _+_, _-_, _≤_, _<_}

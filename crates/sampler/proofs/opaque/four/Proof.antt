@@ -5,9 +5,9 @@ use Prim.Native.Nat.{_+_}
 use borrow.Author.Needs.{needs}
 use denote.Ref.{now}
 use Rattle.pixels.specs.Pixel.{pixelAt}
-use Rattle.taps.specs.Weighted.{mean, weighted}
+use Rattle.weighted.specs.Weighted.{mean, weighted}
 use Rattle.taps.specs.Weights.{corners}
-use Rattle.taps.proofs.WeightedOpaque.{summed-four}
+use Rattle.weighted.proofs.WeightedOpaque.{summed-four}
 use Rattle.sampler.specs.Square.{squareSums}
 use Rattle.sampler.proofs.opaque.four.Statement.{statement}
 use Rattle.sampler.proofs.opaque.four.Tie as tie

@@ -2,8 +2,8 @@
 use mathlib.Core.Path.{_≡_}
 use Prim.Native.Nat.{ℕ, _<_}
 use native.Mathlib.Omega.{arith}
-use Rattle.taps.specs.Interpolation.{interpolation}
-use Rattle.taps.proofs.SignedCode.{again}
+use Rattle.cell.specs.Interpolation.{interpolation}
+use Rattle.cell.proofs.SignedCode.{again}
 use mathlib.Core.Path.{_≡_, refl, sym, ap, _∙_}
 use Prim.Native.Nat.{ℕ, _+_, _-_, _≤_, _<_}
 use native.Mathlib.Omega.{arith}

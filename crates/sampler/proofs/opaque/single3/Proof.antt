@@ -3,7 +3,7 @@ use mathlib.Core.Path.{sym, _∙_}
 use native.Mathlib.Omega.{arith}
 use borrow.Author.Tests.{ltb-true}
 use Rattle.policies.proofs.IndexCode.{argument, bits-inside}
-use Rattle.taps.proofs.SignedCode.{again}
+use Rattle.cell.proofs.SignedCode.{again}
 use Rattle.sampler.proofs.OpaqueCode.{room3, small3, single-inside, single-anywhere}
 use mathlib.Core.Path.{_≡_, refl, sym, ap, _∙_}
 use Prim.Native.Nat.{ℕ, _+_, _-_, _≤_, _<_}

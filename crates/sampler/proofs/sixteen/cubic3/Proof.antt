@@ -7,10 +7,10 @@ use lib.Signed.{mag}
 use mir.Syntax.{w64}
 use mir.Val.{ofZ, toZ}
 use borrow.Author.Tests.{ltb-true}
-use Rattle.number.specs.Bytes.{twosComplement}
+use Rattle.endian.specs.Bytes.{twosComplement}
 use Rattle.policies.proofs.IndexCode.{argument, bits-inside}
-use Rattle.taps.proofs.CellLaws.{floor-small}
-use Rattle.taps.proofs.SignedCode.{again, asked}
+use Rattle.cell.proofs.CellLaws.{floor-small}
+use Rattle.cell.proofs.SignedCode.{again, asked}
 use Rattle.sampler.proofs.SixteenCode.{cubic-inside, cubic-anywhere}
 use mathlib.Core.Path.{_≡_, refl, sym, ap, _∙_}
 use Prim.Native.Nat.{ℕ, _+_, _-_, _≤_, _<_}

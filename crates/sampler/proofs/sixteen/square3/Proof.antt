@@ -4,7 +4,7 @@ use Prim.Native.Nat.{_-_, _*_, _≤_}
 use native.Mathlib.Omega.{arith}
 use lib.IntN.{pos}
 use Rattle.taps.specs.Taps.{taps}
-use Rattle.taps.specs.Weighted.{summed}
+use Rattle.weighted.specs.Weighted.{summed}
 use Rattle.taps.specs.Weights.{products}
 use Rattle.taps.proofs.TapsLaws.{none-lined, lined-next, finished}
 use Rattle.sampler.specs.Sixteen.{own}

@@ -7,7 +7,7 @@ use mir.Val.{toZ}
 use mir.Facts.{toZ-ofZ}
 use Rattle.exact.specs.Loop.{upTo}
 use Rattle.pixels.specs.At.{at}
-use Rattle.taps.proofs.SignedCode.{small}
+use Rattle.cell.proofs.SignedCode.{small}
 use Rattle.taps.proofs.TapsLaws.{number-small, step, started, grown, row-done}
 use borrow.Author.Needs.{needs}
 use Rattle.sampler.proofs.square.line.Statement.{statement}

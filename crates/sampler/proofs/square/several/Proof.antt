@@ -1,9 +1,9 @@
 -- `sampler::square::several` meets its contract: the cell, the taps and the weights are the definition's, one call after the other. Assumes nothing.
 use mathlib.Core.Path.{sym, _∙_, subst}
 use Prim.Native.Nat.{ℕ, _≤_}
-use Rattle.taps.specs.Interpolation.{interpolation}
-use Rattle.taps.proofs.CellLaws.{first-small}
-use Rattle.taps.proofs.SignedCode.{again, asked}
+use Rattle.cell.specs.Interpolation.{interpolation}
+use Rattle.cell.proofs.CellLaws.{first-small}
+use Rattle.cell.proofs.SignedCode.{again, asked}
 use Rattle.taps.proofs.TapsLaws.{side-small}
 use borrow.Author.Needs.{needs}
 use Rattle.sampler.proofs.square.several.Statement.{statement}

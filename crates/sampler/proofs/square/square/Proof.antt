@@ -6,8 +6,8 @@ use mir.Val.{toZ}
 use mir.Facts.{toZ-ofZ}
 use Rattle.pixels.specs.At.{at}
 use Rattle.taps.specs.Taps.{taps}
-use Rattle.taps.specs.Weighted.{summed}
-use Rattle.taps.proofs.SignedCode.{small}
+use Rattle.weighted.specs.Weighted.{summed}
+use Rattle.cell.proofs.SignedCode.{small}
 use Rattle.taps.proofs.TapsLaws.{none-lined, lined-next, finished}
 use borrow.Author.Needs.{needs}
 use Rattle.sampler.proofs.square.square.Statement.{statement}

@@ -8,7 +8,7 @@ use mir.Syntax.{w64}
 use mir.Val.{SFits, ofZ, toZ}
 use mir.Facts.{toZ-ofZ}
 use borrow.Author.Needs.{needs}
-use Rattle.taps.proofs.CellLaws.{moved-small}
+use Rattle.cell.proofs.CellLaws.{moved-small}
 use Rattle.taps.proofs.taps.moved.Statement.{statement}
 use Rattle.taps.proofs.taps.moved.Tie as tie
 

@@ -4,7 +4,7 @@ use borrow.Author.Tests.{ltb-true}
 use Rattle.pixels.specs.At.{at}
 use Rattle.pixels.proofs.AtLaws.{at-inside, named-held}
 use Rattle.policies.proofs.IndexCode.{moved-bits, bits-inside}
-use Rattle.taps.proofs.SignedCode.{small, moved-on}
+use Rattle.cell.proofs.SignedCode.{small, moved-on}
 use borrow.Author.Needs.{needs}
 use Rattle.taps.proofs.taps.nearby.Statement.{statement}
 use Rattle.taps.proofs.taps.nearby.Tie as tie

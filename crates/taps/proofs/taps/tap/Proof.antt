@@ -2,7 +2,7 @@
 use mathlib.Core.Path.{_∙_}
 use Rattle.pixels.specs.At.{at}
 use Rattle.pixels.proofs.AtLaws.{named-held}
-use Rattle.taps.proofs.SignedCode.{small, moved-on}
+use Rattle.cell.proofs.SignedCode.{small, moved-on}
 use borrow.Author.Needs.{needs}
 use Rattle.taps.proofs.taps.tap.Statement.{statement}
 use Rattle.taps.proofs.taps.tap.Tie as tie

@@ -1,7 +1,7 @@
 -- `taps::weights::weights` meets its contract: an arm for each code whose taps differ, and the same weight for the others. Assumes nothing.
 use mathlib.Core.Path.{sym}
-use Rattle.taps.specs.Interpolation.{interpolation}
-use Rattle.taps.proofs.InterpolationCode.{weights-alike}
+use Rattle.cell.specs.Interpolation.{interpolation}
+use Rattle.taps.proofs.WeightsCode.{weights-alike}
 use borrow.Author.Needs.{needs}
 use Rattle.taps.proofs.weights.weights.Statement.{statement}
 use Rattle.taps.proofs.weights.weights.Tie as tie

@@ -1,0 +1,2 @@
+-- The definitions of numbers in bytes.
+pub mod Bytes

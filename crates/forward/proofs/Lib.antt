@@ -1,0 +1,2 @@
+-- The laws of the Newton steps.
+pub mod ForwardLaws

@@ -1,0 +1,2 @@
+-- The definition of the Newton steps.
+pub mod Forward

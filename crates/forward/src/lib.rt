@@ -1,0 +1,2 @@
+// The source point of `BilinearForward`, by Newton steps.
+pub mod forward;

@@ -1,0 +1,2 @@
+// A mapping: its kind, order and coefficients.
+pub mod mapping;

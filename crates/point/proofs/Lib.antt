@@ -1,0 +1,2 @@
+-- The laws of usable points.
+pub mod UsableLaws

@@ -1,0 +1,77 @@
+-- A float whose value is at most 2^30 in magnitude passes the test of a usable coordinate: the float comparison of finite floats is that of
+-- their values. Assumes nothing.
+use mathlib.Core.Path.{_≡_, refl, sym, ap, _∙_, subst, subst⁻¹}
+use mathlib.Core.Bool.{Bool, true, false, _&&_, false≢true}
+use Prim.Native.Nat.{ℕ, _+_, _*_}
+use native.Mathlib.Nat.{le-refl}
+use lib.Dec.{T, lit≤}
+use lib.Ieee.{Float, nan, inf, fin, up, down, ofBits, le}
+use lib.Ieee.Scale.{finite}
+use lib.Ieee.Fits.{down-pos}
+use Rattle.exact.specs.Fraction.{Fraction, frac, value, _≤F_, absF}
+use Rattle.exact.specs.Rounds.{Close}
+use Rattle.exact.proofs.Scale.{at-le, at-ratio}
+use Rattle.exact.proofs.Near.{le-trans}
+use Rattle.exact.proofs.Magnitude.{sized-signed, abs-sized}
+use Rattle.exact.proofs.Signed.{le-value}
+use Rattle.number.specs.Magnitude.{abs, within}
+use Rattle.number.proofs.MagnitudeLaws.{abs-finite, abs-limited}
+use Rattle.point.specs.Point.{limit, usable}
+
+-- the value of the magnitude is the magnitude of the value
+abs-fraction : (x : Float) → T (finite x) → (value (abs x) ≤F absF (value x)) × (absF (value x) ≤F value (abs x))
+unfolding abs
+abs-fraction nan t = absurd t
+abs-fraction (inf s) t = absurd t
+abs-fraction (fin s m e) t =
+    let a : ℕ = m * up e in
+    let A = at-ratio a 0 (down e) (down-pos e) in
+    let B = abs-sized (down e) (down-pos e) s a (sized-signed s a (down e) (down-pos e)) in
+    (at-le (down e) (down-pos e) A B (le-refl (a + 0)), at-le (down e) (down-pos e) B A (le-refl (a + 0)))
+
+true-of : (t : Bool) → T t → t ≡ true
+true-of true h = refl
+true-of false h = absurd h
+
+limit-number : T (finite limit)
+unfolding ofBits
+limit-number = tt
+
+pub within-limit : (x : Float) → T (finite x) → absF (value x) ≤F value limit → within limit x ≡ true
+unfolding within
+within-limit x t h =
+    true-of (le (abs x) limit)
+    (le-value (abs x) limit (subst T (sym (abs-finite x)) t) limit-number .1 (le-trans (value (abs x)) (absF (value x)) (value limit) (abs-fraction x t .0) h))
+
+room : frac 16385 1 ≤F value limit
+unfolding ofBits
+room = record { le = lit≤ tt }
+
+pub usable-close : {u v : Float} {U W e f : Fraction} → Close u U e (frac 16385 1) → Close v W f (frac 16385 1) → usable u v ≡ true
+unfolding usable
+usable-close {u} {v} c d =
+    ap (λ (t : Bool). t && within limit v) (within-limit u (c .number) (le-trans (absF (value u)) (frac 16385 1) (value limit) (c .small) room))
+    ∙ within-limit v (d .number) (le-trans (absF (value v)) (frac 16385 1) (value limit) (d .small) room)
+
+-- ---- and the other way: what is usable is a number, at most 2^30 in magnitude
+both : (a b : Bool) → a && b ≡ true → (a ≡ true) × (b ≡ true)
+both true b h = (refl, h)
+both false b h = absurd (false≢true h)
+
+limit-value : value limit ≤F frac 1073741824 1
+unfolding ofBits
+limit-value = record { le = lit≤ tt }
+
+pub within-number : (x : Float) → within limit x ≡ true → T (finite x) × (absF (value x) ≤F frac 1073741824 1)
+unfolding within
+within-number x h =
+    let l : T (le (abs x) limit) = subst⁻¹ T h tt in
+    let t : T (finite x) = abs-limited x limit limit-number l in (
+      t,
+      le-trans (absF (value x)) (value (abs x)) (frac 1073741824 1) (abs-fraction x t .1)
+          (le-trans (value (abs x)) (value limit) (frac 1073741824 1) (le-value (abs x) limit (subst T (sym (abs-finite x)) t) limit-number .0 l) limit-value),
+    )
+
+pub usable-numbers : (u v : Float) → usable u v ≡ true → (T (finite u) × (absF (value u) ≤F frac 1073741824 1)) × (T (finite v) × (absF (value v) ≤F frac 1073741824 1))
+unfolding usable
+usable-numbers u v h = let p = both (within limit u) (within limit v) h in (within-number u (p .0), within-number v (p .1))

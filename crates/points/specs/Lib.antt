@@ -1,0 +1,2 @@
+-- The definition of the points of a stretch.
+pub mod Points

@@ -1,0 +1,3 @@
+// The source points of a stretch of a row, worked out at once.
+pub mod pixel;
+pub mod points;

@@ -1,0 +1,139 @@
+// The source points of a stretch of a row, worked out before its colours: a loop for each kind, with no branch in those of Affine and Perspective, so
+// that the compiler takes several pixels at a time. Assumes that the pixels lie within the limits of a window.
+ghost use mathlib.Core.Path.{_≡_};
+ghost use Prim.Native.Nat.{_+_, _≤_};
+ghost use lib.IntN.{natAbs};
+ghost use lib.ListN.{length};
+ghost use lib.Ieee.{Float};
+ghost use Rattle.inverse.specs.Affine.{affine};
+ghost use Rattle.inverse.specs.Perspective.{perspective};
+ghost use Rattle.inverse.specs.Inverse.{inverse};
+ghost use Rattle.points.specs.Points.{unless, Stretch, Points};
+use crate::pixel::asked;
+use crate::pixel::middle;
+use crate::pixel::offset;
+use inverse::source::inverse;
+use mappings::mapping::AFFINE;
+use mappings::mapping::PERSPECTIVE;
+
+// What is kept of a coordinate: a NaN where there is no point.
+fn unless(none: bool, u: f64) -> f64
+    ensures { λ r. ⌜ r ≡ unless none u ⌝ }
+{
+    if none { 0.0 / 0.0 } else { u }
+}
+
+// An array has as many elements as its type says: a function is told so of one that it takes by value.
+fn sized(a: [f64; 64])
+    ensures { λ _. ⌜ length a ≡ 64 ⌝ }
+{}
+
+fn affine_points(
+    coef: &[f64; 256],
+    x: f64,
+    y: f64,
+    first: u32,
+    n: usize,
+    us: &mut [f64; 64],
+    vs: &mut [f64; 64],
+)
+    requires { ⌜ (n ≤ 64) × ((first + n ≤ 4096) × ((length (now us) ≡ 64) × (length (now vs) ≡ 64))) ⌝ }
+    ensures { λ _. ⌜ Stretch (λ (a : Float). affine (now (coef .entry)) a y) x first n (now (us .exit)) (now (vs .exit)) ⌝ }
+{
+    let m0 = coef[0];
+    let m1 = coef[1];
+    let m2 = coef[2];
+    let m3 = coef[3];
+    let m4 = coef[4];
+    let m5 = coef[5];
+    for k in 0..n {
+        let a = middle(first + (k as u32), x);
+        us[k] = m0 * a + m1 * y + m2;
+        vs[k] = m3 * a + m4 * y + m5;
+    }
+}
+
+fn perspective_points(
+    coef: &[f64; 256],
+    x: f64,
+    y: f64,
+    first: u32,
+    n: usize,
+    us: &mut [f64; 64],
+    vs: &mut [f64; 64],
+)
+    requires { ⌜ (n ≤ 64) × ((first + n ≤ 4096) × ((length (now us) ≡ 64) × (length (now vs) ≡ 64))) ⌝ }
+    ensures { λ _. ⌜ Stretch (λ (a : Float). perspective (now (coef .entry)) a y) x first n (now (us .exit)) (now (vs .exit)) ⌝ }
+{
+    let m0 = coef[0];
+    let m1 = coef[1];
+    let m2 = coef[2];
+    let m3 = coef[3];
+    let m4 = coef[4];
+    let m5 = coef[5];
+    let m6 = coef[6];
+    let m7 = coef[7];
+    let m8 = coef[8];
+    for k in 0..n {
+        let a = middle(first + (k as u32), x);
+        let wq = m6 * a + m7 * y + m8;
+        us[k] = unless(wq <= 1e-12, (m0 * a + m1 * y + m2) / wq);
+        vs[k] = (m3 * a + m4 * y + m5) / wq;
+    }
+}
+
+fn other_points(
+    kind: u64,
+    order: u64,
+    count: u64,
+    coef: &[f64; 256],
+    x: f64,
+    y: f64,
+    first: u32,
+    n: usize,
+    us: &mut [f64; 64],
+    vs: &mut [f64; 64],
+)
+    requires { ⌜ (n ≤ 64) × ((first + n ≤ 4096) × ((length (now us) ≡ 64) × (length (now vs) ≡ 64))) ⌝ }
+    ensures { λ _. ⌜ Stretch (λ (a : Float). inverse kind order count (now (coef .entry)) a y) x first n (now (us .exit)) (now (vs .exit)) ⌝ }
+{
+    for k in 0..n {
+        let p = inverse(kind, order, count, coef, middle(first + (k as u32), x), y);
+        us[k] = unless(!p.usable, p.u);
+        vs[k] = p.v;
+    }
+}
+
+// The first n of us and vs: the pixels from column `first` of row j on, of a window at x, y.
+pub fn points(
+    kind: u64,
+    order: u64,
+    count: u64,
+    coef: &[f64; 256],
+    x: i64,
+    y: i64,
+    first: u64,
+    j: u64,
+    n: usize,
+    us: &mut [f64; 64],
+    vs: &mut [f64; 64],
+)
+    requires { ⌜ (n ≤ 64) × ((first + n ≤ 4096) × (j ≤ 4096)) ⌝ }
+    requires { ⌜ (natAbs x ≤ 1048576) × (natAbs y ≤ 1048576) ⌝ }
+    ensures { λ _. ⌜ Points kind order count (now (coef .entry)) x y first j n (now (us .exit)) (now (vs .exit)) ⌝ }
+{
+    sized(*us);
+    sized(*vs);
+    let start = first as u32;
+    let a = offset(x);
+    let b = asked(j, y);
+    if kind == AFFINE {
+        affine_points(coef, a, b, start, n, us, vs);
+        return;
+    }
+    if kind == PERSPECTIVE {
+        perspective_points(coef, a, b, start, n, us, vs);
+        return;
+    }
+    other_points(kind, order, count, coef, a, b, start, n, us, vs);
+}

@@ -1,0 +1,2 @@
+-- The laws of a stored colour.
+pub mod StoreLaws

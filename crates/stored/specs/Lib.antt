@@ -1,0 +1,2 @@
+-- The definition of a stored colour.
+pub mod Store

@@ -1,0 +1,28 @@
+-- A colour stored as a pixel of a band's bytes: the Rust's `to_channels`, of one pixel. Assumes nothing.
+use Prim.Native.Nat.{ℕ, _+_, _*_}
+use mathlib.Core.Bool.{cond}
+use mathlib.Core.List.{List}
+use lib.Dec.{eqb}
+use lib.Ieee.{Float}
+use Rattle.endian.specs.Bytes.{putF32}
+use Rattle.pixels.specs.Colour.{luma}
+use Rattle.pixels.specs.declared.colour.Rgba.{Rgba}
+
+-- the sample numbered k of a band's bytes
+abbrev pub putSample : List ℕ → ℕ → Float → List ℕ
+putSample bytes k v = putF32 bytes (4 * k) v
+
+-- a colour without its alpha, from the sample numbered k on
+abbrev pub putRgb : List ℕ → ℕ → Rgba → List ℕ
+putRgb bytes k c = putSample (putSample (putSample bytes k (c .r)) (k + 1) (c .g)) (k + 2) (c .b)
+
+-- from the sample numbered k on: four channels as they are, three without alpha, one as luma
+unfoldable pub narrowed : List ℕ → ℕ → ℕ → Rgba → List ℕ
+narrowed bytes channels k c =
+    cond (eqb channels 4)
+    (putSample (putRgb bytes k c) (k + 3) (c .a))
+    (cond (eqb channels 3) (putRgb bytes k c) (putSample bytes k (luma c)))
+
+-- the bytes with the colour as their pixel numbered p, row by row
+unfoldable pub putPixel : List ℕ → ℕ → ℕ → Rgba → List ℕ
+putPixel bytes channels p c = narrowed bytes channels (p * channels) c

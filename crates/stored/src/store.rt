@@ -1,0 +1,92 @@
+// A colour stored as a pixel of a band. Assumes that the band has room for the pixel.
+ghost use mathlib.Core.Path.{_≡_};
+ghost use Prim.Native.Nat.{_+_, _*_, _≤_, _<_};
+ghost use mathlib.Core.Bool.{not};
+ghost use lib.Dec.{T};
+ghost use lib.Ieee.{isNan};
+ghost use lib.ListN.{length};
+ghost use Rattle.stored.specs.Store as Store;
+ghost use Rattle.stored.specs.Store.{putSample, putRgb, putPixel};
+use endian::bytes::put_f32;
+use endian::bytes::put_f32_plain;
+use pixels::colour::Rgba;
+use pixels::colour::luma;
+
+// The sample numbered k.
+fn put_sample(band: &mut [u8], k: u64, v: f32)
+    requires { ⌜ (k + 1) * 4 ≤ length (now band) ⌝ }
+    ensures { λ _. ⌜ now (band .exit) ≡ putSample (now (band .entry)) k v ⌝ }
+{
+    put_f32(band, 4 * k as usize, v);
+}
+
+// The same for a number: no test for a NaN.
+fn put_number(band: &mut [u8], k: u64, v: f32)
+    requires { ⌜ ((k + 1) * 4 ≤ length (now band)) × T (not (isNan v)) ⌝ }
+    ensures { λ _. ⌜ now (band .exit) ≡ putSample (now (band .entry)) k v ⌝ }
+{
+    put_f32_plain(band, 4 * k as usize, v);
+}
+
+// Three samples from the one numbered k on, each tested for a NaN.
+fn put_tested(band: &mut [u8], k: u64, c: Rgba)
+    requires { ⌜ (k + 3) * 4 ≤ length (now band) ⌝ }
+    ensures { λ _. ⌜ now (band .exit) ≡ putRgb (now (band .entry)) k c ⌝ }
+{
+    put_sample(band, k, c.r);
+    put_sample(band, k + 1, c.g);
+    put_sample(band, k + 2, c.b);
+}
+
+// Three numbers, from the sample numbered k on.
+pub fn put_numbers(band: &mut [u8], k: u64, c: Rgba)
+    requires { ⌜ (k + 3) * 4 ≤ length (now band) ⌝ }
+    requires { ⌜ T (not (isNan (c .r))) × (T (not (isNan (c .g))) × T (not (isNan (c .b)))) ⌝ }
+    ensures { λ _. ⌜ now (band .exit) ≡ putRgb (now (band .entry)) k c ⌝ }
+{
+    put_number(band, k, c.r);
+    put_number(band, k + 1, c.g);
+    put_number(band, k + 2, c.b);
+}
+
+// The colour without its alpha, from the sample numbered k on. One branch for the three, which are numbers nearly always, costs less than a choice
+// for each.
+fn put_rgb(band: &mut [u8], k: u64, c: Rgba)
+    requires { ⌜ (k + 3) * 4 ≤ length (now band) ⌝ }
+    ensures { λ _. ⌜ now (band .exit) ≡ putRgb (now (band .entry)) k c ⌝ }
+{
+    if c.r == c.r {
+        if c.g == c.g {
+            if c.b == c.b {
+                put_numbers(band, k, c);
+                return;
+            }
+        }
+    }
+    put_tested(band, k, c);
+}
+
+// From the sample numbered k on, as many samples as there are channels.
+fn narrowed(band: &mut [u8], channels: u64, k: u64, c: Rgba)
+    requires { ⌜ (0 < channels) × ((k + channels) * 4 ≤ length (now band)) ⌝ }
+    ensures { λ _. ⌜ now (band .exit) ≡ Store.narrowed (now (band .entry)) channels k c ⌝ }
+{
+    if channels == 4 {
+        put_rgb(band, k, c);
+        put_sample(band, k + 3, c.a);
+        return;
+    }
+    if channels == 3 {
+        put_rgb(band, k, c);
+        return;
+    }
+    put_sample(band, k, luma(c));
+}
+
+// The pixel numbered p.
+pub fn put_pixel(band: &mut [u8], channels: u64, p: u64, c: Rgba)
+    requires { ⌜ (0 < channels) × ((p * channels + channels) * 4 ≤ length (now band)) ⌝ }
+    ensures { λ _. ⌜ now (band .exit) ≡ putPixel (now (band .entry)) channels p c ⌝ }
+{
+    narrowed(band, channels, p * channels, c);
+}

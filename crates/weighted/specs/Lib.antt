@@ -1,0 +1,2 @@
+-- The definition of the weighted mean.
+pub mod Weighted

@@ -1,0 +1,2 @@
+// The weighted mean of taps, colours weighted by alpha.
+pub mod weighted;

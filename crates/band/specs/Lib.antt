@@ -2,3 +2,5 @@
 pub mod Band
 pub mod Image
 pub mod Joined
+pub mod Kernels
+pub mod Plain

@@ -11,13 +11,14 @@ ghost use Rattle.pixels.specs.Pixel.{Picture};
 ghost use Rattle.band.specs.Band.{colourAt, matteAt, keptColour, keptMatte, pixelBytes};
 ghost use Rattle.band.specs.Joined.{joined, totalled};
 use crate::pixel::put_one;
+use crate::sixteen::put_cubic;
 use crate::three::put_bilinear;
 use crate::three::put_single;
 use pixels::colour::Rgba;
 use points::points::points;
 
 // The colours of n pixels, by any interpolation, put `depth` samples a pixel from the band's pixel numbered `place` on; and how many are matte.
-fn put_any(
+pub fn put_any(
     picture: &[u8],
     width: u64,
     height: u64,
@@ -104,6 +105,22 @@ fn put_colours(
         }
         if interpolation < 2 {
             return put_single(
+                picture,
+                width,
+                height,
+                policy,
+                interpolation,
+                background,
+                matte,
+                us,
+                vs,
+                n,
+                place,
+                band,
+            );
+        }
+        if interpolation > 5 && interpolation < 8 {
+            return put_cubic(
                 picture,
                 width,
                 height,

@@ -61,14 +61,14 @@ fn outer(ax: f32) -> bool
     !(ax < 1.0) & (ax < 2.0)
 }
 
-fn between(p: f32, q: f32, r: f32, s: f32) -> bool
+pub fn between(p: f32, q: f32, r: f32, s: f32) -> bool
     ensures { λ b. ⌜ b ≡ between p q r s ⌝ }
 {
     (outer(p) & (q < 1.0)) & ((r < 1.0) & outer(s))
 }
 
 // The weights of four magnitudes of which the outer two are in the outer piece: no test for each.
-fn middle(b: f32, c: f32, p: f32, q: f32, r: f32, s: f32) -> [f32; 4]
+pub fn middle(b: f32, c: f32, p: f32, q: f32, r: f32, s: f32) -> [f32; 4]
     ensures { λ w. ⌜ w ≡ middle b c p q r s ⌝ }
 {
     [

@@ -3,3 +3,4 @@ pub mod Finite
 pub mod Interpolate
 pub mod Opaque
 pub mod Sixteen
+pub mod Square

@@ -12,6 +12,7 @@ ghost use Rattle.weighted.specs.Weighted as Weighted;
 ghost use Rattle.weighted.specs.Weighted.{weighted};
 ghost use Rattle.taps.specs.Weights.{corners};
 ghost use Rattle.sampler.specs.Interpolate as Interpolate;
+ghost use Rattle.sampler.specs.Square.{squareSums};
 use crate::bilinear::anywhere;
 use cell::cell::below;
 use cell::cell::fraction;
@@ -77,26 +78,47 @@ pub fn single3(
     at(picture, width, height, 3, policy, background, column, row)
 }
 
-// The sums of the four taps of a cell that lies inside: a row, and the row after it.
+// The sums of the four taps of a cell that lies inside, a row and the row after it, at the weights a, b, c and d.
+pub fn sums(
+    picture: &[u8],
+    width: u64,
+    height: u64,
+    i: u64,
+    j: u64,
+    a: f32,
+    b: f32,
+    c: f32,
+    d: f32,
+) -> Sums
+    requires { ⌜ Picture (now picture) width height 3 ⌝ }
+    requires { ⌜ (i + 1 < width) × (j + 1 < height) ⌝ }
+    ensures { λ r. ⌜ r ≡ squareSums (now (picture .entry)) width i j a b c d ⌝ }
+{
+    let k = (j * width + i) * 3;
+    let n = k + width * 3;
+    let s = added(rgb(picture, k + 3), b, added(rgb(picture, k), a, nothing()));
+    added(rgb(picture, n + 3), d, added(rgb(picture, n), c, s))
+}
+
+// The same at the weights of a point with the fractions tx and ty.
 fn four(picture: &[u8], width: u64, height: u64, i: u64, j: u64, tx: f32, ty: f32) -> Sums
     requires { ⌜ Picture (now picture) width height 3 ⌝ }
     requires { ⌜ (i + 1 < width) × (j + 1 < height) ⌝ }
     ensures { λ r.
         ⌜ Weighted.mean r ≡ weighted (pixelAt (now (picture .entry)) width 3 i j ∷ pixelAt (now (picture .entry)) width 3 (i + 1) j ∷ pixelAt (now (picture .entry)) width 3 i (j + 1) ∷ pixelAt (now (picture .entry)) width 3 (i + 1) (j + 1) ∷ []) (corners tx ty) 4 ⌝ }
 {
-    let k = (j * width + i) * 3;
-    let n = k + width * 3;
     let sx = 1.0 - tx;
     let sy = 1.0 - ty;
-    let s = added(
-        rgb(picture, k + 3),
+    sums(
+        picture,
+        width,
+        height,
+        i,
+        j,
+        sx * sy,
         tx * sy,
-        added(rgb(picture, k), sx * sy, nothing()),
-    );
-    added(
-        rgb(picture, n + 3),
+        sx * ty,
         tx * ty,
-        added(rgb(picture, n), sx * ty, s),
     )
 }
 

@@ -41,7 +41,7 @@ fn line3(picture: &[u8], k: u64, wx: &[f32; 4], v: f32, s: Sums) -> Sums
 }
 
 // The weighted mean of the sixteen taps from column i, row j on.
-fn square3(
+pub fn square3(
     picture: &[u8],
     width: u64,
     height: u64,

@@ -39,7 +39,7 @@ fn put_tested(band: &mut [u8], k: u64, c: Rgba)
 }
 
 // Three numbers, from the sample numbered k on.
-fn put_numbers(band: &mut [u8], k: u64, c: Rgba)
+pub fn put_numbers(band: &mut [u8], k: u64, c: Rgba)
     requires { ⌜ (k + 3) * 4 ≤ length (now band) ⌝ }
     requires { ⌜ T (not (isNan (c .r))) × (T (not (isNan (c .g))) × T (not (isNan (c .b)))) ⌝ }
     ensures { λ _. ⌜ now (band .exit) ≡ putRgb (now (band .entry)) k c ⌝ }

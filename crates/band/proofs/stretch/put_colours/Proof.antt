@@ -1,7 +1,7 @@
 -- `band::stretch::put_colours` meets its contract: where it calls a loop for three channels, the channels are three. Assumes nothing.
 use mathlib.Core.Path.{refl}
 use borrow.Author.Needs.{needs}
-use borrow.Author.Tests.{eqb-true}
+use borrow.Author.Tests.{eqb-true, ltb-true}
 use Rattle.band.proofs.StretchLaws.{three-left, three-room}
 use Rattle.band.proofs.stretch.put_colours.Statement.{statement}
 use Rattle.band.proofs.stretch.put_colours.Tie as tie
@@ -18,6 +18,16 @@ put-single-requires c κs = let e = c .before .before .before .before .before .b
 returns-2 : tie.Need-returns-2
 returns-2 c = let g = c .before .before .before .before .before .before .before .before .before .before .args in three-left (g .picture .now) (g .width) (g .height) (g .policy) (g .background) (g .matte) (g .us .now) (g .vs .now) (g .n) (g .place) (g .band .now) (c .before .before .before .before .before .before .before .if1 .taken) (eqb-true _ 3 (c .before .before .before .before .before .before .if2 .taken)) refl (c .before .before .put-single .ensures)
 
+put-cubic-requires : tie.Need-put-cubic-requires
+put-cubic-requires c κs =
+    let e = c .before .before .before .before .before .before .before .before .before in (
+      rw (← c .before .before .before .before .before .before .if1 .taken) (e .pre .0),
+      ((c .before .before .if5 .taken, ltb-true _ 8 (c .before .if6 .taken)), (search needs, three-room (e .args .place) (e .args .n) (eqb-true _ 3 (c .before .before .before .before .before .if2 .taken)) (e .pre .1 .1 .1))),
+    )
+
+returns-3 : tie.Need-returns-3
+returns-3 c = let g = c .before .before .before .before .before .before .before .before .before .before .before .before .args in three-left (g .picture .now) (g .width) (g .height) (g .policy) (g .background) (g .matte) (g .us .now) (g .vs .now) (g .n) (g .place) (g .band .now) (c .before .before .before .before .before .before .before .before .before .if1 .taken) (eqb-true _ 3 (c .before .before .before .before .before .before .before .before .if2 .taken)) refl (c .before .before .put-cubic .ensures)
+
 pub put-colours-spec : {M : Type 1} → statement M
 put-colours-spec =
     tie.close
@@ -28,6 +38,9 @@ put-colours-spec =
     put-single-requires
     (λ c. search needs)
     returns-2
+    put-cubic-requires
+    (λ c. search needs)
+    returns-3
     (λ c κs. search needs)
     (λ c. search needs)
     (λ c. search needs))

@@ -1,77 +1,41 @@
--- `band::three::put_single` meets its contract. The loop's invariant: the pixels passed are in the band, and the matte ones among them are
--- counted. Assumes nothing.
-use mathlib.Core.Path.{_∙_, refl}
-use mathlib.Core.Logic.{inl, inr}
-use Prim.Native.Nat.{ℕ, _-_}
-use native.Mathlib.Nat.{le-antisymm}
-use native.Mathlib.Omega.{arith}
+-- `band::three::put_single` meets its contract: where every point of the stretch has its place inside, none is matte, and the pixel there is the point's. Assumes nothing.
+use mathlib.Core.Path.{ap, _∙_}
+use mathlib.Core.List.{List, _++_}
+use Prim.Native.Nat.{ℕ, _+_, _*_}
 use borrow.Author.Needs.{needs}
-use Rattle.matrix.specs.Matrix.{at}
-use Rattle.point.specs.Point.{usable}
-use Rattle.band.specs.Band.{Source, keptColour, keptMatte}
-use Rattle.band.proofs.PixelLaws.{channels-pos}
-use Rattle.band.proofs.RowLaws.{RowHolds, row-start, row-room, row-one, row-next, row-done, row-same, bit-most, place-small}
+use lib.ListN.{take, drop}
+use denote.Ref.{now}
+use Rattle.band.proofs.PlainLaws.{places-within, places-mattes, places-colours}
 use Rattle.band.proofs.three.put_single.Statement.{statement}
 use Rattle.band.proofs.three.put_single.Tie as tie
 
-abbrev Inv-loop : tie.InvT-loop
-Inv-loop picture width height policy code background matte us vs n place band₀ missed₀ k₀ band missed k =
-    let s : Source = record { image = record { bytes = picture; width = width; height = height; channels = 3 }; policy = policy; interpolation = code; background = background; matte = matte } in
-    RowHolds 3 n place (λ (i : ℕ). keptColour s (at us i) (at vs i)) (λ (i : ℕ). keptMatte (at us i) (at vs i)) band₀ band missed k
+put-places-requires : tie.Need-put-places-requires
+put-places-requires c κs =
+    let a = c .before .before .before .before .before .before .before .before .before .before .before in
+    let C = c .before .before .before .before .before .before .before .places .ensures (c .before .before .before .before .before .before .if1 .taken) in
+    let D = c .before .before .before .before .places2 .ensures (c .before .before .before .if2 .taken) in
+    (a .pre .0, (a .pre .1 .1 .0, (places-within (a .args .code) C D, a .pre .1 .1 .1)))
 
-abbrev μ-loop : tie.MeasureT-loop
-μ-loop picture width height policy code background matte us vs n place band₀ missed₀ k₀ band missed k = n - k
-
-loop-holds : tie.Need-loop-holds Inv-loop μ-loop
-loop-holds c = row-start (c .before .before .pre .1 .1 .1) (λ k. bit-most (usable (at (c .before .before .args .us .now) k) (at (c .before .before .args .vs .now) k)))
-
-add-put-single-one : tie.Need-add-put-single-one Inv-loop μ-loop
-add-put-single-one c =
-    let e = c .before .before .before .before .before .before in
-    record { fits = omega (arith, place-small (e .args .place) (e .args .n) 3 _ (channels-pos 3 (inr (inl refl))) (e .pre .1 .1 .1), c .before .before .before .loop .inv .most, e .good .1 .1 .1 .1 .1 .1 .1 .1 .1 .1 .1 .0 .0) }
-
-put-single-one-requires : tie.Need-put-single-one-requires Inv-loop μ-loop
-put-single-one-requires c κs =
-    let e = c .before .before .before .before .before .before .before in
-    (e .pre .0, (search needs, row-room (e .pre .1 .1 .1) (c .before .before .before .before .loop .inv) (search needs)))
-
-add-missed : tie.Need-add-missed Inv-loop μ-loop
-add-missed c =
-    let e = c .before .before .before .before .before .before .before .before .before .before in
-    let r = c .before .before .put-single-one in
-    record { fits = omega (arith, c .before .before .before .before .before .before .before .loop .inv .few, row-one (e .pre .1 .1 .1) (c .before .before .before .before .before .before .before .loop .inv) (r .ensures .0)) }
-
-loop-again : tie.Need-loop-again Inv-loop μ-loop
-loop-again c =
-    let e = c .before .before .before .before .before .before .before .before .before .before in
-    let r = c .before .before .put-single-one in
-    row-next (e .pre .1 .1 .1) (c .before .before .before .before .before .before .before .loop .inv) (inr (inl refl)) (search needs) (r .ensures .0) (r .ensures .1)
-
-same-length : tie.Need-same-length Inv-loop μ-loop
-same-length c = row-same (c .before .before .before .before .pre .1 .1 .1) (c .before .loop .inv)
-
-returns : tie.Need-returns Inv-loop μ-loop
+returns : tie.Need-returns
 returns c =
-    let a = c .before .before .before .before in
-    let H = c .before .loop .inv in
-    (H .count ∙ rw (le-antisymm (H .most) (search needs)), row-done (a .pre .1 .1 .1) H (le-antisymm (H .most) (search needs)))
+    let a = c .before .before .before .before .before .before .before .before .before .before .before .before .before .before in
+    let C = c .before .before .before .before .before .before .before .before .before .before .places .ensures (c .before .before .before .before .before .before .before .before .before .if1 .taken) in
+    let D = c .before .before .before .before .before .before .before .places2 .ensures (c .before .before .before .before .before .before .if2 .taken) in (
+      places-mattes (a .args .code) C D,
+      c .before .before .put-places .ensures
+          ∙ ap (λ (z : List ℕ). take (a .args .place * 3 * 4) (now (a .args .band)) ++ z ++ drop ((a .args .place + a .args .n) * 3 * 4) (now (a .args .band)))
+          (places-colours (a .args .code) C D _ (a .args .policy) (a .args .background) (a .args .matte) (a .pre .1 .0)),
+    )
 
 pub put-single-spec : {M : Type 1} → statement M
 put-single-spec =
     tie.close
     (tie.spec
-    Inv-loop
-    μ-loop
-    loop-holds
+    (λ c κs. search needs)
+    (λ c κs. search needs)
+    put-places-requires
     (λ c. search needs)
+    returns
+    (λ c κs. search needs)
     (λ c. search needs)
-    (λ c. search needs)
-    (λ c. search needs)
-    add-put-single-one
-    put-single-one-requires
-    add-missed
-    (λ c. search needs)
-    (λ c. search needs)
-    loop-again
-    same-length
-    returns)
+    (λ c. search needs))

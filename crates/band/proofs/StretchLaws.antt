@@ -14,11 +14,11 @@ use Rattle.point.specs.Point.{usable}
 use Rattle.point.specs.declared.point.Point.{Point}
 use Rattle.pixels.specs.declared.colour.Rgba.{Rgba}
 use Rattle.points.specs.Points.{Kept, Points}
-use Rattle.band.specs.Band.{Frame, Source, shown, pointAt, colourAt, matteAt, keptColour, keptMatte, pixelBytes}
-use Rattle.band.specs.Joined.{joined, totalled}
-use Rattle.band.proofs.JoinedLaws.{joined-same, joined-cut, joined-length, totalled-same, totalled-cut, totalled-most}
-use Rattle.band.proofs.PixelLaws.{Channels, SoFar, so-far-next, pixel-length}
-use Rattle.band.proofs.RowLaws.{RowHolds}
+use Rattle.put.specs.Band.{Frame, Source, shown, pointAt, colourAt, matteAt, keptColour, keptMatte, pixelBytes}
+use Rattle.put.specs.Joined.{joined, totalled}
+use Rattle.put.proofs.JoinedLaws.{joined-same, joined-cut, joined-length, totalled-same, totalled-cut, totalled-most}
+use Rattle.put.proofs.PixelLaws.{Channels, SoFar, so-far-next, pixel-length}
+use Rattle.put.proofs.RowLaws.{RowHolds}
 
 -- ---- kept coordinates
 pub kept-matte : (p : Point) (u v : Float) → Kept p u v → keptMatte u v ≡ cond (p .usable) 0 1

@@ -7,7 +7,7 @@ ghost use Prim.Native.Nat.{_+_, _*_, _≤_, _<_};
 ghost use lib.IntN.{natAbs};
 ghost use lib.ListN.{length, take, drop};
 ghost use Rattle.pixels.specs.Pixel.{Picture};
-ghost use Rattle.band.specs.Band.{rowBytes, rowsBytes, rowMatte, rowsMatte};
+ghost use Rattle.put.specs.Band.{rowBytes, rowsBytes, rowMatte, rowsMatte};
 use crate::stretch::put_stretch;
 use pixels::colour::Rgba;
 

@@ -7,16 +7,16 @@ ghost use lib.ListN.{length, take, drop};
 ghost use Rattle.matrix.specs.Matrix as Vectors;
 ghost use Rattle.pixels.specs.Pixel.{Picture};
 ghost use Rattle.stored.specs.Store.{putPixel};
-ghost use Rattle.band.specs.Band.{keptColour, keptMatte, pixelBytes};
-ghost use Rattle.band.specs.Joined.{joined, totalled};
-use crate::plain::put_cells;
-use crate::plain::put_places;
+ghost use Rattle.put.specs.Band.{keptColour, keptMatte, pixelBytes};
+ghost use Rattle.put.specs.Joined.{joined, totalled};
 use cells::cells::cells;
 use cells::cells::places;
+use opaque::opaque::bilinear3;
+use opaque::opaque::single3;
 use pixels::colour::Rgba;
+use plain::plain::put_cells;
+use plain::plain::put_places;
 use point::usable::point;
-use sampler::opaque::bilinear3;
-use sampler::opaque::single3;
 use stored::store::put_pixel;
 
 // One pixel by `Bilinear`, as `put_one` puts it.

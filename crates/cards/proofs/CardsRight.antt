@@ -26,7 +26,7 @@ use Rattle.point.specs.Point as Point
 use Rattle.pixels.specs.At.{at}
 use Rattle.cubic.specs.Cubic.{catrom, pieces}
 use Rattle.policies.specs.Index as Index
-use Rattle.sampler.specs.Interpolate.{interpolate}
+use Rattle.blend.specs.Interpolate.{interpolate}
 use Rattle.cell.specs.Interpolation.{interpolation}
 use Rattle.policies.specs.Named.{named, policy}
 use Rattle.pixels.specs.Pixel.{widened, pixelAt}

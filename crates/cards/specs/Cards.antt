@@ -14,7 +14,7 @@ use Rattle.mappings.specs.declared.mapping.Mapping.{Mapping}
 use Rattle.inverse.specs.Inverse.{inverse}
 use Rattle.point.specs.declared.point.Point.{Point}
 use Rattle.cubic.specs.Cubic.{catrom}
-use Rattle.sampler.specs.Interpolate.{interpolate}
+use Rattle.blend.specs.Interpolate.{interpolate}
 use Rattle.policies.specs.Named.{named}
 use Rattle.pixels.specs.declared.colour.Rgba.{Rgba}
 use Rattle.policies.specs.declared.named.Tap.{Tap}

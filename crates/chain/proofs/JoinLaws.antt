@@ -11,16 +11,16 @@ use lib.Dec.{leb, ltb}
 use lib.ListN.{take, drop}
 use borrow.Author.Tests.{leb-true, leb-false, ltb-true}
 use Rattle.exact.specs.Loop.{turns, upTo}
-use Rattle.band.specs.Band.{rowBytes, rowsBytes}
+use Rattle.put.specs.Band.{rowBytes, rowsBytes}
 use Rattle.distort.specs.Call.{outWidth, outHeight, frameOf, sourceOf, rowsOf, answer, left}
 use Rattle.distort.specs.Job.{Image, Given, Call}
-use Rattle.band.specs.Joined.{joined}
+use Rattle.put.specs.Joined.{joined}
 use Rattle.distort.specs.Refusal.{channelsOf, refusal}
 use Rattle.distort.specs.declared.answer.Answer.{Answer}
-use Rattle.band.proofs.LengthLaws.{row-length}
+use Rattle.put.proofs.LengthLaws.{row-length}
 use Rattle.distort.proofs.BandLaws.{rowLength}
 use Rattle.distort.proofs.CallLaws.{size, accepted-answer}
-use Rattle.band.proofs.JoinedLaws.{joined-none, joined-next, joined-same, joined-part}
+use Rattle.put.proofs.JoinedLaws.{joined-none, joined-next, joined-same, joined-part}
 use Rattle.chain.specs.Warps.{alike, sameImage, heightIn, holds, anyHolds, everyRow, rowIn, alikeTo, rowSize, together, State, group, completes}
 use Rattle.chain.proofs.SameLaws.{both-hold, alike-same}
 

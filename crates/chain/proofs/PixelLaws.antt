@@ -28,13 +28,13 @@ use Rattle.nearness.specs.ExactPoint.{exactPoint}
 use Rattle.point.specs.declared.point.Point.{Point}
 use Rattle.nearness.proofs.PointNear.{asked-near}
 use Rattle.pixels.specs.Colour.{one}
-use Rattle.sampler.specs.Interpolate.{interpolate}
+use Rattle.blend.specs.Interpolate.{interpolate}
 use Rattle.sampler.specs.Opaque.{NearSample}
 use Rattle.pixels.specs.Pixel.{Picture}
 use Rattle.pixels.specs.declared.colour.Rgba.{Rgba}
 use Rattle.sampler.proofs.BilinearOpaque.{sampled-near}
 use Rattle.window.specs.Window.{xOf, yOf}
-use Rattle.band.specs.Band.{pointAt, shown, colourAt}
+use Rattle.put.specs.Band.{pointAt, shown, colourAt}
 use Rattle.distort.specs.Call.{outWidth, outHeight, frameOf, sourceOf}
 use Rattle.distort.specs.Job.{Image, Given, colourOf}
 use Rattle.distort.specs.Refusal.{transparent, fitOf, windowOf, widest, channelsOf}

@@ -16,7 +16,7 @@ use Rattle.sampler.specs.Finite.{BoundedPicture}
 use Rattle.pixels.specs.Pixel.{Picture}
 use Rattle.pixels.specs.declared.colour.Rgba.{Rgba}
 use Rattle.window.specs.Window.{xOf, yOf}
-use Rattle.band.specs.Band.{colourAt}
+use Rattle.put.specs.Band.{colourAt}
 use Rattle.distort.specs.Call.{outWidth, outHeight, frameOf, sourceOf, rowsOf}
 use Rattle.distort.specs.Job.{Image, Given}
 use Rattle.distort.specs.Refusal.{windowOf, channelsOf}

@@ -9,7 +9,7 @@ use lib.ListN.{take, drop}
 use Rattle.exact.specs.Loop.{upTo}
 use Rattle.distort.specs.Call.{answer, left}
 use Rattle.distort.specs.Job.{Image, Given, Call}
-use Rattle.band.specs.Joined.{joined}
+use Rattle.put.specs.Joined.{joined}
 use Rattle.distort.specs.Refusal.{refusal}
 use Rattle.distort.specs.declared.answer.Answer.{Answer}
 use Rattle.distort.specs.declared.answer.Answer.the-variants.{Accepted, Refused}

@@ -29,7 +29,7 @@ use Rattle.window.specs.Span as Span
 use Rattle.window.specs.Window as Window
 use Rattle.pixels.specs.At as At
 use Rattle.policies.specs.Index as Index
-use Rattle.sampler.specs.Interpolate as Interpolate
+use Rattle.blend.specs.Interpolate as Interpolate
 use Rattle.cell.specs.Interpolation as Interpolation
 use Rattle.policies.specs.Named as Named
 use Rattle.pixels.specs.Pixel as Pixel
@@ -37,8 +37,8 @@ use Rattle.policies.specs.Random as Random
 use Rattle.stored.specs.Store as Stored
 use Rattle.taps.specs.Taps as Taps
 use Rattle.weighted.specs.Weighted as Weighted
-use Rattle.band.specs.Band as Band
-use Rattle.band.specs.Joined as Joined
+use Rattle.put.specs.Band as Band
+use Rattle.put.specs.Joined as Joined
 use Rattle.distort.specs.Refusal as Refusal
 use Rattle.distort.specs.Call.{left, answer, rowsOf, matteOf}
 use Rattle.distort.specs.Refusal.{refusal}

@@ -5,12 +5,16 @@ use Prim.Native.Nat.{ℕ}
 use Rattle.distort.specs.Call.{answer, left, numberOf, putAnswer}
 use Rattle.distort.specs.Job.{Call}
 use Rattle.distort.specs.declared.answer.Answer.{Answer}
+use Rattle.dihyravo.specs.Called.{called}
 
-pub number-of : {c d : Call} → c ≡ d → {a : Answer} {n : ℕ} → a ≡ answer c → n ≡ numberOf a → n ≡ numberOf (answer d)
+number-of : {c d : Call} → c ≡ d → {a : Answer} {n : ℕ} → a ≡ answer c → n ≡ numberOf a → n ≡ numberOf (answer d)
 number-of p e f = f ∙ ap numberOf (e ∙ ap answer p)
 
-pub band-of : {c d : Call} → c ≡ d → {band : List ℕ} → band ≡ left c → band ≡ left d
+band-of : {c d : Call} → c ≡ d → {band : List ℕ} → band ≡ left c → band ≡ left d
 band-of p e = e ∙ ap left p
 
-pub answer-of : {c d : Call} → c ≡ d → {a : Answer} (before : List ℕ) {after : List ℕ} → a ≡ answer c → after ≡ putAnswer a before → after ≡ putAnswer (answer d) before
+answer-of : {c d : Call} → c ≡ d → {a : Answer} (before : List ℕ) {after : List ℕ} → a ≡ answer c → after ≡ putAnswer a before → after ≡ putAnswer (answer d) before
 answer-of p before e f = f ∙ ap (λ (x : Answer). putAnswer x before) (e ∙ ap answer p)
+
+pub all-of : {c d : Call} → c ≡ d → {a : Answer} {n : ℕ} {band : List ℕ} (before : List ℕ) {after : List ℕ} → a ≡ answer c → band ≡ left c → n ≡ numberOf a → after ≡ putAnswer a before → (n, (band, after)) ≡ called d before
+all-of p before e f g h = λ i. (number-of p e g i, (band-of p f i, answer-of p before e h i))

@@ -1,8 +1,8 @@
 // The distort call over bytes, for every argument. What a caller owes is what the types say: each pointer is to as many bytes as it is said to be, and band and answer overlap nothing
 // else that is lent. Picture and arguments stay as they are, since they are lent shared.
 ghost use mathlib.Core.Path.{_≡_};
-ghost use Rattle.distort.specs.Call as Distort;
 ghost use Rattle.distort.specs.Job.{callOf};
+ghost use Rattle.dihyravo.specs.Called.{called};
 use distort::answer::put_answer;
 use distort::call::distort;
 
@@ -32,11 +32,7 @@ pub extern "C" fn dihyravo_distort(
     answer: &mut [u8; 48],
 ) -> u64
     ensures { λ r.
-        ⌜ r ≡ Distort.numberOf (Distort.answer (callOf (now (picture .entry)) width height channels method (now (arguments .entry)) policy interpolation (now (background .entry)) (now (matte .entry)) bestfit viewport «view_width» «view_height» «view_x» «view_y» «first_row» rows (now (band .entry)))) ⌝ }
-    ensures { λ r.
-        ⌜ now (band .exit) ≡ Distort.left (callOf (now (picture .entry)) width height channels method (now (arguments .entry)) policy interpolation (now (background .entry)) (now (matte .entry)) bestfit viewport «view_width» «view_height» «view_x» «view_y» «first_row» rows (now (band .entry))) ⌝ }
-    ensures { λ r.
-        ⌜ now (answer .exit) ≡ Distort.putAnswer (Distort.answer (callOf (now (picture .entry)) width height channels method (now (arguments .entry)) policy interpolation (now (background .entry)) (now (matte .entry)) bestfit viewport «view_width» «view_height» «view_x» «view_y» «first_row» rows (now (band .entry)))) (now (answer .entry)) ⌝ }
+        ⌜ (r, (now (band .exit), now (answer .exit))) ≡ called (callOf (now (picture .entry)) width height channels method (now (arguments .entry)) policy interpolation (now (background .entry)) (now (matte .entry)) bestfit viewport «view_width» «view_height» «view_x» «view_y» «first_row» rows (now (band .entry))) (now (answer .entry)) ⌝ }
 {
     let answered = distort(
         picture,

@@ -8,13 +8,13 @@ use native.Mathlib.Nat.{add-assoc, zero-add, mul-one}
 use native.Mathlib.Omega.{arith}
 use lib.Dec.{eqb}
 use lib.ListN.{length, take, drop}
-use Rattle.band.specs.Band.{Frame, Source, pointAt, colourAt, matteAt, pixelBytes, rowBytes, rowsBytes, rowMatte, rowsMatte}
+use Rattle.put.specs.Band.{Frame, Source, pointAt, colourAt, matteAt, pixelBytes, rowBytes, rowsBytes, rowMatte, rowsMatte}
 use Rattle.distort.specs.Call.{outWidth, frameOf, sourceOf, rowsOf, matteOf, left}
 use Rattle.distort.specs.Job.{Image, Given, Call}
-use Rattle.band.specs.Joined.{joined, totalled}
+use Rattle.put.specs.Joined.{joined, totalled}
 use Rattle.distort.specs.Refusal.{channelsOf, refusal}
-use Rattle.band.proofs.JoinedLaws.{joined-length, joined-part, joined-cut, joined-same, totalled-cut, totalled-same, totalled-most}
-use Rattle.band.proofs.LengthLaws.{row-length, row-matte-most}
+use Rattle.put.proofs.JoinedLaws.{joined-length, joined-part, joined-cut, joined-same, totalled-cut, totalled-same, totalled-most}
+use Rattle.put.proofs.LengthLaws.{row-length, row-matte-most}
 
 -- ---- of a source and a frame
 module _ (s : Source) (f : Frame) (channels width : ℕ) where

@@ -11,12 +11,12 @@ use Rattle.pixels.specs.Colour.{one, luma}
 use Rattle.sampler.specs.Finite.{FitsBy}
 use Rattle.pixels.specs.Pixel.{Picture, widened, pixelAt}
 use Rattle.pixels.specs.declared.colour.Rgba.{Rgba}
-use Rattle.band.specs.Band.{Frame, Source, colourAt, pixelBytes, rowBytes, rowsBytes}
+use Rattle.put.specs.Band.{Frame, Source, colourAt, pixelBytes, rowBytes, rowsBytes}
 use Rattle.distort.specs.Call.{outWidth, frameOf, sourceOf, rowsOf}
 use Rattle.distort.specs.Job.{Image, Given}
 use Rattle.distort.specs.Refusal.{channelsOf}
-use Rattle.band.proofs.LengthLaws.{row-length}
-use Rattle.band.proofs.PixelLaws.{pixel-length}
+use Rattle.put.proofs.LengthLaws.{row-length}
+use Rattle.put.proofs.PixelLaws.{pixel-length}
 use Rattle.distort.proofs.SampleLaws.{sample-joined, part, pixel-sample, pixel-grey, colour-of-fits, colour-fits}
 
 within-row : (i k w c : ℕ) → i < w → k < c → i * c + k < w * c

@@ -9,12 +9,12 @@ use lib.ListN.{getD}
 use Rattle.pixels.specs.Colour.{luma}
 use Rattle.pixels.specs.declared.colour.Rgba.{Rgba}
 use Rattle.exact.proofs.Loop.{upTo-keep}
-use Rattle.band.specs.Band.{colourAt, pixelBytes, rowBytes, rowsBytes}
+use Rattle.put.specs.Band.{colourAt, pixelBytes, rowBytes, rowsBytes}
 use Rattle.distort.specs.Call.{outWidth, frameOf, sourceOf, rowsOf}
 use Rattle.distort.specs.Job.{Image, Given}
-use Rattle.band.specs.Joined.{joined}
+use Rattle.put.specs.Joined.{joined}
 use Rattle.distort.specs.Refusal.{channelsOf}
-use Rattle.band.proofs.PixelLaws.{Channels, digits, sampleBytes, rgbBytes, bytes-one, bytes-three, bytes-four}
+use Rattle.put.proofs.PixelLaws.{Channels, digits, sampleBytes, rgbBytes, bytes-one, bytes-three, bytes-four}
 
 abbrev pub Bytes : List ℕ → Type 0
 Bytes xs = (i : ℕ) → getD xs i 0 < 256

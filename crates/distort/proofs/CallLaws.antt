@@ -13,7 +13,7 @@ use Rattle.exact.proofs.TableLaws.{row-holds, row-passed, no-rows}
 use Rattle.window.specs.Window.{xOf, yOf}
 use Rattle.distort.specs.declared.answer.Answer.{Answer}
 use Rattle.distort.specs.declared.answer.Answer.the-variants.{Accepted, Refused}
-use Rattle.band.specs.Band.{rowsBytes, rowsMatte}
+use Rattle.put.specs.Band.{rowsBytes, rowsMatte}
 use Rattle.distort.specs.Call.{outWidth, outHeight, frameOf, sourceOf, rowsOf, matteOf, answer, left}
 use Rattle.distort.specs.Job.{Image, Given, Call}
 use Rattle.distort.specs.Placed.{inWindow}

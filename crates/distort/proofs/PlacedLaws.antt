@@ -16,7 +16,7 @@ use Rattle.window.specs.declared.window.Placed.the-variants as Placed
 use Rattle.window.proofs.WindowLaws.{Side, Limits, window-limits}
 use Rattle.distort.specs.declared.answer.Answer.{Answer}
 use Rattle.distort.specs.declared.answer.Answer.the-variants.{Accepted, Refused}
-use Rattle.band.specs.Band.{Frame, Source, rowsBytes, rowsMatte}
+use Rattle.put.specs.Band.{Frame, Source, rowsBytes, rowsMatte}
 use Rattle.distort.specs.Placed.{inWindow, windowed}
 
 -- ---- rows and band

@@ -21,10 +21,10 @@ use Rattle.stored.specs.Store.{putSample, putRgb, narrowed, putPixel}
 use Rattle.pixels.specs.declared.colour.Rgba.{Rgba}
 use Rattle.sampler.proofs.InterpolateFinite.{interpolate-fits}
 use Rattle.point.specs.declared.point.Point.{Point}
-use Rattle.band.specs.Band.{Frame, Source, pointAt, shown, colourAt, pixelBytes}
+use Rattle.put.specs.Band.{Frame, Source, pointAt, shown, colourAt, pixelBytes}
 use Rattle.distort.specs.Job.{colourOf}
-use Rattle.band.specs.Joined.{joined}
-use Rattle.band.proofs.JoinedLaws.{joined-at}
+use Rattle.put.specs.Joined.{joined}
+use Rattle.put.proofs.JoinedLaws.{joined-at}
 
 -- ---- pieces of m samples each
 -- a number that stands further back

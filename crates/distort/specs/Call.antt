@@ -10,7 +10,7 @@ use Rattle.mappings.specs.declared.mapping.Mapping.{Mapping}
 use Rattle.window.specs.Window.{widthOf, heightOf, xOf, yOf}
 use Rattle.distort.specs.declared.answer.Answer.{Answer}
 use Rattle.distort.specs.declared.answer.Answer.the-variants.{Accepted, Refused}
-use Rattle.band.specs.Band.{Frame, Source, rowsBytes, rowsMatte}
+use Rattle.put.specs.Band.{Frame, Source, rowsBytes, rowsMatte}
 use Rattle.distort.specs.Job.{Image, Given, Call, colourOf}
 use Rattle.distort.specs.Refusal.{fitOf, windowOf, channelsOf, refusal}
 

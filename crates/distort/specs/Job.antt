@@ -6,7 +6,7 @@ use lib.Dec.{eqb}
 use lib.IntN.{ℤ, pos}
 use Rattle.pixels.specs.Pixel.{pixelAt}
 use Rattle.pixels.specs.declared.colour.Rgba.{Rgba}
-pub use Rattle.band.specs.Image.{Image, imageOf}
+pub use Rattle.put.specs.Image.{Image, imageOf}
 
 -- all that a call is given except picture, rows and band
 pub record Given : Type 0 where

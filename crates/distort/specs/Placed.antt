@@ -12,7 +12,7 @@ use Rattle.window.specs.declared.window.Placed.the-variants.{Window}
 use Rattle.window.specs.declared.window.Placed.the-variants as Placed
 use Rattle.distort.specs.declared.answer.Answer.{Answer}
 use Rattle.distort.specs.declared.answer.Answer.the-variants.{Accepted, Refused}
-use Rattle.band.specs.Band.{Frame, Source, rowsBytes, rowsMatte}
+use Rattle.put.specs.Band.{Frame, Source, rowsBytes, rowsMatte}
 
 -- in a window of this width and height
 unfoldable pub inWindow : Source → Frame → ℕ → ℕ → ℕ → ℕ → ℕ → List ℕ → Answer × List ℕ

@@ -10,7 +10,7 @@ use Rattle.endian.specs.Bytes.{sampleAt}
 use Rattle.number.specs.Magnitude.{within}
 use Rattle.number_probes.specs.Size.{wrongSize}
 use Rattle.cell.specs.Cell.{reach}
-use Rattle.sampler.specs.Interpolate.{interpolate}
+use Rattle.blend.specs.Interpolate.{interpolate}
 use Rattle.pixels.specs.Pixel.{pixelAt}
 use Rattle.stored.specs.Store.{putPixel}
 use Rattle.pixels.specs.declared.colour.Rgba.{Rgba}

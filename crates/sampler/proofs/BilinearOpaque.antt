@@ -17,7 +17,7 @@ use Rattle.number.specs.Floor.{floorI64}
 use Rattle.pixels.specs.At.{at}
 use Rattle.cell.specs.Cell.{Reached, fraction, cell}
 use Rattle.pixels.specs.Colour.{one}
-use Rattle.sampler.specs.Interpolate.{several, interpolate}
+use Rattle.blend.specs.Interpolate.{several, interpolate}
 use Rattle.cell.specs.Interpolation.{Bilinear, interpolation}
 use Rattle.sampler.specs.Opaque.{OpaquePlace, Exact, UnitExact, NearExact, NearSample}
 use Rattle.taps.specs.Taps.{Plane, tap, taps}

@@ -22,7 +22,7 @@ use Rattle.cell.specs.Cell.{Cell, Reached, fraction, cell}
 use Rattle.pixels.specs.Colour as Colour
 use Rattle.cubic.specs.Cubic.{catrom, spline}
 use Rattle.sampler.specs.Finite.{BoundedPicture, FitsBy}
-use Rattle.sampler.specs.Interpolate.{several, interpolated, interpolate}
+use Rattle.blend.specs.Interpolate.{several, interpolated, interpolate}
 use Rattle.cell.specs.Interpolation.{Interpolation, Integer, Nearest, Average, Average9, Average16, Bilinear, Catrom, Spline, Background, interpolation}
 use Rattle.pixels.specs.Pixel.{Picture}
 use Rattle.taps.specs.Taps.{Plane, side, count, sixteen, tap, taps}

@@ -2,7 +2,4 @@
 pub mod AtFinite
 pub mod AtOpaque
 pub mod BilinearOpaque
-pub mod InterpolateCode
 pub mod InterpolateFinite
-pub mod OpaqueCode
-pub mod SixteenCode

@@ -4,13 +4,13 @@ ghost use mathlib.Core.Path.{_≡_};
 ghost use Prim.Native.Nat.{_≤_, _<_};
 ghost use Rattle.pixels.specs.At.{at};
 ghost use Rattle.cell.specs.Cell.{Reached, cell};
-ghost use Rattle.sampler.specs.Interpolate as Interpolate;
+ghost use Rattle.blend.specs.Interpolate as Interpolate;
 ghost use Rattle.cell.specs.Interpolation.{interpolation};
 ghost use Rattle.pixels.specs.Pixel.{Picture};
-use crate::bilinear::bilinear;
-use crate::sixteen::cubic3;
-use crate::square::several;
+use blend::bilinear::bilinear;
+use blend::square::several;
 use cell::cell::first;
+use cubic3::sixteen::cubic3;
 use pixels::at::at;
 use pixels::colour::Rgba;
 

@@ -1,6 +1,2 @@
 // The sampler: from a source point to a colour, by the nine interpolations over the pixels at indexes.
-pub mod bilinear;
 pub mod interpolate;
-pub mod opaque;
-pub mod sixteen;
-pub mod square;

@@ -8,9 +8,9 @@ use borrow.Author.Needs.{needs}
 use mir.Syntax.{w64}
 use mir.Val.{toZ, ofZ}
 use mir.ValLaws.{toZ-ofZ}
-use Rattle.band.specs.Band.{Frame, Source, pointAt, colourAt, matteAt, rowBytes, rowMatte}
-use Rattle.band.proofs.PixelLaws.{channels-pos}
-use Rattle.band.proofs.RowLaws.{RowHolds, row-start, row-done, row-same, bit-most, place-small}
+use Rattle.put.specs.Band.{Frame, Source, pointAt, colourAt, matteAt, rowBytes, rowMatte}
+use Rattle.put.proofs.PixelLaws.{channels-pos}
+use Rattle.put.proofs.RowLaws.{RowHolds, row-start, row-done, row-same, bit-most, place-small}
 use Rattle.band.proofs.StretchLaws.{row-part, within-row, part-room, part-most}
 use Rattle.band.proofs.rows.put_row.Statement.{statement}
 use Rattle.band.proofs.rows.put_row.Tie as tie

@@ -8,9 +8,9 @@ use borrow.Author.Needs.{needs}
 use mir.Syntax.{w64}
 use mir.Val.{toZ}
 use mir.ValLaws.{toZ-ofZ}
-use Rattle.band.specs.Band.{Frame, Source, rowBytes, rowMatte, rowsBytes, rowsMatte}
-use Rattle.band.proofs.LengthLaws.{row-length, row-matte-most}
-use Rattle.band.proofs.RowLaws.{RowsHolds, rows-start, rows-fit, rows-part, rows-next, rows-done, rows-same, product-small}
+use Rattle.put.specs.Band.{Frame, Source, rowBytes, rowMatte, rowsBytes, rowsMatte}
+use Rattle.put.proofs.LengthLaws.{row-length, row-matte-most}
+use Rattle.put.proofs.RowLaws.{RowsHolds, rows-start, rows-fit, rows-part, rows-next, rows-done, rows-same, product-small}
 use Rattle.band.proofs.rows.put_rows.Statement.{statement}
 use Rattle.band.proofs.rows.put_rows.Tie as tie
 

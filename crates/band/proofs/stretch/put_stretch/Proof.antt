@@ -4,7 +4,7 @@ use borrow.Author.Needs.{needs}
 use mir.Syntax.{w64}
 use mir.Val.{toZ, ofZ}
 use mir.ValLaws.{toZ-ofZ}
-use Rattle.band.specs.Band.{Frame, Source}
+use Rattle.put.specs.Band.{Frame, Source}
 use Rattle.band.proofs.StretchLaws.{stretch-mattes, stretch-colours}
 use Rattle.band.proofs.stretch.put_stretch.Statement.{statement}
 use Rattle.band.proofs.stretch.put_stretch.Tie as tie

@@ -5,7 +5,7 @@ use Prim.Native.Nat.{ℕ, _+_, _*_}
 use lib.ListN.{take, drop}
 use denote.Ref.{now}
 use borrow.Author.Needs.{needs}
-use Rattle.band.proofs.PlainLaws.{cells-inside, cells-units, cells-mattes, cells-colours}
+use Rattle.plain.proofs.PlainLaws.{cells-inside, cells-units, cells-mattes, cells-colours}
 use Rattle.band.proofs.three.put_bilinear.Statement.{statement}
 use Rattle.band.proofs.three.put_bilinear.Tie as tie
 

@@ -5,7 +5,7 @@ use Prim.Native.Nat.{ℕ, _+_, _*_}
 use borrow.Author.Needs.{needs}
 use lib.ListN.{take, drop}
 use denote.Ref.{now}
-use Rattle.band.proofs.PlainLaws.{places-within, places-mattes, places-colours}
+use Rattle.plain.proofs.PlainLaws.{places-within, places-mattes, places-colours}
 use Rattle.band.proofs.three.put_single.Statement.{statement}
 use Rattle.band.proofs.three.put_single.Tie as tie
 

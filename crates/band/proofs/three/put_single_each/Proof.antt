@@ -8,9 +8,9 @@ use native.Mathlib.Omega.{arith}
 use borrow.Author.Needs.{needs}
 use Rattle.matrix.specs.Matrix.{at}
 use Rattle.point.specs.Point.{usable}
-use Rattle.band.specs.Band.{Source, keptColour, keptMatte}
-use Rattle.band.proofs.PixelLaws.{channels-pos}
-use Rattle.band.proofs.RowLaws.{RowHolds, row-start, row-room, row-one, row-next, row-done, row-same, bit-most, place-small}
+use Rattle.put.specs.Band.{Source, keptColour, keptMatte}
+use Rattle.put.proofs.PixelLaws.{channels-pos}
+use Rattle.put.proofs.RowLaws.{RowHolds, row-start, row-room, row-one, row-next, row-done, row-same, bit-most, place-small}
 use Rattle.band.proofs.three.put_single_each.Statement.{statement}
 use Rattle.band.proofs.three.put_single_each.Tie as tie
 

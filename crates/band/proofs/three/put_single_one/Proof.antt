@@ -3,8 +3,8 @@ use mathlib.Core.Path.{_≡_, sym, ap, _∙_}
 use mathlib.Core.Bool.{Bool, true}
 use borrow.Author.Needs.{needs}
 use Rattle.point.specs.declared.point.Point.{Point}
-use Rattle.band.specs.Band.{shown}
-use Rattle.band.proofs.ReachLaws.{both-reached}
+use Rattle.put.specs.Band.{shown}
+use Rattle.put.proofs.ReachLaws.{both-reached}
 use Rattle.band.proofs.three.put_single_one.Statement.{statement}
 use Rattle.band.proofs.three.put_single_one.Tie as tie
 

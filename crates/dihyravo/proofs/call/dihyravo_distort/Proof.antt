@@ -7,7 +7,7 @@ use mir.Syntax.{w64}
 use mir.Val.{ofZ, toZ}
 use mir.ValLaws.{toZ-ofZ}
 use Rattle.distort.specs.Job.{Call, callOf}
-use Rattle.dihyravo.proofs.EntryLaws.{number-of, band-of, answer-of}
+use Rattle.dihyravo.proofs.EntryLaws.{all-of}
 use Rattle.dihyravo.proofs.call.dihyravo_distort.Statement.{statement}
 use Rattle.dihyravo.proofs.call.dihyravo_distort.Tie as tie
 
@@ -25,7 +25,7 @@ returns c =
     let s = c .before .before .before .before .before .before .before .before .before in
     let done = c .before .before .before .before .distort .ensures in
     let put = c .put-answer .ensures in
-    (number-of (same s) (done .0) (put .0), (band-of (same s) (done .1), answer-of (same s) (now (s .args .answer)) (done .0) (put .1)))
+    all-of (same s) (now (s .args .answer)) (done .0) (done .1) (put .0) (put .1)
 
 pub dihyravo-distort-spec : {M : Type 1} → statement M
 dihyravo-distort-spec = tie.close (tie.spec (λ c κs. search needs) (λ c κs. search needs) (λ c. search needs) returns)

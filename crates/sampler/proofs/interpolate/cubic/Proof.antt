@@ -2,8 +2,8 @@
 use mathlib.Core.Path.{sym, _∙_}
 use Prim.Native.Nat.{ℕ, _≤_}
 use native.Mathlib.Omega.{arith}
-use Rattle.sampler.specs.Interpolate.{interpolate}
-use Rattle.sampler.proofs.InterpolateCode.{several-code}
+use Rattle.blend.specs.Interpolate.{interpolate}
+use Rattle.blend.proofs.InterpolateCode.{several-code}
 use mathlib.Core.Path.{_≡_, refl, sym, ap, _∙_}
 use Prim.Native.Nat.{ℕ, _+_, _-_, _≤_, _<_}
 use native.Mathlib.Omega.{arith}

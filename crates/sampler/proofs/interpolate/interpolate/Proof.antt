@@ -4,8 +4,8 @@ use Prim.Native.Nat.{ℕ, _≤_, _<_}
 use native.Mathlib.Omega.{arith}
 use Rattle.cell.specs.Interpolation.{interpolation}
 use Rattle.cell.proofs.InterpolationCode.{background-code}
-use Rattle.sampler.specs.Interpolate.{interpolate}
-use Rattle.sampler.proofs.InterpolateCode.{single-code, several-code}
+use Rattle.blend.specs.Interpolate.{interpolate}
+use Rattle.blend.proofs.InterpolateCode.{single-code, several-code}
 use mathlib.Core.Path.{_≡_, refl, sym, ap, _∙_}
 use Prim.Native.Nat.{ℕ, _+_, _-_, _≤_, _<_}
 use native.Mathlib.Omega.{arith}

@@ -1,0 +1,2 @@
+-- The laws of an interpolation by its code.
+pub mod InterpolateCode

@@ -1,0 +1,2 @@
+-- The definitions of the sums over sixteen taps.
+pub mod Sixteen

@@ -1,0 +1,2 @@
+-- The laws of the ways of three channels.
+pub mod OpaqueCode

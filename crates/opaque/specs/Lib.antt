@@ -1,0 +1,2 @@
+-- The definition of the sums over four taps.
+pub mod Square

@@ -1,0 +1,2 @@
+-- The definitions of a stretch inside.
+pub mod Plain

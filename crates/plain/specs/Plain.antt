@@ -1,0 +1,69 @@
+-- A stretch whose places or cells lie inside a picture of three channels. By `Bilinear`: each point's four weights and their sum, and the colour that they make of the
+-- cell's four pixels. Assumes nothing.
+use Prim.Native.Nat.{ℕ, _+_, _<_}
+use mathlib.Core.Path.{_≡_}
+use mathlib.Core.Bool.{not}
+use mathlib.Core.List.{List, [], _∷_}
+use lib.Dec.{T}
+use lib.ListN.{getD}
+use lib.Ieee.{Float, isNan}
+use Rattle.exact.specs.Single.{_⊘_}
+use Rattle.exact.specs.Weighted.{w00, w10, w01, w11, weightSum, Unit32}
+use Rattle.matrix.specs.Matrix.{at}
+use Rattle.pixels.specs.Colour.{one}
+use Rattle.pixels.specs.Pixel.{pixelAt}
+use Rattle.pixels.specs.declared.colour.Rgba.{Rgba}
+use Rattle.weighted.specs.Weighted.{weighted}
+use Rattle.taps.specs.Weights.{corners}
+use Rattle.weighted.specs.declared.weighted.Sums.{Sums}
+use Rattle.opaque.specs.Square.{squareSums}
+
+-- the first n places lie inside: their columns and rows
+pub record Within (width height n : ℕ) (columns rows : List ℕ) : Type 0 where
+  pub column : (k : ℕ) → k < n → getD columns k 0 < width
+  pub row : (k : ℕ) → k < n → getD rows k 0 < height
+
+-- the first n cells lie inside: their columns and rows, and the next of each
+pub record Inside (width height n : ℕ) (columns rows : List ℕ) : Type 0 where
+  pub column : (k : ℕ) → k < n → getD columns k 0 + 1 < width
+  pub row : (k : ℕ) → k < n → getD rows k 0 + 1 < height
+
+-- the first n fractions are f32 numbers from 0 to 1
+pub record Fractions (n : ℕ) (ts : List Float) : Type 0 where
+  pub unit : (k : ℕ) → k < n → Unit32 (at ts k)
+
+-- the colour of the cell at column i and row j, for a point with the fractions tx and ty
+unfoldable pub blend : List ℕ → ℕ → ℕ → ℕ → Float → Float → Rgba
+blend bytes width i j tx ty =
+    weighted (pixelAt bytes width 3 i j ∷ pixelAt bytes width 3 (i + 1) j ∷ pixelAt bytes width 3 i (j + 1) ∷ pixelAt bytes width 3 (i + 1) (j + 1) ∷ []) (corners tx ty) 4
+
+-- ---- how it is worked out
+-- the weights of the four taps at the fractions tx and ty, and their sum
+pub record Weighed (tx ty a b c d s : Float) : Type 0 where
+  pub at-00 : a ≡ w00 tx ty
+  pub at-10 : b ≡ w10 tx ty
+  pub at-01 : c ≡ w01 tx ty
+  pub at-11 : d ≡ w11 tx ty
+  pub total : s ≡ weightSum tx ty
+
+-- the same of the first n of seven lists
+pub record Weights (n : ℕ) (xs ys w₀₀ w₁₀ w₀₁ w₁₁ ws : List Float) : Type 0 where
+  pub weighed : (k : ℕ) → k < n → Weighed (at xs k) (at ys k) (at w₀₀ k) (at w₁₀ k) (at w₀₁ k) (at w₁₁ k) (at ws k)
+
+-- the three samples that are put are no NaNs
+pub record Numbers (c : Rgba) : Type 0 where
+  pub red : T (not (isNan (c .r)))
+  pub green : T (not (isNan (c .g)))
+  pub blue : T (not (isNan (c .b)))
+
+-- the sums of colours over the sum of weights; an opaque colour
+abbrev pub over : Sums → Float → Rgba
+over s t = record { r = s .r ⊘ t; g = s .g ⊘ t; b = s .b ⊘ t; a = one }
+
+-- the cell's colour by given weights and their sum
+unfoldable pub mixed : List ℕ → ℕ → ℕ → ℕ → Float → Float → Float → Float → Float → Rgba
+mixed bytes width i j a b c d s = over (squareSums bytes width i j a b c d) s
+
+-- the first n colours so made are numbers
+pub record Mixable (bytes : List ℕ) (width n : ℕ) (columns rows : List ℕ) (w₀₀ w₁₀ w₀₁ w₁₁ ws : List Float) : Type 0 where
+  pub numbers : (k : ℕ) → k < n → Numbers (mixed bytes width (getD columns k 0) (getD rows k 0) (at w₀₀ k) (at w₁₀ k) (at w₀₁ k) (at w₁₁ k) (at ws k))

@@ -1,0 +1,6 @@
+-- The laws of pixels put one after another, a file for each subject.
+pub mod JoinedLaws
+pub mod LengthLaws
+pub mod PixelLaws
+pub mod ReachLaws
+pub mod RowLaws

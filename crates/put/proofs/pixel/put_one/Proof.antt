@@ -1,0 +1,25 @@
+-- `put::pixel::put_one` meets its contract: one call after the other, and the mark of the source point is its test. Assumes nothing.
+use mathlib.Core.Path.{_∙_, subst⁻¹}
+use borrow.Author.Needs.{needs}
+use Rattle.points.proofs.MarkLaws.{Marked}
+use Rattle.put.proofs.pixel.put_one.Statement.{statement}
+use Rattle.put.proofs.pixel.put_one.Tie as tie
+
+shown-requires : tie.Need-shown-requires
+shown-requires c κs = (search needs, subst⁻¹ Marked (c .before .point .ensures) (record { means = λ h. h }) .means)
+
+returns : tie.Need-returns
+returns c =
+    let e = c .before .before .before .before .before .before in
+    (c .missed .ensures ∙ rw (e .point .ensures), c .before .before .before .put-pixel .ensures ∙ rw (c .before .before .before .before .shown .ensures, e .point .ensures))
+
+pub put-one-spec : {M : Type 1} → statement M
+put-one-spec =
+    tie.close
+    (tie.spec
+    (λ c κs. search needs)
+    shown-requires
+    (λ c κs. search needs)
+    (λ c κs. search needs)
+    (λ c. search needs)
+    returns)

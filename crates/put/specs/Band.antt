@@ -1,0 +1,78 @@
+-- The band: rows of output pixels in bytes, whatever it held before, and how many of them are matte. An output pixel is asked at its middle; where
+-- its source point is none or unusable it is matte, and else the picture's colour there, half a pixel back into index space. Assumes nothing.
+use Prim.Native.Nat.{ℕ, _+_, _*_}
+use mathlib.Core.Bool.{Bool, cond}
+use mathlib.Core.List.{List}
+use lib.Ieee.{Float}
+use lib.IntN.{ℤ}
+use lib.ListN.{replicate}
+use Rattle.exact.specs.Double.{_⊖_}
+use Rattle.exact.specs.Sums.{asked}
+use Rattle.exact.specs.Warp.{half}
+use Rattle.matrix.specs.Matrix.{Vector}
+use Rattle.inverse.specs.Inverse.{inverse}
+use Rattle.point.specs.Point.{point, usable}
+use Rattle.point.specs.declared.point.Point.{Point}
+use Rattle.blend.specs.Interpolate.{interpolate}
+use Rattle.stored.specs.Store.{putPixel}
+use Rattle.pixels.specs.declared.colour.Rgba.{Rgba}
+use Rattle.put.specs.Image.{Image}
+use Rattle.put.specs.Joined.{joined, totalled}
+
+-- ---- what a pixel is worked from
+-- the mapping, and where the window lies
+pub record Frame : Type 0 where
+  pub kind : ℕ
+  pub order : ℕ
+  pub count : ℕ
+  pub coef : Vector
+  pub x : ℤ
+  pub y : ℤ
+
+-- the picture with its surroundings, and the colour of pixels that have no source
+pub record Source : Type 0 where
+  pub image : Image
+  pub policy : ℕ
+  pub interpolation : ℕ
+  pub background : Rgba
+  pub matte : Rgba
+
+-- ---- one pixel, at column i and row j of the window
+abbrev pub pointAt : Frame → ℕ → ℕ → Point
+pointAt f i j = inverse (f .kind) (f .order) (f .count) (f .coef) (asked i (f .x)) (asked j (f .y))
+
+unfoldable pub shown : Source → Point → Rgba
+shown s p =
+    cond (p .usable)
+    (interpolate (s .image .bytes) (s .image .width) (s .image .height) (s .image .channels) (s .policy) (s .interpolation) (s .background) (p .u ⊖ half) (p .v ⊖ half))
+    (s .matte)
+
+abbrev pub colourAt : Source → Frame → ℕ → ℕ → Rgba
+colourAt s f i j = shown s (pointAt f i j)
+
+abbrev pub matteAt : Frame → ℕ → ℕ → ℕ
+matteAt f i j = cond (pointAt f i j .usable) 0 1
+
+-- both where only the coordinates of its source point are kept, a NaN where it has none
+abbrev pub keptColour : Source → Float → Float → Rgba
+keptColour s u v = shown s (point u v)
+
+abbrev pub keptMatte : Float → Float → ℕ
+keptMatte u v = cond (usable u v) 0 1
+
+-- its bytes, four a sample
+abbrev pub pixelBytes : ℕ → Rgba → List ℕ
+pixelBytes channels c = putPixel (replicate (channels * 4) 0) channels 0 c
+
+-- ---- row j, and then rows from `first` on, of a window of this width
+unfoldable pub rowBytes : Source → Frame → ℕ → ℕ → ℕ → List ℕ
+rowBytes s f channels width j = joined (λ (i : ℕ). pixelBytes channels (colourAt s f i j)) width
+
+unfoldable pub rowsBytes : Source → Frame → ℕ → ℕ → ℕ → ℕ → List ℕ
+rowsBytes s f channels width first rows = joined (λ (r : ℕ). rowBytes s f channels width (first + r)) rows
+
+unfoldable pub rowMatte : Frame → ℕ → ℕ → ℕ
+rowMatte f width j = totalled (λ (i : ℕ). matteAt f i j) width
+
+unfoldable pub rowsMatte : Frame → ℕ → ℕ → ℕ → ℕ
+rowsMatte f width first rows = totalled (λ (r : ℕ). rowMatte f width (first + r)) rows

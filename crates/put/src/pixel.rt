@@ -1,0 +1,97 @@
+// One pixel of the band: shown from the picture half a pixel back from its source point in index space, or matte. Assumes that the bytes are
+// a picture's, and that the band has room for the pixel.
+ghost use mathlib.Core.Path.{_≡_};
+ghost use mathlib.Core.Bool.{true, cond};
+ghost use Prim.Native.Nat.{_+_, _*_, _≤_, _<_};
+ghost use lib.ListN.{length};
+ghost use Rattle.pixels.specs.Pixel.{Picture};
+ghost use Rattle.stored.specs.Store.{putPixel};
+ghost use Rattle.point.specs.Point as Points;
+ghost use Rattle.put.specs.Band as Band;
+ghost use Rattle.put.specs.Band.{keptColour, keptMatte};
+use pixels::colour::Rgba;
+use point::point::Point;
+use point::usable::point;
+use sampler::interpolate::interpolate;
+use stored::store::put_pixel;
+
+// The colour at a source point, whose mark says that its coordinates can be used.
+fn shown(
+    picture: &[u8],
+    width: u64,
+    height: u64,
+    channels: u64,
+    policy: u64,
+    interpolation: u64,
+    background: Rgba,
+    matte: Rgba,
+    p: Point,
+) -> Rgba
+    requires { ⌜ Picture (now picture) width height channels ⌝ }
+    requires { ⌜ (p .usable ≡ true → Points.usable (p .u) (p .v) ≡ true) ⌝ }
+    ensures { λ r.
+        ⌜ r ≡ Band.shown (record { image = record { bytes = now (picture .entry); width = width; height = height; channels = channels }; policy = policy; interpolation = interpolation; background = background; matte = matte }) p ⌝ }
+{
+    if p.usable {
+        return interpolate(
+            picture,
+            width,
+            height,
+            channels,
+            policy,
+            interpolation,
+            background,
+            p.u - 0.5,
+            p.v - 0.5,
+        );
+    }
+    matte
+}
+
+// What a source point adds to the matte pixels.
+fn missed(p: Point) -> u64
+    ensures { λ r. ⌜ r ≡ cond (p .usable) 0 1 ⌝ }
+{
+    if p.usable { 0 } else { 1 }
+}
+
+// The pixel whose source point is kept as u and v, put as the band's pixel numbered `place` of `depth` samples; and what it adds to the matte pixels.
+pub fn put_one(
+    picture: &[u8],
+    width: u64,
+    height: u64,
+    channels: u64,
+    policy: u64,
+    interpolation: u64,
+    background: Rgba,
+    matte: Rgba,
+    depth: u64,
+    u: f64,
+    v: f64,
+    place: u64,
+    band: &mut [u8],
+) -> u64
+    requires { ⌜ Picture (now picture) width height channels ⌝ }
+    requires { ⌜ (0 < depth) × ((place * depth + depth) * 4 ≤ length (now band)) ⌝ }
+    ensures { λ r.
+        ⌜ (r ≡ keptMatte u v) × (now (band .exit) ≡ putPixel (now (band .entry)) depth place (keptColour (record { image = record { bytes = now (picture .entry); width = width; height = height; channels = channels }; policy = policy; interpolation = interpolation; background = background; matte = matte }) u v)) ⌝ }
+{
+    let p = point(u, v);
+    put_pixel(
+        band,
+        depth,
+        place,
+        shown(
+            picture,
+            width,
+            height,
+            channels,
+            policy,
+            interpolation,
+            background,
+            matte,
+            p,
+        ),
+    );
+    missed(p)
+}

@@ -1,0 +1,145 @@
+-- A stretch by `Catrom` or `Spline` inside. Between a cell's ends the four weights are those of known pieces; the square one before the point's cell is the one that
+-- `interpolate` takes.
+-- Provides: `past-none`, `past-more`, `Weighing4`, `weigh4-none`, `weigh4-more`, `weigh4-last` (the loops); `kernel-catrom`, `kernel-spline` (by the code); `standing`, `both-true` (two answers); `cubic-squares`, `cubic-mattes`, `cubic-colours` (from cells to the
+-- band's definition). Assumes nothing.
+use mathlib.Core.Path.{_≡_, refl, sym, ap, _∙_}
+use mathlib.Core.Logic.{_≢_}
+use mathlib.Core.Bool.{Bool, true, false, cond, _&&_, false≢true}
+use mathlib.Core.List.{List, [], _∷_}
+use Prim.Native.Nat.{ℕ, zero, suc, _+_, _-_, _*_, _≤_, _<_}
+use native.Mathlib.Nat.{not-suc-le-zero}
+use native.Mathlib.Omega.{arith}
+use borrow.Author.Count.{below-more}
+use borrow.Author.Tests.{ltb-true, ne-eqb}
+use lib.Dec.{ltb}
+use lib.IntN.{ℤ, pos, _-ℤ_, -ℤ-one}
+use lib.ListN.{length, getD, set, length-set}
+use lib.Seq.{getD-set-same, getD-set-other}
+use lib.Ieee.{Float, nan}
+use Rattle.exact.specs.Double.{_⊖_}
+use Rattle.exact.specs.Warp.{half}
+use Rattle.matrix.specs.Matrix.{at}
+use Rattle.pixels.specs.declared.colour.Rgba.{Rgba}
+use Rattle.cubic.specs.Cubic as Cubic
+use Rattle.cubic.specs.Cubic.{cubicWeights}
+use Rattle.cells.specs.Cells.{Cell, Cells}
+use Rattle.cubic3.specs.Sixteen.{kernel}
+use Rattle.cubic3.proofs.SixteenCode.{cubic-inside}
+use Rattle.put.specs.Band.{shown, keptColour, keptMatte, pixelBytes}
+use Rattle.put.specs.Joined.{joined, totalled}
+use Rattle.squares.specs.Kernels.{Squares, Past, Weighed4, Kernels, Standing, ofFour, squared}
+use Rattle.put.proofs.JoinedLaws.{joined-same}
+use Rattle.plain.proofs.PlainLaws.{marked, no-matte, no-mattes}
+
+both : (a b : Bool) → (a && b) ≡ true → (a ≡ true) × (b ≡ true)
+both true b h = (refl, h)
+both false b h = absurd (false≢true h)
+
+-- ---- the loop over columns or rows
+pub past-none : (cs : List ℕ) → Past 0 cs
+past-none cs = record { past = λ k h. absurd (not-suc-le-zero h) }
+
+pub past-more : {cs : List ℕ} (k : ℕ) (good : Bool) → (good ≡ true → Past k cs) → good && ltb 0 (getD cs k 0) ≡ true → Past (k + 1) cs
+past-more {cs} k good old e =
+    let l = both good (ltb 0 (getD cs k 0)) e in
+    record { past = below-more (λ (i : ℕ). 0 < getD cs i 0) k (old (l .0) .past) (ltb-true 0 (getD cs k 0) (l .1)) }
+
+pub past-last : {cs : List ℕ} (k n : ℕ) → n ≤ k → Past k cs → Past n cs
+past-last k n a P = record { past = λ i h. P .past i (omega arith) }
+
+-- ---- the loop over weights
+-- what it knows after k turns: k fractions are weighed if the answer is still true, in lists of 64 places
+pub record Weighing4 (b c : Float) (k : ℕ) (good : Bool) (ts w₀ w₁ w₂ w₃ : List Float) : Type 0 where
+  pub done : good ≡ true → Weighed4 b c k ts w₀ w₁ w₂ w₃
+  pub long-0 : length w₀ ≡ 64
+  pub long-1 : length w₁ ≡ 64
+  pub long-2 : length w₂ ≡ 64
+  pub long-3 : length w₃ ≡ 64
+
+module _ {b c : Float} {ts w₀ w₁ w₂ w₃ : List Float} where
+  pub weigh4-none : length w₀ ≡ 64 → length w₁ ≡ 64 → length w₂ ≡ 64 → length w₃ ≡ 64 → Weighing4 b c 0 true ts w₀ w₁ w₂ w₃
+  weigh4-none p q r s = record { done = λ e. record { weights = λ k h. absurd (not-suc-le-zero h) }; long-0 = p; long-1 = q; long-2 = r; long-3 = s }
+
+  pub weigh4-more : (k : ℕ) → k < 64 → {good t : Bool} {p q r s : Float} → (t ≡ true → (p ∷ q ∷ r ∷ s ∷ []) ≡ cubicWeights (at ts k) b c) → Weighing4 b c k good ts w₀ w₁ w₂ w₃
+      → Weighing4 b c (k + 1) (good && t) ts (set w₀ k p) (set w₁ k q) (set w₂ k r) (set w₃ k s)
+  weigh4-more k l {good} {t} {p} {q} {r} {s} new old =
+      record {
+        done = λ e.
+            let g = both good t e in
+            record {
+              weights =
+                  below-more (λ (i : ℕ). ofFour (set w₀ k p) (set w₁ k q) (set w₂ k r) (set w₃ k s) i ≡ cubicWeights (at ts i) b c) k
+                  (λ i h. rw (getD-set-other w₀ k i p nan (below i h), getD-set-other w₁ k i q nan (below i h), getD-set-other w₂ k i r nan (below i h), getD-set-other w₃ k i s nan (below i h)) (old .done (g .0) .weights i h))
+                  (rw (getD-set-same w₀ k p nan (rw (old .long-0) l), getD-set-same w₁ k q nan (rw (old .long-1) l), getD-set-same w₂ k r nan (rw (old .long-2) l), getD-set-same w₃ k s nan (rw (old .long-3) l)) (new (g .1)));
+            };
+        long-0 = length-set w₀ k p ∙ old .long-0;
+        long-1 = length-set w₁ k q ∙ old .long-1;
+        long-2 = length-set w₂ k r ∙ old .long-2;
+        long-3 = length-set w₃ k s ∙ old .long-3;
+      }
+    where
+      below : (i : ℕ) → i < k → i ≢ k
+      below i h e = omega arith
+
+  pub weigh4-last : (k n : ℕ) {good : Bool} → n ≤ k → Weighing4 b c k good ts w₀ w₁ w₂ w₃ → good ≡ true → Weighed4 b c n ts w₀ w₁ w₂ w₃
+  weigh4-last k n a s e = record { weights = λ i h. s .done e .weights i (omega arith) }
+
+-- ---- by the code
+module _ {code n : ℕ} {ts w₀ w₁ w₂ w₃ : List Float} where
+  pub kernel-catrom : code ≡ 6 → Weighed4 Cubic.zero Cubic.half n ts w₀ w₁ w₂ w₃ → Kernels code n ts w₀ w₁ w₂ w₃
+  unfolding kernel
+  kernel-catrom e W = record { weights = λ k l. W .weights k l ∙ rw e }
+
+  pub kernel-spline : (code ≡ 6 → ⊥) → Weighed4 Cubic.one Cubic.zero n ts w₀ w₁ w₂ w₃ → Kernels code n ts w₀ w₁ w₂ w₃
+  unfolding kernel
+  kernel-spline e W = record { weights = λ k l. W .weights k l ∙ rw (ne-eqb code 6 e) }
+
+-- ---- a point's own square
+one-back : (c : ℕ) → 0 < c → pos c -ℤ pos 1 ≡ pos (c - 1)
+one-back zero h = absurd (not-suc-le-zero h)
+one-back (suc n) h = -ℤ-one (pos (suc n)) ∙ ap pos (go n)
+  where
+    go : (n : ℕ) → n ≡ suc n - 1
+    go n = omega arith
+
+two-on : (c n : ℕ) → 0 < c → c < n - 2 → c - 1 + 3 < n
+two-on c n h l = omega arith
+
+square-colour : (bytes : List ℕ) (w h policy : ℕ) (background matte : Rgba) (code : ℕ) → 6 ≤ code → code < 8 → {u v tx ty : Float} {i j : ℕ} {wx wy : List Float}
+    → Cell (w - 2) u i tx → Cell (h - 2) v j ty → 0 < i → 0 < j → wx ≡ kernel code tx → wy ≡ kernel code ty
+    → squared bytes w i j wx wy
+    ≡ keptColour (record { image = record { bytes = bytes; width = w; height = h; channels = 3 }; policy = policy; interpolation = code; background = background; matte = matte }) u v
+unfolding shown squared
+square-colour bytes w h policy background matte code least most {u} {v} {tx} {ty} {i} {j} C D hi hj kx ky =
+    rw (marked u v (C .usable) (D .usable))
+    (cubic-inside bytes w h policy background (u ⊖ half) (v ⊖ half) code least most (i - 1) (j - 1) (two-on i w hi (C .below)) (two-on j h hj (D .below))
+    (sym (ap (λ (z : ℤ). z -ℤ pos 1) (C .floor) ∙ one-back i hi)) (sym (ap (λ (z : ℤ). z -ℤ pos 1) (D .floor) ∙ one-back j hj)) (C .fraction) (D .fraction) kx ky refl)
+
+-- ---- a stretch of them
+module _ {w h n : ℕ} {us vs : List Float} {columns rows : List ℕ} {xs ys : List Float} (S : Standing w h n us vs columns rows xs ys) where
+  pub cubic-squares : Squares w h n columns rows
+  cubic-squares = record { left = S .left .past; right = λ k l. on _ w (S .across .cell k l .below); above = S .above .past; under = λ k l. on _ h (S .down .cell k l .below) }
+    where
+      on : (c n : ℕ) → c < n - 2 → c + 2 < n
+      on c n l = omega arith
+
+  pub cubic-mattes : 0 ≡ totalled (λ (k : ℕ). keptMatte (at us k) (at vs k)) n
+  cubic-mattes = no-mattes n us vs (λ k l. no-matte (at us k) (at vs k) (S .across .cell k l .usable) (S .down .cell k l .usable))
+
+  pub cubic-colours : {x₀ x₁ x₂ x₃ y₀ y₁ y₂ y₃ : List Float} (code : ℕ) → Kernels code n xs x₀ x₁ x₂ x₃ → Kernels code n ys y₀ y₁ y₂ y₃ → (bytes : List ℕ) (policy : ℕ) (background matte : Rgba) → 6 ≤ code → code < 8
+      → joined (λ (k : ℕ). pixelBytes 3 (squared bytes w (getD columns k 0) (getD rows k 0) (ofFour x₀ x₁ x₂ x₃ k) (ofFour y₀ y₁ y₂ y₃ k))) n
+      ≡ joined (λ (k : ℕ). pixelBytes 3 (keptColour (record { image = record { bytes = bytes; width = w; height = h; channels = 3 }; policy = policy; interpolation = code; background = background; matte = matte }) (at us k) (at vs k))) n
+  cubic-colours {x₀} {x₁} {x₂} {x₃} {y₀} {y₁} {y₂} {y₃} code X Y bytes policy background matte least most =
+      joined-same (λ (k : ℕ). pixelBytes 3 (squared bytes w (getD columns k 0) (getD rows k 0) (ofFour x₀ x₁ x₂ x₃ k) (ofFour y₀ y₁ y₂ y₃ k)))
+      (λ (k : ℕ). pixelBytes 3 (keptColour (record { image = record { bytes = bytes; width = w; height = h; channels = 3 }; policy = policy; interpolation = code; background = background; matte = matte }) (at us k) (at vs k))) n
+      (λ k l. ap (pixelBytes 3) (square-colour bytes w h policy background matte code least most (S .across .cell k l) (S .down .cell k l) (S .left .past k l) (S .above .past k l) (X .weights k l) (Y .weights k l)))
+
+-- both answers
+pub standing : {w h p q n : ℕ} {us vs : List Float} {columns rows : List ℕ} {xs ys : List Float} {a b : Bool} → p ≡ w - 2 → q ≡ h - 2 → Cells p n us columns xs → Cells q n vs rows ys
+    → (a ≡ true → Past n columns) → (b ≡ true → Past n rows) → a && b ≡ true → Standing w h n us vs columns rows xs ys
+standing {w} {h} {p} {q} {n} {us} {vs} {columns} {rows} {xs} {ys} {a} {b} e f C D P Q t =
+    let l = both a b t in
+    record { across = rw e at C; down = rw f at D; left = P (l .0); above = Q (l .1) }
+
+pub both-true : {A B : Type 0} (a b : Bool) → (a ≡ true → A) → (b ≡ true → B) → a && b ≡ true → A × B
+both-true a b f g t = let l = both a b t in (f (l .0), g (l .1))

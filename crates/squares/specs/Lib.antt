@@ -1,0 +1,2 @@
+-- The definitions of the weights of a stretch.
+pub mod Kernels

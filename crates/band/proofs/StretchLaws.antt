@@ -114,3 +114,12 @@ three-left bytes width height policy background matte us vs n place b {channels}
 
 pub three-room : (place n : ℕ) {depth l : ℕ} → depth ≡ 3 → (place + n) * depth * 4 ≤ l → (place + n) * 3 * 4 ≤ l
 three-room place n {depth} {l} e r = subst (λ (z : ℕ). (place + n) * z * 4 ≤ l) e r
+
+-- a band that is as it was has the same room, and what is put into it is the same
+pub same-room : {a b : List ℕ} {m : ℕ} → a ≡ b → m ≤ length b → m ≤ length a
+same-room p h = rw p h
+
+pub same-put : (s : Source) (depth : ℕ) (us vs : List Float) (n place : ℕ) {a b x : List ℕ} → a ≡ b
+    → x ≡ take (place * depth * 4) a ++ joined (λ (k : ℕ). pixelBytes depth (keptColour s (at us k) (at vs k))) n ++ drop ((place + n) * depth * 4) a
+    → x ≡ take (place * depth * 4) b ++ joined (λ (k : ℕ). pixelBytes depth (keptColour s (at us k) (at vs k))) n ++ drop ((place + n) * depth * 4) b
+same-put s depth us vs n place p e = e ∙ ap (λ (z : List ℕ). take (place * depth * 4) z ++ joined (λ (k : ℕ). pixelBytes depth (keptColour s (at us k) (at vs k))) n ++ drop ((place + n) * depth * 4) z) p

@@ -1,6 +1,7 @@
 // A stretch of a row: up to 64 neighbouring pixels, whose source points are worked out first and kept as two arrays of coordinates, and whose colours
 // come then. So each of the two is a loop that does one thing. Assumes that the bytes are a picture's and that the band has room for the stretch.
 ghost use mathlib.Core.Path.{_≡_};
+ghost use mathlib.Core.Bool.{true, false};
 ghost use mathlib.Core.Logic.{_⊎_};
 ghost use mathlib.Core.List.{_++_};
 ghost use Prim.Native.Nat.{ℕ, _+_, _*_, _≤_};
@@ -17,7 +18,93 @@ use points::points::points;
 use put::any::put_any;
 use squares::sixteen::put_cubic;
 
-// The colours of n pixels by the loop that is made for them, or by `put_any`: put `depth` samples a pixel from the band's pixel numbered `place` on; and how many are matte.
+// Whether a loop was there that is made for such pixels, and then how many were matte.
+struct Tried {
+    done: bool,
+    missed: u64,
+}
+
+// The colours of n pixels by the loop that is made for them, if there is one. Else nothing is put.
+fn put_three(
+    picture: &[u8],
+    width: u64,
+    height: u64,
+    channels: u64,
+    policy: u64,
+    interpolation: u64,
+    background: Rgba,
+    matte: Rgba,
+    depth: u64,
+    us: &[f64; 64],
+    vs: &[f64; 64],
+    n: usize,
+    place: u64,
+    band: &mut [u8],
+) -> Tried
+    requires { ⌜ Picture (now picture) width height channels ⌝ }
+    requires { ⌜ (depth ≡ 1) ⊎ ((depth ≡ 3) ⊎ (depth ≡ 4)) ⌝ }
+    requires { ⌜ n ≤ 64 ⌝ }
+    requires { ⌜ (place + n) * depth * 4 ≤ length (now band) ⌝ }
+    ensures { λ r.
+        ⌜ (r .done ≡ true → (r .missed ≡ totalled (λ (k : ℕ). keptMatte (Vectors.at (now (us .entry)) k) (Vectors.at (now (vs .entry)) k)) n) × (now (band .exit) ≡ take (place * depth * 4) (now (band .entry)) ++ joined (λ (k : ℕ). pixelBytes depth (keptColour (record { image = record { bytes = now (picture .entry); width = width; height = height; channels = channels }; policy = policy; interpolation = interpolation; background = background; matte = matte }) (Vectors.at (now (us .entry)) k) (Vectors.at (now (vs .entry)) k))) n ++ drop ((place + n) * depth * 4) (now (band .entry)))) × (r .done ≡ false → now (band .exit) ≡ now (band .entry)) ⌝ }
+{
+    if channels == 3 && depth == 3 {
+        if interpolation == 5 {
+            let missed = put_bilinear(
+                picture,
+                width,
+                height,
+                policy,
+                background,
+                matte,
+                us,
+                vs,
+                n,
+                place,
+                band,
+            );
+            return Tried { done: true, missed };
+        }
+        if interpolation < 2 {
+            let missed = put_single(
+                picture,
+                width,
+                height,
+                policy,
+                interpolation,
+                background,
+                matte,
+                us,
+                vs,
+                n,
+                place,
+                band,
+            );
+            return Tried { done: true, missed };
+        }
+        if interpolation > 5 && interpolation < 8 {
+            let done = put_cubic(
+                picture,
+                width,
+                height,
+                interpolation,
+                us,
+                vs,
+                n,
+                place,
+                band,
+            );
+            return Tried { done, missed: 0 };
+        }
+    }
+    Tried {
+        done: false,
+        missed: 0,
+    }
+}
+
+// The colours of n pixels, put `depth` samples a pixel from the band's pixel numbered `place` on; and how many are matte. `put_any` has one caller, so
+// that it becomes a part of it.
 fn put_colours(
     picture: &[u8],
     width: u64,
@@ -41,54 +128,24 @@ fn put_colours(
     ensures { λ r.
         ⌜ (r ≡ totalled (λ (k : ℕ). keptMatte (Vectors.at (now (us .entry)) k) (Vectors.at (now (vs .entry)) k)) n) × (now (band .exit) ≡ take (place * depth * 4) (now (band .entry)) ++ joined (λ (k : ℕ). pixelBytes depth (keptColour (record { image = record { bytes = now (picture .entry); width = width; height = height; channels = channels }; policy = policy; interpolation = interpolation; background = background; matte = matte }) (Vectors.at (now (us .entry)) k) (Vectors.at (now (vs .entry)) k))) n ++ drop ((place + n) * depth * 4) (now (band .entry))) ⌝ }
 {
-    if channels == 3 && depth == 3 {
-        if interpolation == 5 {
-            return put_bilinear(
-                picture,
-                width,
-                height,
-                policy,
-                background,
-                matte,
-                us,
-                vs,
-                n,
-                place,
-                band,
-            );
-        }
-        if interpolation < 2 {
-            return put_single(
-                picture,
-                width,
-                height,
-                policy,
-                interpolation,
-                background,
-                matte,
-                us,
-                vs,
-                n,
-                place,
-                band,
-            );
-        }
-        if interpolation > 5 && interpolation < 8 {
-            return put_cubic(
-                picture,
-                width,
-                height,
-                policy,
-                interpolation,
-                background,
-                matte,
-                us,
-                vs,
-                n,
-                place,
-                band,
-            );
-        }
+    let t = put_three(
+        picture,
+        width,
+        height,
+        channels,
+        policy,
+        interpolation,
+        background,
+        matte,
+        depth,
+        us,
+        vs,
+        n,
+        place,
+        band,
+    );
+    if t.done {
+        return t.missed;
     }
     put_any(
         picture,

@@ -1,12 +1,13 @@
 // Stretches by `Catrom` and `Spline` in a picture of three channels: cells, fractions and weights are worked out first, several pixels at a time, where every square of taps lies
 // inside. Assumes that the bytes are a picture's and that the band has room for the stretch.
 ghost use mathlib.Core.Path.{_≡_};
-ghost use mathlib.Core.Bool.{true};
+ghost use mathlib.Core.Bool.{true, false};
 ghost use mathlib.Core.List.{[], _∷_, _++_};
 ghost use Prim.Native.Nat.{ℕ, _+_, _-_, _*_, _≤_, _<_};
 ghost use lib.ListN.{length, take, drop, getD};
 ghost use Rattle.matrix.specs.Matrix as Vectors;
 ghost use Rattle.pixels.specs.Pixel.{Picture};
+ghost use Rattle.pixels.specs.declared.colour.Rgba.{Rgba};
 ghost use Rattle.put.specs.Band.{keptColour, keptMatte, pixelBytes};
 ghost use Rattle.put.specs.Joined.{joined, totalled};
 ghost use Rattle.squares.specs.Kernels.{Squares, Past, Weighed4, Kernels, Standing, ofFour, squared};
@@ -18,7 +19,6 @@ use number::magnitude::abs_f32;
 use pixels::colour::Rgba;
 use plain::plain::sized;
 use plain::plain::wide;
-use put::any::put_any;
 use stored::store::put_pixel;
 
 // Whether the first n are all above 0.
@@ -224,27 +224,25 @@ fn both_kernels(
     across & down
 }
 
-// The colours of n pixels by `Catrom` or `Spline`, put from the band's pixel numbered `place` on; and how many are matte.
+// The colours of n pixels by `Catrom` or `Spline`, put from the band's pixel numbered `place` on where all their squares lie inside: then none is
+// matte, and no policy is asked. False: nothing was put.
 pub fn put_cubic(
     picture: &[u8],
     width: u64,
     height: u64,
-    policy: u64,
     code: u64,
-    background: Rgba,
-    matte: Rgba,
     us: &[f64; 64],
     vs: &[f64; 64],
     n: usize,
     place: u64,
     band: &mut [u8],
-) -> u64
+) -> bool
     requires { ⌜ Picture (now picture) width height 3 ⌝ }
     requires { ⌜ (6 ≤ code) × (code < 8) ⌝ }
     requires { ⌜ n ≤ 64 ⌝ }
     requires { ⌜ (place + n) * 3 * 4 ≤ length (now band) ⌝ }
     ensures { λ r.
-        ⌜ (r ≡ totalled (λ (k : ℕ). keptMatte (Vectors.at (now (us .entry)) k) (Vectors.at (now (vs .entry)) k)) n) × (now (band .exit) ≡ take (place * 3 * 4) (now (band .entry)) ++ joined (λ (k : ℕ). pixelBytes 3 (keptColour (record { image = record { bytes = now (picture .entry); width = width; height = height; channels = 3 }; policy = policy; interpolation = code; background = background; matte = matte }) (Vectors.at (now (us .entry)) k) (Vectors.at (now (vs .entry)) k))) n ++ drop ((place + n) * 3 * 4) (now (band .entry))) ⌝ }
+        ⌜ (r ≡ true → (policy : ℕ) (background matte : Rgba) → (0 ≡ totalled (λ (k : ℕ). keptMatte (Vectors.at (now (us .entry)) k) (Vectors.at (now (vs .entry)) k)) n) × (now (band .exit) ≡ take (place * 3 * 4) (now (band .entry)) ++ joined (λ (k : ℕ). pixelBytes 3 (keptColour (record { image = record { bytes = now (picture .entry); width = width; height = height; channels = 3 }; policy = policy; interpolation = code; background = background; matte = matte }) (Vectors.at (now (us .entry)) k) (Vectors.at (now (vs .entry)) k))) n ++ drop ((place + n) * 3 * 4) (now (band .entry)))) × (r ≡ false → now (band .exit) ≡ now (band .entry)) ⌝ }
 {
     let mut columns = [0; 64];
     let mut rows = [0; 64];
@@ -301,23 +299,8 @@ pub fn put_cubic(
                 place,
                 band,
             );
-            return 0;
+            return true;
         }
     }
-    put_any(
-        picture,
-        width,
-        height,
-        3,
-        policy,
-        code,
-        background,
-        matte,
-        3,
-        us,
-        vs,
-        n,
-        place,
-        band,
-    )
+    false
 }

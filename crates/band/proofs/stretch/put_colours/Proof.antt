@@ -1,46 +1,25 @@
--- `band::stretch::put_colours` meets its contract: where it calls a loop for three channels, the channels are three. Assumes nothing.
-use mathlib.Core.Path.{refl}
+-- `band::stretch::put_colours` meets its contract: what the loop for such pixels put, or else what `put_any` put into the band as it was. Assumes nothing.
 use borrow.Author.Needs.{needs}
-use borrow.Author.Tests.{eqb-true, ltb-true}
-use Rattle.band.proofs.StretchLaws.{three-left, three-room}
+use Rattle.put.specs.Band.{Source}
+use Rattle.band.proofs.StretchLaws.{same-room, same-put}
 use Rattle.band.proofs.stretch.put_colours.Statement.{statement}
 use Rattle.band.proofs.stretch.put_colours.Tie as tie
 
-put-bilinear-requires : tie.Need-put-bilinear-requires
-put-bilinear-requires c κs = let e = c .before .before .before .before .before .before in (rw (← c .before .before .before .if1 .taken) (e .pre .0), (search needs, three-room (e .args .place) (e .args .n) (eqb-true _ 3 (c .before .before .if2 .taken)) (e .pre .1 .1 .1)))
-
 returns : tie.Need-returns
-returns c = let g = c .before .before .before .before .before .before .before .before .before .args in three-left (g .picture .now) (g .width) (g .height) (g .policy) (g .background) (g .matte) (g .us .now) (g .vs .now) (g .n) (g .place) (g .band .now) (c .before .before .before .before .before .before .if1 .taken) (eqb-true _ 3 (c .before .before .before .before .before .if2 .taken)) (c .before .before .before .before .if3 .taken) (c .before .before .put-bilinear .ensures)
+returns c = c .before .before .before .put-three .ensures .0 (c .if1 .taken)
 
-put-single-requires : tie.Need-put-single-requires
-put-single-requires c κs = let e = c .before .before .before .before .before .before .before in (rw (← c .before .before .before .before .if1 .taken) (e .pre .0), (search needs, (search needs, three-room (e .args .place) (e .args .n) (eqb-true _ 3 (c .before .before .before .if2 .taken)) (e .pre .1 .1 .1))))
+put-any-requires : tie.Need-put-any-requires
+put-any-requires c κs =
+    let e = c .before .before .before .before .before .before .before .before in
+    (e .pre .0, (e .pre .1 .0, (e .pre .1 .1 .0, same-room (c .before .before .before .before .put-three .ensures .1 (c .before .if1 .left)) (e .pre .1 .1 .1))))
 
 returns-2 : tie.Need-returns-2
-returns-2 c = let g = c .before .before .before .before .before .before .before .before .before .before .args in three-left (g .picture .now) (g .width) (g .height) (g .policy) (g .background) (g .matte) (g .us .now) (g .vs .now) (g .n) (g .place) (g .band .now) (c .before .before .before .before .before .before .before .if1 .taken) (eqb-true _ 3 (c .before .before .before .before .before .before .if2 .taken)) refl (c .before .before .put-single .ensures)
-
-put-cubic-requires : tie.Need-put-cubic-requires
-put-cubic-requires c κs =
-    let e = c .before .before .before .before .before .before .before .before .before in (
-      rw (← c .before .before .before .before .before .before .if1 .taken) (e .pre .0),
-      ((c .before .before .if5 .taken, ltb-true _ 8 (c .before .if6 .taken)), (search needs, three-room (e .args .place) (e .args .n) (eqb-true _ 3 (c .before .before .before .before .before .if2 .taken)) (e .pre .1 .1 .1))),
-    )
-
-returns-3 : tie.Need-returns-3
-returns-3 c = let g = c .before .before .before .before .before .before .before .before .before .before .before .before .args in three-left (g .picture .now) (g .width) (g .height) (g .policy) (g .background) (g .matte) (g .us .now) (g .vs .now) (g .n) (g .place) (g .band .now) (c .before .before .before .before .before .before .before .before .before .if1 .taken) (eqb-true _ 3 (c .before .before .before .before .before .before .before .before .if2 .taken)) refl (c .before .before .put-cubic .ensures)
+returns-2 c =
+    let g = c .before .before .before .before .before .before .before .before .before .before .before .args in
+    let source : Source = record { image = record { bytes = g .picture .now; width = g .width; height = g .height; channels = g .channels }; policy = g .policy; interpolation = g .interpolation; background = g .background; matte = g .matte } in
+    let put = c .before .before .put-any .ensures in
+    let same = c .before .before .before .before .before .before .before .put-three .ensures .1 (c .before .before .before .before .if1 .left) in
+    (put .0, same-put source (g .depth) (g .us .now) (g .vs .now) (g .n) (g .place) same (put .1))
 
 pub put-colours-spec : {M : Type 1} → statement M
-put-colours-spec =
-    tie.close
-    (tie.spec
-    put-bilinear-requires
-    (λ c. search needs)
-    returns
-    put-single-requires
-    (λ c. search needs)
-    returns-2
-    put-cubic-requires
-    (λ c. search needs)
-    returns-3
-    (λ c κs. search needs)
-    (λ c. search needs)
-    (λ c. search needs))
+put-colours-spec = tie.close (tie.spec (λ c κs. search needs) (λ c. search needs) returns put-any-requires (λ c. search needs) returns-2)

@@ -1,6 +1,6 @@
 -- `squares::sixteen::put_cubic` meets its contract: where every point of the stretch has its square inside, none is matte, and each square's colour is the point's. Assumes nothing.
 use mathlib.Core.Path.{ap, refl, _∙_}
-use mathlib.Core.Logic.{inl, inr}
+use mathlib.Core.Bool.{true≢false, false≢true}
 use mathlib.Core.List.{List, _++_}
 use Prim.Native.Nat.{ℕ, _+_, _*_}
 use borrow.Author.Needs.{needs}
@@ -26,14 +26,20 @@ returns c =
     let a = c .before .before .before .before .before .before .before .before .before .before .before .before .before .before .before .before .before .before .before .before .before .before .before .before .before .before .before .before .before .before .before .before .before .before in
     let S = c .before .before .before .before .before .before .before .before .before .before .before .before .before .before .before .before .before .before .before .before .before .before .before .before .before .before .before .squares .ensures (c .before .before .before .before .before .before .before .before .before .before .before .before .before .before .before .before .before .before .before .before .before .before .before .before .before .before .if1 .taken) in
     let K = c .before .before .before .before .before .before .before .before .before .before .before .before .before .before .before .both-kernels .ensures (c .before .before .before .before .before .before .before .before .before .before .before .before .before .before .if2 .taken) in (
-      cubic-mattes S,
-      c .before .before .put-squares .ensures
-          ∙ ap (λ (z : List ℕ). take (a .args .place * 3 * 4) (now (a .args .band)) ++ z ++ drop ((a .args .place + a .args .n) * 3 * 4) (now (a .args .band)))
-          (cubic-colours S (a .args .code) (K .0) (K .1) _ (a .args .policy) (a .args .background) (a .args .matte) (a .pre .1 .0 .0) (a .pre .1 .0 .1)),
+      λ _ policy background matte. (
+        cubic-mattes S,
+        c .before .before .put-squares .ensures
+            ∙ ap (λ (z : List ℕ). take (a .args .place * 3 * 4) (now (a .args .band)) ++ z ++ drop ((a .args .place + a .args .n) * 3 * 4) (now (a .args .band)))
+            (cubic-colours S (a .args .code) (K .0) (K .1) _ policy background matte (a .pre .1 .0 .0) (a .pre .1 .0 .1)),
+      ),
+      λ e. absurd (true≢false e),
     )
 
-put-any-requires : tie.Need-put-any-requires
-put-any-requires c κs = let a = c .before .before .before .before .before .before .before .before .before in (a .pre .0, (inr (inl refl), (a .pre .1 .1 .0, a .pre .1 .1 .1)))
+returns-2 : tie.Need-returns-2
+returns-2 c = (λ e. absurd (false≢true e), λ _. refl)
+
+returns-3 : tie.Need-returns-3
+returns-3 c = (λ e. absurd (false≢true e), λ _. refl)
 
 pub put-cubic-spec : {M : Type 1} → statement M
 put-cubic-spec =
@@ -44,6 +50,5 @@ put-cubic-spec =
     put-squares-requires
     (λ c. search needs)
     returns
-    put-any-requires
-    (λ c. search needs)
-    (λ c. search needs))
+    returns-2
+    returns-3)

@@ -1,4 +1,4 @@
-// Pixels in bytes: the colour at an index, virtual outside, and a colour stored in a band. Pictures are lent bytes, little-endian f32 samples row by
+// Pixels in bytes: the colour at an index, virtual outside. Pictures are lent bytes, little-endian f32 samples row by
 // row, and nothing is converted up front.
 pub mod at;
 pub mod colour;

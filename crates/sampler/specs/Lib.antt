@@ -1,3 +1,3 @@
--- The definitions of the sampler, a file for each module of src/.
+-- What is said of the sampler's colours: that they are finite, and the opaque case.
 pub mod Finite
 pub mod Opaque

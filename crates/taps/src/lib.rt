@@ -1,3 +1,3 @@
-// The steps of an interpolation: the cell of a point, the taps from it, their weights, and the weighted mean.
+// The taps of an interpolation from a point's cell, and their weights.
 pub mod taps;
 pub mod weights;

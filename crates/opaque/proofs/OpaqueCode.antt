@@ -1,4 +1,4 @@
--- Three channels: where the samples of pixels inside lie, and that one pixel, or four, are what the definition takes at a point whose cell lies inside.
+-- Three channels: where the samples of pixels inside lie. Any channels: one pixel, or four, are what the definition takes at a point whose cell lies inside.
 -- Provides: `room3`, `small3` (a pixel's samples); `own-pixel`, `next-pixel`, `under-pixel`, `corner-pixel` (a pixel's neighbours); `single-inside`, `single-anywhere`, `bilinear-inside`,
 -- `bilinear-anywhere` (each way's answer). Assumes nothing.
 use mathlib.Core.Path.{_≡_, refl, sym, ap, _∙_}
@@ -50,27 +50,26 @@ module _ (bytes : List ℕ) (w x y : ℕ) where
   corner-pixel = ap (widened bytes 3) (omega arith)
 
 -- ---- the answers
-module _ (bytes : List ℕ) (w h policy : ℕ) (background : Rgba) (x y : Float) where
+module _ (bytes : List ℕ) (w h channels policy : ℕ) (background : Rgba) (x y : Float) where
   abbrev plane : ℤ → ℤ → Rgba
-  plane = at bytes w h 3 policy background
+  plane = at bytes w h channels policy background
 
   module _ (code : ℕ) (small : code < 2) where
     pub single-anywhere : {r : Rgba} {column row : ℤ} → column ≡ first (interpolation code) x → row ≡ first (interpolation code) y → r ≡ plane column row
-        → r ≡ interpolate bytes w h 3 policy code background x y
+        → r ≡ interpolate bytes w h channels policy code background x y
     unfolding interpolate
     single-anywhere ex ey e = e ∙ (λ t. plane (ex t) (ey t)) ∙ sym (single-code plane background x y code small)
 
-    pub single-inside : {r : Rgba} (i j : ℕ) → i < w → j < h → pos i ≡ first (interpolation code) x → pos j ≡ first (interpolation code) y → r ≡ widened bytes 3 ((j * w + i) * 3)
-        → r ≡ interpolate bytes w h 3 policy code background x y
-    unfolding pixelAt
-    single-inside i j hi hj ex ey e = single-anywhere ex ey (e ∙ sym (at-inside bytes w h 3 policy background i j hi hj))
+    pub single-inside : {r : Rgba} (i j : ℕ) → i < w → j < h → pos i ≡ first (interpolation code) x → pos j ≡ first (interpolation code) y → r ≡ pixelAt bytes w channels i j
+        → r ≡ interpolate bytes w h channels policy code background x y
+    single-inside i j hi hj ex ey e = single-anywhere ex ey (e ∙ sym (at-inside bytes w h channels policy background i j hi hj))
 
   pub bilinear-anywhere : {r : Rgba} {column row : ℤ} {tx ty : Float} → column ≡ floorI64 x → row ≡ floorI64 y → tx ≡ fraction x → ty ≡ fraction y
-      → r ≡ weighted (taps plane (record { column = column; row = row }) 2) (weights Bilinear tx ty) 4 → r ≡ interpolate bytes w h 3 policy 5 background x y
+      → r ≡ weighted (taps plane (record { column = column; row = row }) 2) (weights Bilinear tx ty) 4 → r ≡ interpolate bytes w h channels policy 5 background x y
   unfolding interpolate interpolation
   bilinear-anywhere ex ey fx fy e = e ∙ (λ t. weighted (taps plane (record { column = ex t; row = ey t }) 2) (weights Bilinear (fx t) (fy t)) 4)
 
   pub bilinear-inside : {r : Rgba} {tx ty : Float} (i j : ℕ) → i + 1 < w → j + 1 < h → pos i ≡ floorI64 x → pos j ≡ floorI64 y → tx ≡ fraction x → ty ≡ fraction y
-      → r ≡ weighted (pixelAt bytes w 3 i j ∷ pixelAt bytes w 3 (i + 1) j ∷ pixelAt bytes w 3 i (j + 1) ∷ pixelAt bytes w 3 (i + 1) (j + 1) ∷ []) (corners tx ty) 4
-      → r ≡ interpolate bytes w h 3 policy 5 background x y
-  bilinear-inside {r} {tx} {ty} i j hi hj ex ey fx fy e = bilinear-anywhere ex ey fx fy (e ∙ inside-corners bytes w h 3 policy background i j hi hj tx ty)
+      → r ≡ weighted (pixelAt bytes w channels i j ∷ pixelAt bytes w channels (i + 1) j ∷ pixelAt bytes w channels i (j + 1) ∷ pixelAt bytes w channels (i + 1) (j + 1) ∷ []) (corners tx ty) 4
+      → r ≡ interpolate bytes w h channels policy 5 background x y
+  bilinear-inside {r} {tx} {ty} i j hi hj ex ey fx fy e = bilinear-anywhere ex ey fx fy (e ∙ inside-corners bytes w h channels policy background i j hi hj tx ty)

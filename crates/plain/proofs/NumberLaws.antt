@@ -1,5 +1,5 @@
 -- No NaN is put. The samples of a picture are at most 65,536 in magnitude and the weights of fractions from 0 to 1 at most 1, so that the weighted mean is bounded.
--- Provides: `limited-bounded` (a sample), `pixel-bounded`, `bounded-numbers`, `blend-numbers`. Assumes nothing.
+-- Provides: `picture-bounded`, `bounded-numbers`, `blend-numbers`. Assumes nothing.
 use mathlib.Core.Path.{_≡_, refl, subst}
 use mathlib.Core.Bool.{Bool, true, false, not}
 use mathlib.Core.List.{List, [], _∷_}
@@ -7,43 +7,33 @@ use Prim.Native.Nat.{ℕ, zero, suc, _+_, _*_, _≤_, _<_}
 use native.Mathlib.Omega.{arith}
 use lib.Dec.{T, le→leb, lit≤}
 use lib.ListN.{length}
-use lib.Ieee.{Float, nan, inf, fin, binary32, isNan, ofBits}
+use lib.Ieee.{Float, nan, inf, fin, binary32, isNan}
 use lib.Ieee.Scale.{finite}
-use Rattle.exact.specs.Fraction.{Fraction, frac, absF}
+use Rattle.exact.specs.Fraction.{Fraction, frac}
 use Rattle.exact.specs.Weighted.{Unit32}
 use Rattle.endian.specs.Bytes.{u32At, sampleAt}
 use Rattle.number.proofs.MagnitudeTests.{within-bits}
-use Rattle.pixels.specs.Colour.{one}
-use Rattle.pixels.specs.Pixel.{Limited, Picture, widened, pixelAt}
+use Rattle.pixels.specs.Pixel.{Limited, Picture, pixelAt}
 use Rattle.pixels.specs.declared.colour.Rgba.{Rgba}
 use Rattle.weighted.specs.Weighted.{Bounded, BoundedBy, tapAt, weightAt, weighted}
 use Rattle.taps.specs.Weights.{corners}
 use Rattle.weighted.proofs.WeightedFinite.{most, weighted-bounded}
 use Rattle.weighted.proofs.WeightedWeights.{bilinear-bounded}
-use Rattle.sampler.proofs.AtFinite.{within-bounded}
-use Rattle.opaque.proofs.OpaqueCode.{room3}
-use Rattle.plain.specs.Plain.{Numbers, blend}
+use Rattle.sampler.specs.Finite.{BoundedPicture}
+use Rattle.sampler.proofs.AtFinite.{within-bounded, pixel-bounded}
+use Rattle.stored.specs.Store.{Numbers}
+use Rattle.plain.specs.Plain.{blend}
 
--- ---- a sample, and a pixel
-pub limited-bounded : (bytes : List ℕ) → Limited bytes → (k : ℕ) → (k + 1) * 4 ≤ length bytes → Bounded (frac 65536 1) (sampleAt bytes k)
+-- ---- samples
+limited-bounded : (bytes : List ℕ) → Limited bytes → (k : ℕ) → (k + 1) * 4 ≤ length bytes → Bounded (frac 65536 1) (sampleAt bytes k)
 limited-bounded bytes L k h =
     within-bounded (sampleAt bytes k) (subst T (within-bits binary32 (u32At bytes (4 * k)) 0x4780_0000 (lit≤ tt)) (le→leb _ 0x4780_0000 (L .sample k h)))
 
-one-bounded : Bounded (frac 65536 1) one
-unfolding ofBits absF
-one-bounded = record { number = tt; size = record { le = lit≤ tt } }
-
-pub pixel-bounded : (bytes : List ℕ) (w h x y : ℕ) → Picture bytes w h 3 → x < w → y < h → BoundedBy (frac 65536 1) (pixelAt bytes w 3 x y)
-unfolding pixelAt widened
-pixel-bounded bytes w h x y P hx hy =
-    let room = room3 bytes w h x y P hx hy in
-    let k = (y * w + x) * 3 in
-    record {
-      red = limited-bounded bytes (P .limited) k (omega arith);
-      green = limited-bounded bytes (P .limited) (k + 1) (omega arith);
-      blue = limited-bounded bytes (P .limited) (k + 2) (omega arith);
-      alpha = one-bounded;
-    }
+pub picture-bounded : {bytes : List ℕ} {w h channels : ℕ} → Picture bytes w h channels → BoundedPicture bytes w h channels
+picture-bounded {bytes} {w} {h} {channels} P = record { picture = P; samples = λ k l. limited-bounded bytes (P .limited) k (room k (w * h * channels) l (P .whole)) }
+  where
+    room : (k n : ℕ) → k < n → length bytes ≡ n * 4 → (k + 1) * 4 ≤ length bytes
+    room k n l e = omega arith
 
 -- ---- colours
 number-is : (x : Float) → T (finite x) → T (not (isNan x))
@@ -54,17 +44,22 @@ number-is (fin s m e) h = tt
 
 pub bounded-numbers : {b : Fraction} {c : Rgba} → BoundedBy b c → Numbers c
 bounded-numbers {b} {c} B =
-    record { red = number-is (c .r) (B .red .number); green = number-is (c .g) (B .green .number); blue = number-is (c .b) (B .blue .number) }
+    record {
+      red = number-is (c .r) (B .red .number);
+      green = number-is (c .g) (B .green .number);
+      blue = number-is (c .b) (B .blue .number);
+      alpha = number-is (c .a) (B .alpha .number);
+    }
 
 module _ (bytes : List ℕ) (w h i j : ℕ) (P : Picture bytes w h 3) (hi : i + 1 < w) (hj : j + 1 < h) where
   abbrev square : List Rgba
   square = pixelAt bytes w 3 i j ∷ pixelAt bytes w 3 (i + 1) j ∷ pixelAt bytes w 3 i (j + 1) ∷ pixelAt bytes w 3 (i + 1) (j + 1) ∷ []
 
   tap-bounded : (k : ℕ) → k < 4 → BoundedBy (frac 65536 1) (tapAt square k)
-  tap-bounded zero l = pixel-bounded bytes w h i j P (omega arith) (omega arith)
-  tap-bounded (suc zero) l = pixel-bounded bytes w h (i + 1) j P hi (omega arith)
-  tap-bounded (suc (suc zero)) l = pixel-bounded bytes w h i (j + 1) P (omega arith) hj
-  tap-bounded (suc (suc (suc zero))) l = pixel-bounded bytes w h (i + 1) (j + 1) P hi hj
+  tap-bounded zero l = pixel-bounded (picture-bounded P) i j (omega arith) (omega arith)
+  tap-bounded (suc zero) l = pixel-bounded (picture-bounded P) (i + 1) j hi (omega arith)
+  tap-bounded (suc (suc zero)) l = pixel-bounded (picture-bounded P) i (j + 1) (omega arith) hj
+  tap-bounded (suc (suc (suc zero))) l = pixel-bounded (picture-bounded P) (i + 1) (j + 1) hi hj
   tap-bounded (suc (suc (suc (suc k)))) l = absurd (omega arith)
 
   module _ (tx ty : Float) (x : Unit32 tx) (y : Unit32 ty) where

@@ -128,7 +128,7 @@ cell-colour : (bytes : List ℕ) (w h policy : ℕ) (background matte : Rgba) {u
 unfolding shown blend
 cell-colour bytes w h policy background matte {u} {v} {tx} {ty} {i} {j} C D =
     rw (marked u v (C .usable) (D .usable))
-    (bilinear-inside bytes w h policy background (u ⊖ half) (v ⊖ half) i j (next i w (C .below)) (next j h (D .below)) (sym (C .floor)) (sym (D .floor)) (C .fraction) (D .fraction) refl)
+    (bilinear-inside bytes w h 3 policy background (u ⊖ half) (v ⊖ half) i j (next i w (C .below)) (next j h (D .below)) (sym (C .floor)) (sym (D .floor)) (C .fraction) (D .fraction) refl)
 
 -- ---- a stretch of them
 module _ (bytes : List ℕ) (w : ℕ) (columns rows : List ℕ) {n : ℕ} {xs ys w₁ w₂ w₃ w₄ sums : List Float} where
@@ -167,12 +167,12 @@ module _ (w h : ℕ) {n : ℕ} {us vs : List Float} {columns rows : List ℕ} {x
       (λ k l. ap (pixelBytes 3) (cell-colour bytes w h policy background matte (C .cell k l) (D .cell k l)))
 
 -- ---- one tap
-place-colour : (bytes : List ℕ) (w h policy : ℕ) (background matte : Rgba) (code : ℕ) → code < 2 → {u v : Float} {i j : ℕ} → Place (interpolation code) w u i → Place (interpolation code) h v j
-    → pixelAt bytes w 3 i j
-    ≡ keptColour (record { image = record { bytes = bytes; width = w; height = h; channels = 3 }; policy = policy; interpolation = code; background = background; matte = matte }) u v
-unfolding shown pixelAt
-place-colour bytes w h policy background matte code small {u} {v} {i} {j} C D =
-    rw (marked u v (C .usable) (D .usable)) (single-inside bytes w h policy background (u ⊖ half) (v ⊖ half) code small i j (C .below) (D .below) (sym (C .first)) (sym (D .first)) refl)
+place-colour : (bytes : List ℕ) (w h channels policy : ℕ) (background matte : Rgba) (code : ℕ) → code < 2 → {u v : Float} {i j : ℕ} → Place (interpolation code) w u i → Place (interpolation code) h v j
+    → pixelAt bytes w channels i j
+    ≡ keptColour (record { image = record { bytes = bytes; width = w; height = h; channels = channels }; policy = policy; interpolation = code; background = background; matte = matte }) u v
+unfolding shown
+place-colour bytes w h channels policy background matte code small {u} {v} {i} {j} C D =
+    rw (marked u v (C .usable) (D .usable)) (single-inside bytes w h channels policy background (u ⊖ half) (v ⊖ half) code small i j (C .below) (D .below) (sym (C .first)) (sym (D .first)) refl)
 
 module _ (code : ℕ) {w h n : ℕ} {us vs : List Float} {columns rows : List ℕ} (C : Places (interpolation code) w n us columns) (D : Places (interpolation code) h n vs rows) where
   pub places-within : Within w h n columns rows
@@ -181,10 +181,10 @@ module _ (code : ℕ) {w h n : ℕ} {us vs : List Float} {columns rows : List �
   pub places-mattes : 0 ≡ totalled (λ (k : ℕ). keptMatte (at us k) (at vs k)) n
   places-mattes = no-mattes n us vs (λ k l. no-matte (at us k) (at vs k) (C .place k l .usable) (D .place k l .usable))
 
-  pub places-colours : (bytes : List ℕ) (policy : ℕ) (background matte : Rgba) → code < 2
-      → joined (λ (k : ℕ). pixelBytes 3 (pixelAt bytes w 3 (getD columns k 0) (getD rows k 0))) n
-      ≡ joined (λ (k : ℕ). pixelBytes 3 (keptColour (record { image = record { bytes = bytes; width = w; height = h; channels = 3 }; policy = policy; interpolation = code; background = background; matte = matte }) (at us k) (at vs k))) n
-  places-colours bytes policy background matte small =
-      joined-same (λ (k : ℕ). pixelBytes 3 (pixelAt bytes w 3 (getD columns k 0) (getD rows k 0)))
-      (λ (k : ℕ). pixelBytes 3 (keptColour (record { image = record { bytes = bytes; width = w; height = h; channels = 3 }; policy = policy; interpolation = code; background = background; matte = matte }) (at us k) (at vs k))) n
-      (λ k l. ap (pixelBytes 3) (place-colour bytes w h policy background matte code small (C .place k l) (D .place k l)))
+  pub places-colours : (bytes : List ℕ) (channels policy : ℕ) (background matte : Rgba) → code < 2
+      → joined (λ (k : ℕ). pixelBytes channels (pixelAt bytes w channels (getD columns k 0) (getD rows k 0))) n
+      ≡ joined (λ (k : ℕ). pixelBytes channels (keptColour (record { image = record { bytes = bytes; width = w; height = h; channels = channels }; policy = policy; interpolation = code; background = background; matte = matte }) (at us k) (at vs k))) n
+  places-colours bytes channels policy background matte small =
+      joined-same (λ (k : ℕ). pixelBytes channels (pixelAt bytes w channels (getD columns k 0) (getD rows k 0)))
+      (λ (k : ℕ). pixelBytes channels (keptColour (record { image = record { bytes = bytes; width = w; height = h; channels = channels }; policy = policy; interpolation = code; background = background; matte = matte }) (at us k) (at vs k))) n
+      (λ k l. ap (pixelBytes channels) (place-colour bytes w h channels policy background matte code small (C .place k l) (D .place k l)))

@@ -2,17 +2,16 @@
 -- cell's four pixels. Assumes nothing.
 use Prim.Native.Nat.{ℕ, _+_, _<_}
 use mathlib.Core.Path.{_≡_}
-use mathlib.Core.Bool.{not}
 use mathlib.Core.List.{List, [], _∷_}
-use lib.Dec.{T}
 use lib.ListN.{getD}
-use lib.Ieee.{Float, isNan}
+use lib.Ieee.{Float}
 use Rattle.exact.specs.Single.{_⊘_}
 use Rattle.exact.specs.Weighted.{w00, w10, w01, w11, weightSum, Unit32}
 use Rattle.matrix.specs.Matrix.{at}
 use Rattle.pixels.specs.Colour.{one}
 use Rattle.pixels.specs.Pixel.{pixelAt}
 use Rattle.pixels.specs.declared.colour.Rgba.{Rgba}
+use Rattle.stored.specs.Store.{Numbers}
 use Rattle.weighted.specs.Weighted.{weighted}
 use Rattle.taps.specs.Weights.{corners}
 use Rattle.weighted.specs.declared.weighted.Sums.{Sums}
@@ -49,12 +48,6 @@ pub record Weighed (tx ty a b c d s : Float) : Type 0 where
 -- the same of the first n of seven lists
 pub record Weights (n : ℕ) (xs ys w₀₀ w₁₀ w₀₁ w₁₁ ws : List Float) : Type 0 where
   pub weighed : (k : ℕ) → k < n → Weighed (at xs k) (at ys k) (at w₀₀ k) (at w₁₀ k) (at w₀₁ k) (at w₁₁ k) (at ws k)
-
--- the three samples that are put are no NaNs
-pub record Numbers (c : Rgba) : Type 0 where
-  pub red : T (not (isNan (c .r)))
-  pub green : T (not (isNan (c .g)))
-  pub blue : T (not (isNan (c .b)))
 
 -- the sums of colours over the sum of weights; an opaque colour
 abbrev pub over : Sums → Float → Rgba

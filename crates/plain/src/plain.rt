@@ -1,20 +1,20 @@
 // Stretches that lie inside a picture of three channels: cells, fractions and weights are worked out first, several pixels at a time, so that the loop over the
 // pixels reads, sums and puts, and decides nothing. Assumes that the bytes are a picture's and that the band has room for the stretch.
 ghost use mathlib.Core.Path.{_≡_};
+ghost use mathlib.Core.Logic.{_⊎_};
 ghost use mathlib.Core.List.{_++_};
 ghost use Prim.Native.Nat.{ℕ, _+_, _*_, _≤_, _<_};
 ghost use lib.ListN.{length, take, drop, getD};
 ghost use Rattle.matrix.specs.Matrix as Vectors;
 ghost use Rattle.pixels.specs.Pixel.{Picture, pixelAt};
-ghost use Rattle.stored.specs.Store.{putPixel};
 ghost use Rattle.put.specs.Band.{pixelBytes};
 ghost use Rattle.put.specs.Joined.{joined};
 ghost use Rattle.plain.specs.Plain as Plain;
-ghost use Rattle.plain.specs.Plain.{Within, Inside, Fractions, Numbers, Weights, Mixable, blend};
-use opaque::opaque::rgb;
+ghost use Rattle.plain.specs.Plain.{Within, Inside, Fractions, Weights, Mixable, blend};
 use opaque::opaque::sums;
 use pixels::colour::Rgba;
-use stored::store::put_numbers;
+use pixels::pixel::pixel;
+use stored::store::put_number_pixel;
 
 // An array has as many elements as its type says: a function is told so of one that it takes by value.
 pub fn sized(a: [f32; 64])
@@ -91,15 +91,6 @@ fn mixed(
     }
 }
 
-// The pixel numbered `place`, of a colour whose samples are numbers: no test for a NaN.
-fn put_number_pixel(band: &mut [u8], place: u64, c: Rgba)
-    requires { ⌜ (place * 3 + 3) * 4 ≤ length (now band) ⌝ }
-    requires { ⌜ Numbers c ⌝ }
-    ensures { λ _. ⌜ now (band .exit) ≡ putPixel (now (band .entry)) 3 place c ⌝ }
-{
-    put_numbers(band, place * 3, c);
-}
-
 // The colours of n cells at their weights, put from the band's pixel numbered `place` on.
 fn put_plain(
     picture: &[u8],
@@ -127,6 +118,7 @@ fn put_plain(
     for k in 0..n {
         put_number_pixel(
             band,
+            3,
             place + k as u64,
             mixed(
                 picture,
@@ -188,38 +180,32 @@ pub fn put_cells(
     );
 }
 
-// The pixel at column i and row j.
-fn own(picture: &[u8], width: u64, height: u64, i: u64, j: u64) -> Rgba
-    requires { ⌜ Picture (now picture) width height 3 ⌝ }
-    requires { ⌜ (i < width) × (j < height) ⌝ }
-    ensures { λ r. ⌜ r ≡ pixelAt (now (picture .entry)) width 3 i j ⌝ }
-{
-    rgb(picture, (j * width + i) * 3)
-}
-
-// The picture's own pixels at n places, put from the band's pixel numbered `place` on.
+// The picture's own pixels at n places, put with as many samples from the band's pixel numbered `place` on.
 pub fn put_places(
     picture: &[u8],
     width: u64,
     height: u64,
+    channels: u64,
     columns: &[u32; 64],
     rows: &[u32; 64],
     n: usize,
     place: u64,
     band: &mut [u8],
 )
-    requires { ⌜ Picture (now picture) width height 3 ⌝ }
+    requires { ⌜ Picture (now picture) width height channels ⌝ }
+    requires { ⌜ (channels ≡ 1) ⊎ ((channels ≡ 3) ⊎ (channels ≡ 4)) ⌝ }
     requires { ⌜ n ≤ 64 ⌝ }
     requires { ⌜ Within width height n (now columns) (now rows) ⌝ }
-    requires { ⌜ (place + n) * 3 * 4 ≤ length (now band) ⌝ }
+    requires { ⌜ (place + n) * channels * 4 ≤ length (now band) ⌝ }
     ensures { λ _.
-        ⌜ now (band .exit) ≡ take (place * 3 * 4) (now (band .entry)) ++ joined (λ (k : ℕ). pixelBytes 3 (pixelAt (now (picture .entry)) width 3 (getD (now (columns .entry)) k 0) (getD (now (rows .entry)) k 0))) n ++ drop ((place + n) * 3 * 4) (now (band .entry)) ⌝ }
+        ⌜ now (band .exit) ≡ take (place * channels * 4) (now (band .entry)) ++ joined (λ (k : ℕ). pixelBytes channels (pixelAt (now (picture .entry)) width channels (getD (now (columns .entry)) k 0) (getD (now (rows .entry)) k 0))) n ++ drop ((place + n) * channels * 4) (now (band .entry)) ⌝ }
 {
     for k in 0..n {
         put_number_pixel(
             band,
+            channels,
             place + k as u64,
-            own(picture, width, height, wide(columns[k]), wide(rows[k])),
+            pixel(picture, width, channels, wide(columns[k]), wide(rows[k])),
         );
     }
 }

@@ -1,5 +1,5 @@
 -- Where the samples of a picture and its background are numbers of at most 65,536, so are those of every colour that is named; and every sample that is read is an f32 value.
--- Provides: `within-bounded` (from the test of a sample), `bounded-more`, `at-bounded`, `at-fits`. Assumes nothing.
+-- Provides: `within-bounded` (from the test of a sample), `bounded-more`, `pixel-bounded`, `at-bounded`, `at-fits`. Assumes nothing.
 use mathlib.Core.Path.{_≡_, refl, ap, _∙_}
 use mathlib.Core.Bool.{Bool, true, false, cond}
 use mathlib.Core.List.{List}
@@ -97,14 +97,15 @@ module _ (bytes : List ℕ) (w h c n : ℕ) (P : BoundedPicture bytes w h c) (g 
       pick false d false e = grey-bounded (sampleAt bytes (n * c)) one start one-bounded
 
 -- ---- the laws
+pub pixel-bounded : {bytes : List ℕ} {w h channels : ℕ} → BoundedPicture bytes w h channels → (x y : ℕ) → x < w → y < h → BoundedBy (frac 65536 1) (pixelAt bytes w channels x y)
+unfolding pixelAt
+pixel-bounded {bytes} {w} {h} {channels} P x y hx hy = widened-bounded bytes w h channels (y * w + x) P (number-lt w h x y hx hy)
+
 pub at-bounded : (bytes : List ℕ) (w h channels code : ℕ) (background : Rgba) → BoundedPicture bytes w h channels → BoundedBy (frac 65536 1) background → (i j : ℤ)
     → BoundedBy (frac 65536 1) (at bytes w h channels code background i j)
 at-bounded bytes w h channels code background P B i j =
-    at-keep (BoundedBy (frac 65536 1)) bytes w h channels pixels background B (grey-bounded zero one zero-bounded one-bounded) (grey-bounded one one one-bounded one-bounded)
+    at-keep (BoundedBy (frac 65536 1)) bytes w h channels (pixel-bounded P) background B (grey-bounded zero one zero-bounded one-bounded) (grey-bounded one one one-bounded one-bounded)
     (grey-bounded half one half-bounded one-bounded) (P .picture) code i j (λ f. grey-bounded zero zero zero-bounded zero-bounded)
-  where
-    pixels : (x y : ℕ) → x < w → y < h → BoundedBy (frac 65536 1) (pixelAt bytes w channels x y)
-    pixels x y hx hy = unfold pixelAt in widened-bounded bytes w h channels (y * w + x) P (number-lt w h x y hx hy)
 
 sample-fits : (bytes : List ℕ) (k : ℕ) → T (fits binary32 (sampleAt bytes k))
 sample-fits bytes k = ofBits-fits binary32 _

@@ -1,9 +1,9 @@
 -- A colour stored as a pixel of a band's bytes: the Rust's `to_channels`, of one pixel. Assumes nothing.
 use Prim.Native.Nat.{ℕ, _+_, _*_}
-use mathlib.Core.Bool.{cond}
+use mathlib.Core.Bool.{not, cond}
 use mathlib.Core.List.{List}
-use lib.Dec.{eqb}
-use lib.Ieee.{Float}
+use lib.Dec.{T, eqb}
+use lib.Ieee.{Float, isNan}
 use Rattle.endian.specs.Bytes.{putF32}
 use Rattle.pixels.specs.Colour.{luma}
 use Rattle.pixels.specs.declared.colour.Rgba.{Rgba}
@@ -26,3 +26,10 @@ narrowed bytes channels k c =
 -- the bytes with the colour as their pixel numbered p, row by row
 unfoldable pub putPixel : List ℕ → ℕ → ℕ → Rgba → List ℕ
 putPixel bytes channels p c = narrowed bytes channels (p * channels) c
+
+-- none of a colour's samples is a NaN
+pub record Numbers (c : Rgba) : Type 0 where
+  pub red : T (not (isNan (c .r)))
+  pub green : T (not (isNan (c .g)))
+  pub blue : T (not (isNan (c .b)))
+  pub alpha : T (not (isNan (c .a)))

@@ -6,7 +6,7 @@ ghost use lib.Dec.{T};
 ghost use lib.Ieee.{isNan};
 ghost use lib.ListN.{length};
 ghost use Rattle.stored.specs.Store as Store;
-ghost use Rattle.stored.specs.Store.{putSample, putRgb, putPixel};
+ghost use Rattle.stored.specs.Store.{putSample, putRgb, putPixel, Numbers};
 use endian::bytes::put_f32;
 use endian::bytes::put_f32_plain;
 use pixels::colour::Rgba;
@@ -39,7 +39,7 @@ fn put_tested(band: &mut [u8], k: u64, c: Rgba)
 }
 
 // Three numbers, from the sample numbered k on.
-pub fn put_numbers(band: &mut [u8], k: u64, c: Rgba)
+fn put_numbers(band: &mut [u8], k: u64, c: Rgba)
     requires { ⌜ (k + 3) * 4 ≤ length (now band) ⌝ }
     requires { ⌜ T (not (isNan (c .r))) × (T (not (isNan (c .g))) × T (not (isNan (c .b)))) ⌝ }
     ensures { λ _. ⌜ now (band .exit) ≡ putRgb (now (band .entry)) k c ⌝ }
@@ -89,4 +89,23 @@ pub fn put_pixel(band: &mut [u8], channels: u64, p: u64, c: Rgba)
     ensures { λ _. ⌜ now (band .exit) ≡ putPixel (now (band .entry)) channels p c ⌝ }
 {
     narrowed(band, channels, p * channels, c);
+}
+
+// The same of a colour whose samples are numbers: no test for a NaN but that of a luma.
+pub fn put_number_pixel(band: &mut [u8], channels: u64, p: u64, c: Rgba)
+    requires { ⌜ (0 < channels) × ((p * channels + channels) * 4 ≤ length (now band)) ⌝ }
+    requires { ⌜ Numbers c ⌝ }
+    ensures { λ _. ⌜ now (band .exit) ≡ putPixel (now (band .entry)) channels p c ⌝ }
+{
+    let k = p * channels;
+    if channels == 4 {
+        put_numbers(band, k, c);
+        put_number(band, k + 3, c.a);
+        return;
+    }
+    if channels == 3 {
+        put_numbers(band, k, c);
+        return;
+    }
+    put_sample(band, k, luma(c));
 }

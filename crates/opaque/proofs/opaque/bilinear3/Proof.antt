@@ -55,7 +55,7 @@ returns c =
     let q = c .before .before .before .before .before .before .before .before .before .below2 in
     let hx = c .before .before .before .before .before .if1 .taken in
     let hy = ltb-true _ _ (c .before .before .before .before .if2 .taken) in
-    bilinear-inside _ _ _ (a .args .policy) (a .args .background) _ _ _ _ (next _ _ hx) (next _ _ hy)
+    bilinear-inside _ _ _ 3 (a .args .policy) (a .args .background) _ _ _ _ (next _ _ hx) (next _ _ hy)
     (sym (bits-before (argument {v = p .result} (record { sfits = p .ok }) (c .before .before .before .before .before .before .before .bits-of-i64 .ensures)) hx (a .pre .0 .sizes .width-most)) ∙ p .ensures)
     (sym (bits-before (argument {v = q .result} (record { sfits = q .ok }) (c .before .before .before .before .before .before .bits-of-i642 .ensures)) hy (a .pre .0 .sizes .height-most)) ∙ q .ensures)
     (c .before .before .before .before .before .before .before .before .before .before .fraction .ensures) (c .before .before .before .before .before .before .before .before .fraction2 .ensures) (c .divided .ensures ∙ c .before .before .before .four .ensures)
@@ -71,7 +71,7 @@ returns-2 : tie.Need-returns-2
 returns-2 c =
     let p = c .before .before .before .before .before .before .before .below in
     let q = c .before .before .before .before .before .below2 in
-    bilinear-anywhere _ _ _ _ _ _ _ (again (p .result) (p .ok) (p .ensures)) (again (q .result) (q .ok) (q .ensures)) (c .before .before .before .before .before .before .fraction .ensures) (c .before .before .before .before .fraction2 .ensures) (c .anywhere .ensures)
+    bilinear-anywhere _ _ _ 3 _ _ _ _ (again (p .result) (p .ok) (p .ensures)) (again (q .result) (q .ok) (q .ensures)) (c .before .before .before .before .before .before .fraction .ensures) (c .before .before .before .before .fraction2 .ensures) (c .anywhere .ensures)
 
 pub bilinear3-spec : {M : Type 1} → statement M
 bilinear3-spec =

@@ -4,6 +4,7 @@ use native.Mathlib.Omega.{arith}
 use borrow.Author.Tests.{ltb-true}
 use Rattle.policies.proofs.IndexCode.{argument, bits-inside}
 use Rattle.cell.proofs.SignedCode.{again}
+use Rattle.pixels.specs.Pixel.{pixelAt}
 use Rattle.opaque.proofs.OpaqueCode.{room3, small3, single-inside, single-anywhere}
 use mathlib.Core.Path.{_≡_, refl, sym, ap, _∙_}
 use Prim.Native.Nat.{ℕ, _+_, _-_, _≤_, _<_}
@@ -43,10 +44,10 @@ returns c =
     let q = c .before .before .before .before .before .place2 in
     let hx = c .before .before .if1 .taken in
     let hy = ltb-true _ _ (c .before .if2 .taken) in
-    single-inside _ _ _ (a .args .policy) (a .args .background) _ _ (a .args .code) (a .pre .1 .1) _ _ hx hy
+    single-inside _ _ _ 3 (a .args .policy) (a .args .background) _ _ (a .args .code) (a .pre .1 .1) _ _ hx hy
     (sym (bits-inside (argument {v = p .result} (record { sfits = p .ok }) (c .before .before .before .before .bits-of-i64 .ensures)) hx (a .pre .0 .sizes .width-most)) ∙ p .ensures)
     (sym (bits-inside (argument {v = q .result} (record { sfits = q .ok }) (c .before .before .before .bits-of-i642 .ensures)) hy (a .pre .0 .sizes .height-most)) ∙ q .ensures)
-    (c .rgb .ensures)
+    (unfold pixelAt in c .rgb .ensures)
 
 at-requires : tie.Need-at-requires
 at-requires c κs = search needs
@@ -56,7 +57,7 @@ returns-2 c =
     let a = c .before .before .before .before .before .before .before in
     let p = c .before .before .before .before .before .place in
     let q = c .before .before .before .before .place2 in
-    single-anywhere _ _ _ _ _ _ _ (a .args .code) (a .pre .1 .1) (again (p .result) (p .ok) (p .ensures)) (again (q .result) (q .ok) (q .ensures)) (c .at .ensures)
+    single-anywhere _ _ _ 3 _ _ _ _ (a .args .code) (a .pre .1 .1) (again (p .result) (p .ok) (p .ensures)) (again (q .result) (q .ok) (q .ensures)) (c .at .ensures)
 
 pub single3-spec : {M : Type 1} → statement M
 single3-spec =

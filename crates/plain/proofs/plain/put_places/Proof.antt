@@ -1,58 +1,61 @@
 -- `plain::plain::put_places` meets its contract. The loop's invariant: the pixels passed are in the band. Assumes nothing.
 use mathlib.Core.Path.{_∙_, refl}
-use mathlib.Core.Logic.{inl, inr}
 use Prim.Native.Nat.{ℕ, _-_}
 use native.Mathlib.Nat.{le-antisymm}
 use native.Mathlib.Omega.{arith}
 use borrow.Author.Needs.{needs}
 use lib.ListN.{getD}
 use Rattle.pixels.specs.Pixel.{pixelAt}
-use Rattle.plain.proofs.NumberLaws.{pixel-bounded, bounded-numbers}
+use Rattle.plain.proofs.NumberLaws.{picture-bounded, bounded-numbers}
+use Rattle.sampler.proofs.AtFinite.{pixel-bounded}
 use Rattle.put.proofs.PixelLaws.{channels-pos}
 use Rattle.put.proofs.RowLaws.{RowHolds, row-start, row-room, row-next, row-done, row-same, place-small}
 use Rattle.plain.proofs.plain.put_places.Statement.{statement}
 use Rattle.plain.proofs.plain.put_places.Tie as tie
 
 abbrev Inv-loop : tie.InvT-loop
-Inv-loop picture width height columns rows n place band₀ k₀ band k =
-    RowHolds 3 n place (λ (i : ℕ). pixelAt picture width 3 (getD columns i 0) (getD rows i 0)) (λ (i : ℕ). 0) band₀ band 0 k
+Inv-loop picture width height channels columns rows n place band₀ k₀ band k =
+    RowHolds channels n place (λ (i : ℕ). pixelAt picture width channels (getD columns i 0) (getD rows i 0)) (λ (i : ℕ). 0) band₀ band 0 k
 
 abbrev μ-loop : tie.MeasureT-loop
-μ-loop picture width height columns rows n place band₀ k₀ band k = n - k
+μ-loop picture width height channels columns rows n place band₀ k₀ band k = n - k
 
 loop-holds : tie.Need-loop-holds Inv-loop μ-loop
-loop-holds c = row-start (c .before .before .pre .1 .1 .1) (λ k. omega arith)
+loop-holds c = row-start (c .before .before .pre .1 .1 .1 .1) (λ k. omega arith)
 
 add-put-number-pixel : tie.Need-add-put-number-pixel Inv-loop μ-loop
 add-put-number-pixel c =
     let e = c .before .before .before .before .before in
-    record { fits = omega (arith, place-small (e .args .place) (e .args .n) 3 _ (channels-pos 3 (inr (inl refl))) (e .pre .1 .1 .1), c .before .before .loop .inv .most, e .good .1 .1 .1 .1 .1 .1 .1 .0 .0) }
+    record { fits = omega (arith, place-small (e .args .place) (e .args .n) (e .args .channels) _ (channels-pos _ (e .pre .1 .0)) (e .pre .1 .1 .1 .1), c .before .before .loop .inv .most, e .good .1 .1 .1 .1 .1 .1 .1 .1 .0 .0) }
 
-own-requires : tie.Need-own-requires Inv-loop μ-loop
-own-requires c κs =
+pixel-requires : tie.Need-pixel-requires Inv-loop μ-loop
+pixel-requires c κs =
     let e = c .before .before .before .before .before .before .before .before .before in
-    (e .pre .0, (rw (c .before .before .wide .ensures) (e .pre .1 .1 .0 .column _ (search needs)), rw (c .wide2 .ensures) (e .pre .1 .1 .0 .row _ (search needs))))
+    let W = e .pre .1 .1 .1 .0 in
+    record { height = e .args .height; picture = e .pre .0; column = rw (c .before .before .wide .ensures) (W .column _ (search needs)); row = rw (c .wide2 .ensures) (W .row _ (search needs)) }
 
 put-number-pixel-requires : tie.Need-put-number-pixel-requires Inv-loop μ-loop
 put-number-pixel-requires c κs =
-    let e = c .before .before .before .before .before .before .before .before .before .before in (
-      row-room (e .pre .1 .1 .1) (c .before .before .before .before .before .before .before .loop .inv) (search needs),
-      rw (c .own .ensures, c .before .before .before .wide .ensures, c .before .wide2 .ensures)
-          (bounded-numbers (pixel-bounded _ _ _ _ _ (e .pre .0) (e .pre .1 .1 .0 .column _ (search needs)) (e .pre .1 .1 .0 .row _ (search needs)))),
+    let e = c .before .before .before .before .before .before .before .before .before .before in
+    let W = e .pre .1 .1 .1 .0 in (
+      (channels-pos _ (e .pre .1 .0), row-room (e .pre .1 .1 .1 .1) (c .before .before .before .before .before .before .before .loop .inv) (search needs)),
+      rw (c .pixel .ensures, c .before .before .before .wide .ensures, c .before .wide2 .ensures)
+          (bounded-numbers (pixel-bounded (picture-bounded (e .pre .0)) _ _ (W .column _ (search needs)) (W .row _ (search needs)))),
     )
 
 loop-again : tie.Need-loop-again Inv-loop μ-loop
 loop-again c =
-    row-next (c .before .before .before .before .before .before .before .before .before .before .before .before .before .pre .1 .1 .1) (c .before .before .before .before .before .before .before .before .before .before .loop .inv) (inr (inl refl)) (search needs) refl
-    (c .before .before .put-number-pixel .ensures ∙ rw (c .before .before .before .own .ensures, c .before .before .before .before .before .before .wide .ensures, c .before .before .before .before .wide2 .ensures))
+    let e = c .before .before .before .before .before .before .before .before .before .before .before .before .before in
+    row-next (e .pre .1 .1 .1 .1) (c .before .before .before .before .before .before .before .before .before .before .loop .inv) (e .pre .1 .0) (search needs) refl
+    (c .before .before .put-number-pixel .ensures ∙ rw (c .before .before .before .pixel .ensures, c .before .before .before .before .before .before .wide .ensures, c .before .before .before .before .wide2 .ensures))
 
 same-length : tie.Need-same-length Inv-loop μ-loop
-same-length c = row-same (c .before .before .before .before .pre .1 .1 .1) (c .before .loop .inv)
+same-length c = row-same (c .before .before .before .before .pre .1 .1 .1 .1) (c .before .loop .inv)
 
 returns : tie.Need-returns Inv-loop μ-loop
 returns c =
     let H = c .before .loop .inv in
-    row-done (c .before .before .before .before .pre .1 .1 .1) H (le-antisymm (H .most) (search needs))
+    row-done (c .before .before .before .before .pre .1 .1 .1 .1) H (le-antisymm (H .most) (search needs))
 
 pub put-places-spec : {M : Type 1} → statement M
 put-places-spec =
@@ -68,7 +71,7 @@ put-places-spec =
     (λ c. search needs)
     (λ c. search needs)
     (λ c κs. search needs)
-    own-requires
+    pixel-requires
     put-number-pixel-requires
     (λ c. search needs)
     (λ c. search needs)

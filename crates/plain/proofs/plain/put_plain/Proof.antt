@@ -36,7 +36,7 @@ mixed-requires c κs =
 put-number-pixel-requires : tie.Need-put-number-pixel-requires Inv-loop μ-loop
 put-number-pixel-requires c κs =
     let e = c .before .before .before .before .before .before .before .before .before .before .before .before .before .before .before in
-    (row-room (e .pre .1 .1 .1 .1) (c .before .before .before .before .before .before .before .before .before .before .before .before .loop .inv) (search needs), rw (c .mixed .ensures, c .before .before .before .before .before .before .before .before .wide .ensures, c .before .before .before .before .before .before .wide2 .ensures) (e .pre .1 .1 .1 .0 .numbers _ (search needs)))
+    ((search needs, row-room (e .pre .1 .1 .1 .1) (c .before .before .before .before .before .before .before .before .before .before .before .before .loop .inv) (search needs)), rw (c .mixed .ensures, c .before .before .before .before .before .before .before .before .wide .ensures, c .before .before .before .before .before .before .wide2 .ensures) (e .pre .1 .1 .1 .0 .numbers _ (search needs)))
 
 loop-again : tie.Need-loop-again Inv-loop μ-loop
 loop-again c =

@@ -1,5 +1,5 @@
 -- Three channels: where the samples of pixels inside lie. Any channels: one pixel, or four, are what the definition takes at a point whose cell lies inside.
--- Provides: `room3`, `small3` (a pixel's samples); `own-pixel`, `next-pixel`, `under-pixel`, `corner-pixel` (a pixel's neighbours); `single-inside`, `single-anywhere`, `bilinear-inside`,
+-- Provides: `room3`, `small3` (a pixel's samples); `single-inside`, `single-anywhere`, `bilinear-inside`,
 -- `bilinear-anywhere` (each way's answer). Assumes nothing.
 use mathlib.Core.Path.{_≡_, refl, sym, ap, _∙_}
 use mathlib.Core.List.{List, [], _∷_}
@@ -30,24 +30,6 @@ module _ (bytes : List ℕ) (w h x y : ℕ) (P : Picture bytes w h 3) (hx : x < 
 
   pub small3 : y * w + x ≤ 0x100_0000
   small3 = number-small bytes w 3 x y (record { height = h; picture = P; column = hx; row = hy })
-
--- ---- it and its neighbours, by the number of its first sample
-module _ (bytes : List ℕ) (w x y : ℕ) where
-  pub own-pixel : widened bytes 3 ((y * w + x) * 3) ≡ pixelAt bytes w 3 x y
-  unfolding pixelAt
-  own-pixel = refl
-
-  pub next-pixel : widened bytes 3 ((y * w + x) * 3 + 3) ≡ pixelAt bytes w 3 (x + 1) y
-  unfolding pixelAt
-  next-pixel = ap (widened bytes 3) (omega arith)
-
-  pub under-pixel : widened bytes 3 ((y * w + x) * 3 + w * 3) ≡ pixelAt bytes w 3 x (y + 1)
-  unfolding pixelAt
-  under-pixel = ap (widened bytes 3) (omega arith)
-
-  pub corner-pixel : widened bytes 3 ((y * w + x) * 3 + w * 3 + 3) ≡ pixelAt bytes w 3 (x + 1) (y + 1)
-  unfolding pixelAt
-  corner-pixel = ap (widened bytes 3) (omega arith)
 
 -- ---- the answers
 module _ (bytes : List ℕ) (w h channels policy : ℕ) (background : Rgba) (x y : Float) where

@@ -2,9 +2,8 @@
 // asked. Assumes that the bytes are such a picture's, and the point's coordinates at most 2^30 + 1 in magnitude.
 ghost use mathlib.Core.Path.{_≡_};
 ghost use mathlib.Core.List.{[], _∷_};
-ghost use Prim.Native.Nat.{_+_, _*_, _≤_, _<_};
-ghost use lib.ListN.{length};
-ghost use Rattle.pixels.specs.Pixel.{Limited, Picture, widened, pixelAt};
+ghost use Prim.Native.Nat.{_+_, _<_};
+ghost use Rattle.pixels.specs.Pixel.{Picture, pixelAt};
 ghost use Rattle.cell.specs.Cell as Cell;
 ghost use Rattle.cell.specs.Cell.{Reached};
 ghost use Rattle.cell.specs.Interpolation.{interpolation};
@@ -12,34 +11,19 @@ ghost use Rattle.weighted.specs.Weighted as Weighted;
 ghost use Rattle.weighted.specs.Weighted.{weighted};
 ghost use Rattle.taps.specs.Weights.{corners};
 ghost use Rattle.blend.specs.Interpolate as Interpolate;
-ghost use Rattle.opaque.specs.Square.{squareSums};
 use blend::bilinear::anywhere;
 use cell::cell::below;
 use cell::cell::fraction;
 use cell::cell::rounded;
+use corners::four::sums3;
 use endian::pattern::bits_of_i64;
 use pixels::at::at;
 use pixels::colour::Rgba;
-use pixels::pixel::sample;
+use pixels::pixel::rgb;
 use weighted::weighted::Sums;
-use weighted::weighted::added;
 use weighted::weighted::divided;
 use weighted::weighted::divides;
 use weighted::weighted::mean;
-use weighted::weighted::nothing;
-
-// The pixel whose first sample is numbered k.
-pub fn rgb(picture: &[u8], k: u64) -> Rgba
-    requires { ⌜ ((k + 3) * 4 ≤ length (now picture)) × Limited (now picture) ⌝ }
-    ensures { λ r. ⌜ r ≡ widened (now (picture .entry)) 3 k ⌝ }
-{
-    Rgba {
-        r: sample(picture, k),
-        g: sample(picture, k + 1),
-        b: sample(picture, k + 2),
-        a: 1.0,
-    }
-}
 
 // The column or row of the one tap.
 fn place(code: u64, x: f64) -> i64
@@ -78,29 +62,7 @@ pub fn single3(
     at(picture, width, height, 3, policy, background, column, row)
 }
 
-// The sums of the four taps of a cell that lies inside, a row and the row after it, at the weights a, b, c and d.
-pub fn sums(
-    picture: &[u8],
-    width: u64,
-    height: u64,
-    i: u64,
-    j: u64,
-    a: f32,
-    b: f32,
-    c: f32,
-    d: f32,
-) -> Sums
-    requires { ⌜ Picture (now picture) width height 3 ⌝ }
-    requires { ⌜ (i + 1 < width) × (j + 1 < height) ⌝ }
-    ensures { λ r. ⌜ r ≡ squareSums (now (picture .entry)) width i j a b c d ⌝ }
-{
-    let k = (j * width + i) * 3;
-    let n = k + width * 3;
-    let s = added(rgb(picture, k + 3), b, added(rgb(picture, k), a, nothing()));
-    added(rgb(picture, n + 3), d, added(rgb(picture, n), c, s))
-}
-
-// The same at the weights of a point with the fractions tx and ty.
+// The sums of the four taps of a cell that lies inside, at the weights of a point with the fractions tx and ty.
 fn four(picture: &[u8], width: u64, height: u64, i: u64, j: u64, tx: f32, ty: f32) -> Sums
     requires { ⌜ Picture (now picture) width height 3 ⌝ }
     requires { ⌜ (i + 1 < width) × (j + 1 < height) ⌝ }
@@ -109,7 +71,7 @@ fn four(picture: &[u8], width: u64, height: u64, i: u64, j: u64, tx: f32, ty: f3
 {
     let sx = 1.0 - tx;
     let sy = 1.0 - ty;
-    sums(
+    sums3(
         picture,
         width,
         height,

@@ -1,12 +1,17 @@
 -- A pixel inside a picture has its samples inside the bytes, since the rows before it, and the pixels before it in its
 -- row, are whole. Products are bounded one factor at a time. Assumes nothing.
-use mathlib.Core.Path.{_≡_}
+use mathlib.Core.Path.{_≡_, refl}
+use mathlib.Core.Bool.{Bool, true, false, cond}
 use mathlib.Core.List.{List}
 use Prim.Native.Nat.{ℕ, suc, _+_, _*_, _≤_, _<_}
 use native.Mathlib.Nat.{mul-le-mul-right, mul-le-mul}
 use native.Mathlib.Omega.{arith}
+use lib.Dec.{eqb}
 use lib.ListN.{length}
-use Rattle.pixels.specs.Pixel.{Inside}
+use Rattle.endian.specs.Bytes.{sampleAt}
+use borrow.Author.Tests.{ne-eqb}
+use Rattle.pixels.specs.Pixel.{Inside, widened}
+use Rattle.pixels.specs.Colour.{one, grey}
 
 -- a pixel's number is below the number of pixels
 pub number-lt : (width height x y : ℕ) → x < width → y < height → y * width + x + 1 ≤ height * width
@@ -38,3 +43,17 @@ module _ (bytes : List ℕ) (width channels x y : ℕ) (i : Inside bytes width c
 
   pub sample-small : (y * width + x) * channels ≤ 0x400_0000
   sample-small = mul-le-mul number-small (i .picture .channels-most)
+
+-- ---- a pixel of fewer channels than three
+pub widened-lone : (bytes : List ℕ) (channels k : ℕ) → (channels ≡ 4 → ⊥) → (channels ≡ 3 → ⊥) → widened bytes channels k ≡ widened bytes 1 k
+unfolding widened
+widened-lone bytes channels k four three = rw (ne-eqb channels 4 four, ne-eqb channels 3 three)
+
+-- without a fourth its alpha is 1
+pub widened-opaque : (bytes : List ℕ) (channels k : ℕ) → (channels ≡ 4 → ⊥) → widened bytes channels k .a ≡ one
+unfolding widened
+widened-opaque bytes channels k four = rw (ne-eqb channels 4 four) (either (eqb channels 3))
+  where
+    either : (three : Bool) → cond three (record { r = sampleAt bytes k; g = sampleAt bytes (k + 1); b = sampleAt bytes (k + 2); a = one }) (grey (sampleAt bytes k) one) .a ≡ one
+    either true = refl
+    either false = refl

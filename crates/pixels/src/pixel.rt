@@ -18,28 +18,52 @@ pub fn sample(picture: &[u8], k: u64) -> f32
     f32_plain_at(picture, 4 * k as usize)
 }
 
-// The pixel whose first sample is numbered k. A picture of one channel has no second sample to read.
+// The pixel of four channels whose first sample is numbered k.
+pub fn rgba(picture: &[u8], k: u64) -> Rgba
+    requires { ⌜ ((k + 4) * 4 ≤ length (now picture)) × Limited (now picture) ⌝ }
+    ensures { λ r. ⌜ r ≡ Pixel.widened (now (picture .entry)) 4 k ⌝ }
+{
+    Rgba {
+        r: sample(picture, k),
+        g: sample(picture, k + 1),
+        b: sample(picture, k + 2),
+        a: sample(picture, k + 3),
+    }
+}
+
+// Of three.
+pub fn rgb(picture: &[u8], k: u64) -> Rgba
+    requires { ⌜ ((k + 3) * 4 ≤ length (now picture)) × Limited (now picture) ⌝ }
+    ensures { λ r. ⌜ r ≡ Pixel.widened (now (picture .entry)) 3 k ⌝ }
+{
+    Rgba {
+        r: sample(picture, k),
+        g: sample(picture, k + 1),
+        b: sample(picture, k + 2),
+        a: 1.0,
+    }
+}
+
+// Of one: there may be no second sample to read.
+pub fn lone(picture: &[u8], k: u64) -> Rgba
+    requires { ⌜ ((k + 1) * 4 ≤ length (now picture)) × Limited (now picture) ⌝ }
+    ensures { λ r. ⌜ r ≡ Pixel.widened (now (picture .entry)) 1 k ⌝ }
+{
+    grey(sample(picture, k), 1.0)
+}
+
+// Of as many as there are.
 fn widened(picture: &[u8], channels: u64, k: u64) -> Rgba
     requires { ⌜ ((0 < channels) × ((k + channels) * 4 ≤ length (now picture))) × Limited (now picture) ⌝ }
     ensures { λ r. ⌜ r ≡ Pixel.widened (now (picture .entry)) channels k ⌝ }
 {
     if channels == 4 {
-        return Rgba {
-            r: sample(picture, k),
-            g: sample(picture, k + 1),
-            b: sample(picture, k + 2),
-            a: sample(picture, k + 3),
-        };
+        return rgba(picture, k);
     }
     if channels == 3 {
-        return Rgba {
-            r: sample(picture, k),
-            g: sample(picture, k + 1),
-            b: sample(picture, k + 2),
-            a: 1.0,
-        };
+        return rgb(picture, k);
     }
-    grey(sample(picture, k), 1.0)
+    lone(picture, k)
 }
 
 pub fn pixel(picture: &[u8], width: u64, channels: u64, x: u64, y: u64) -> Rgba

@@ -1,23 +1,20 @@
--- `opaque::opaque::sums` meets its contract: the four pixels' samples follow each other in two rows. Assumes nothing.
+-- `corners::four::sums3` meets its contract: the four pixels' samples, of three channels, follow each other in two rows. Assumes nothing.
 use Prim.Native.Nat.{_+_, _*_, _≤_}
 use native.Mathlib.Omega.{arith}
+use borrow.Author.Needs.{needs}
 use lib.ListN.{length}
 use denote.Ref.{now}
-use Rattle.opaque.specs.Square.{squareSums}
-use Rattle.opaque.proofs.OpaqueCode.{room3, small3, own-pixel, next-pixel, under-pixel, corner-pixel}
-use mathlib.Core.Path.{_≡_, refl, sym, ap, _∙_}
-use Prim.Native.Nat.{ℕ, _+_, _-_, _≤_, _<_}
-use native.Mathlib.Omega.{arith}
-use borrow.Author.Needs.{needs}
-use Rattle.opaque.proofs.opaque.sums.Statement.{statement}
-use Rattle.opaque.proofs.opaque.sums.Tie as tie
+use Rattle.corners.specs.Square.{squareSums}
+use Rattle.corners.proofs.CornerLaws as Laws
+use Rattle.corners.proofs.CornerLaws.{own-pixel, next-pixel, under-pixel, corner-pixel}
+use Rattle.corners.proofs.four.sums3.Statement.{statement}
+use Rattle.corners.proofs.four.sums3.Tie as tie
 
--- the last of the four lies inside, and the others before it
 corner-room : (q : tie.Start) → (((q .args .j + 1) * q .args .width + (q .args .i + 1)) * 3 + 3) * 4 ≤ length (now (q .args .picture))
-corner-room q = room3 _ _ _ _ _ (q .pre .0) (q .pre .1 .0) (q .pre .1 .1)
+corner-room q = Laws.corner-room _ _ (q .pre .0) (q .pre .1 .0) (q .pre .1 .1)
 
 corner-small : (q : tie.Start) → (q .args .j + 1) * q .args .width + (q .args .i + 1) ≤ 0x100_0000
-corner-small q = small3 _ _ _ _ _ (q .pre .0) (q .pre .1 .0) (q .pre .1 .1)
+corner-small q = Laws.corner-small _ _ (q .pre .0) (q .pre .1 .0) (q .pre .1 .1)
 
 mul-k : tie.Need-mul-k
 mul-k c = let q = c .before in omega (arith, corner-room q, corner-small q)
@@ -43,15 +40,6 @@ rgb-requires c κs = let q = c .before in (omega (arith, corner-room q), q .pre 
 rgb-requires-2 : tie.Need-rgb-requires-2
 rgb-requires-2 c κs = let q = c .before .before in (omega (arith, corner-room q), q .pre .0 .limited)
 
-nothing-requires : tie.Need-nothing-requires
-nothing-requires c κs = search needs
-
-added-requires : tie.Need-added-requires
-added-requires c κs = search needs
-
-added-requires-2 : tie.Need-added-requires-2
-added-requires-2 c κs = search needs
-
 add-rgb-2 : tie.Need-add-rgb-2
 add-rgb-2 c = let q = c .before .before .before .before .before .before in omega (arith, corner-room q, corner-small q)
 
@@ -61,22 +49,16 @@ rgb-requires-3 c κs = let q = c .before .before .before .before .before .before
 rgb-requires-4 : tie.Need-rgb-requires-4
 rgb-requires-4 c κs = let q = c .before .before .before .before .before .before .before in (omega (arith, corner-room q), q .pre .0 .limited)
 
-added-requires-3 : tie.Need-added-requires-3
-added-requires-3 c κs = search needs
-
-added-requires-4 : tie.Need-added-requires-4
-added-requires-4 c κs = search needs
-
 returns : tie.Need-returns
 unfolding squareSums
 returns c =
     let q = c .before .before .before .before .before .before .before .before .before .before in
     let b = now (q .args .picture) in
     let w = q .args .width in
-    rw (c .added4 .ensures, c .before .added3 .ensures, c .before .before .before .before .added2 .ensures, c .before .before .before .before .before .added .ensures, c .before .before .before .before .before .before .nothing .ensures, c .before .before .rgb4 .ensures, c .before .before .before .rgb3 .ensures, c .before .before .before .before .before .before .before .rgb2 .ensures, c .before .before .before .before .before .before .before .before .rgb .ensures, own-pixel b w (q .args .i) (q .args .j), next-pixel b w (q .args .i) (q .args .j), under-pixel b w (q .args .i) (q .args .j), corner-pixel b w (q .args .i) (q .args .j))
+    rw (c .added4 .ensures, c .before .added3 .ensures, c .before .before .before .before .added2 .ensures, c .before .before .before .before .before .added .ensures, c .before .before .before .before .before .before .nothing .ensures, c .before .before .rgb4 .ensures, c .before .before .before .rgb3 .ensures, c .before .before .before .before .before .before .before .rgb2 .ensures, c .before .before .before .before .before .before .before .before .rgb .ensures, own-pixel b w 3 (q .args .i) (q .args .j), next-pixel b w 3 (q .args .i) (q .args .j), under-pixel b w 3 (q .args .i) (q .args .j), corner-pixel b w 3 (q .args .i) (q .args .j))
 
-pub sums-spec : {M : Type 1} → statement M
-sums-spec =
+pub sums3-spec : {M : Type 1} → statement M
+sums3-spec =
     tie.close
     (tie.spec
     mul-k
@@ -87,12 +69,12 @@ sums-spec =
     add-rgb
     rgb-requires
     rgb-requires-2
-    nothing-requires
-    added-requires
-    added-requires-2
+    (λ c κs. search needs)
+    (λ c κs. search needs)
+    (λ c κs. search needs)
     add-rgb-2
     rgb-requires-3
     rgb-requires-4
-    added-requires-3
-    added-requires-4
+    (λ c κs. search needs)
+    (λ c κs. search needs)
     returns)

@@ -1,0 +1,2 @@
+-- The laws of four taps inside.
+pub mod CornerLaws

@@ -23,8 +23,8 @@ use Rattle.pixels.specs.declared.colour.Rgba.{Rgba}
 use Rattle.cubic.specs.Cubic as Cubic
 use Rattle.cubic.specs.Cubic.{cubicWeights}
 use Rattle.cells.specs.Cells.{Cell, Cells}
-use Rattle.cubic3.specs.Sixteen.{kernel}
-use Rattle.cubic3.proofs.SixteenCode.{cubic-inside}
+use Rattle.sixteen.specs.Sixteen.{kernel}
+use Rattle.sixteen.proofs.SixteenCode.{cubic-inside}
 use Rattle.put.specs.Band.{shown, keptColour, keptMatte, pixelBytes}
 use Rattle.put.specs.Joined.{joined, totalled}
 use Rattle.squares.specs.Kernels.{Squares, Past, Weighed4, Kernels, Standing, ofFour, squared}

@@ -13,7 +13,7 @@ use Rattle.pixels.specs.declared.colour.Rgba.{Rgba}
 use Rattle.taps.specs.Taps.{taps}
 use Rattle.weighted.specs.Weighted.{weighted}
 use Rattle.taps.specs.Weights.{products}
-use Rattle.cubic3.specs.Sixteen.{kernel, own}
+use Rattle.sixteen.specs.Sixteen.{kernel, own}
 
 -- the first n squares lie inside: one before their columns and rows, and two after
 pub record Squares (width height n : ℕ) (columns rows : List ℕ) : Type 0 where

@@ -14,7 +14,7 @@ ghost use Rattle.squares.specs.Kernels.{Squares, Past, Weighed4, Kernels
 use cells::cells::cells;
 use cubic::cubic::between;
 use cubic::cubic::middle;
-use cubic3::sixteen::square3;
+use sixteen::sixteen::square3;
 use number::magnitude::abs_f32;
 use pixels::colour::Rgba;
 use plain::plain::sized;

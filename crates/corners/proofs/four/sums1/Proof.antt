@@ -1,7 +1,5 @@
 -- `corners::four::sums1` meets its contract: the four pixels' samples, of one sample, follow each other in two rows. Assumes nothing.
-use mathlib.Core.Path.{_≡_, sym}
-use mathlib.Core.Logic.{_⊎_, inl, inr}
-use Prim.Native.Nat.{ℕ, _+_, _*_, _≤_, _<_}
+use Prim.Native.Nat.{_+_, _*_, _≤_}
 use native.Mathlib.Omega.{arith}
 use borrow.Author.Needs.{needs}
 use lib.ListN.{length}
@@ -9,15 +7,9 @@ use denote.Ref.{now}
 use Rattle.corners.specs.Square.{squareSums}
 use Rattle.corners.proofs.CornerLaws as Laws
 use Rattle.corners.proofs.CornerLaws.{own-pixel, next-pixel, under-pixel, corner-pixel}
-use Rattle.pixels.specs.Pixel.{widened}
-use Rattle.pixels.proofs.PixelCode.{widened-lone}
+use Rattle.pixels.proofs.PixelCode.{lone-widened}
 use Rattle.corners.proofs.four.sums1.Statement.{statement}
 use Rattle.corners.proofs.four.sums1.Tie as tie
-
--- such channels are neither four nor three
-few : (n : ℕ) → n < 3 → (n ≡ 4) ⊎ (n ≡ 3) → ⊥
-few n h (inl e) = omega arith
-few n h (inr e) = omega arith
 
 corner-room : (q : tie.Start) → (((q .args .j + 1) * q .args .width + (q .args .i + 1)) * q .args .channels + q .args .channels) * 4 ≤ length (now (q .args .picture))
 corner-room q = Laws.corner-room _ _ (q .pre .0) (q .pre .1 .1 .0) (q .pre .1 .1 .1)
@@ -70,8 +62,7 @@ returns c =
     let i = q .args .i in
     let j = q .args .j in
     let n = q .args .channels in
-    let alone : (k : ℕ) → widened b 1 k ≡ widened b n k = λ k. sym (widened-lone b n k (λ e. few n (q .pre .1 .0) (inl e)) (λ e. few n (q .pre .1 .0) (inr e))) in
-    rw (c .added4 .ensures, c .before .added3 .ensures, c .before .before .before .before .added2 .ensures, c .before .before .before .before .before .added .ensures, c .before .before .before .before .before .before .nothing .ensures, c .before .before .lone4 .ensures, c .before .before .before .lone3 .ensures, c .before .before .before .before .before .before .before .lone2 .ensures, c .before .before .before .before .before .before .before .before .lone .ensures, alone ((j * w + i) * n), alone ((j * w + i) * n + n), alone ((j * w + i) * n + w * n), alone ((j * w + i) * n + w * n + n), own-pixel b w n i j, next-pixel b w n i j, under-pixel b w n i j, corner-pixel b w n i j)
+    rw (c .added4 .ensures, c .before .added3 .ensures, c .before .before .before .before .added2 .ensures, c .before .before .before .before .before .added .ensures, c .before .before .before .before .before .before .nothing .ensures, c .before .before .lone4 .ensures, c .before .before .before .lone3 .ensures, c .before .before .before .before .before .before .before .lone2 .ensures, c .before .before .before .before .before .before .before .before .lone .ensures, lone-widened b n ((j * w + i) * n) (q .pre .1 .0), lone-widened b n ((j * w + i) * n + n) (q .pre .1 .0), lone-widened b n ((j * w + i) * n + w * n) (q .pre .1 .0), lone-widened b n ((j * w + i) * n + w * n + n) (q .pre .1 .0), own-pixel b w n i j, next-pixel b w n i j, under-pixel b w n i j, corner-pixel b w n i j)
 
 pub sums1-spec : {M : Type 1} → statement M
 sums1-spec =

@@ -1,12 +1,12 @@
--- `cubic3::sixteen::kernel` meets its contract: by the test of the code. Assumes nothing.
+-- `sixteen::sixteen::kernel` meets its contract: by the test of the code. Assumes nothing.
 use borrow.Author.Tests.{ne-eqb}
-use Rattle.cubic3.specs.Sixteen.{kernel}
+use Rattle.sixteen.specs.Sixteen.{kernel}
 use mathlib.Core.Path.{_≡_, refl, sym, ap, _∙_}
 use Prim.Native.Nat.{ℕ, _+_, _-_, _≤_, _<_}
 use native.Mathlib.Omega.{arith}
 use borrow.Author.Needs.{needs}
-use Rattle.cubic3.proofs.sixteen.kernel.Statement.{statement}
-use Rattle.cubic3.proofs.sixteen.kernel.Tie as tie
+use Rattle.sixteen.proofs.sixteen.kernel.Statement.{statement}
+use Rattle.sixteen.proofs.sixteen.kernel.Tie as tie
 
 catrom-requires : tie.Need-catrom-requires
 catrom-requires c κs = search needs

@@ -1,4 +1,4 @@
--- `cubic3::sixteen::cubic3` meets its contract: where the bits of both first indexes are below the sides less three, all sixteen taps lie inside. Assumes nothing.
+-- `sixteen::sixteen::cubic` meets its contract: where the bits of both first indexes are below the sides less three, all sixteen taps lie inside. Assumes nothing.
 use mathlib.Core.Path.{_≡_, sym, ap, _∙_}
 use Prim.Native.Nat.{ℕ, _+_, _-_, _^_, _≤_, _<_}
 use native.Mathlib.Omega.{arith}
@@ -11,13 +11,13 @@ use Rattle.endian.specs.Bytes.{twosComplement}
 use Rattle.policies.proofs.IndexCode.{argument, bits-inside}
 use Rattle.cell.proofs.CellLaws.{floor-small}
 use Rattle.cell.proofs.SignedCode.{again, asked}
-use Rattle.cubic3.proofs.SixteenCode.{cubic-inside, cubic-anywhere}
+use Rattle.sixteen.proofs.SixteenCode.{cubic-inside, cubic-anywhere}
 use mathlib.Core.Path.{_≡_, refl, sym, ap, _∙_}
 use Prim.Native.Nat.{ℕ, _+_, _-_, _≤_, _<_}
 use native.Mathlib.Omega.{arith}
 use borrow.Author.Needs.{needs}
-use Rattle.cubic3.proofs.sixteen.cubic3.Statement.{statement}
-use Rattle.cubic3.proofs.sixteen.cubic3.Tie as tie
+use Rattle.sixteen.proofs.sixteen.cubic.Statement.{statement}
+use Rattle.sixteen.proofs.sixteen.cubic.Tie as tie
 
 -- a first index that is below a side less three
 inside : (i n s : ℕ) → s ≡ n - 3 → i < s → i + 3 < n
@@ -67,27 +67,27 @@ fraction-requires-2 c κs = search needs
 kernel-requires-2 : tie.Need-kernel-requires-2
 kernel-requires-2 c κs = search needs
 
-square3-requires : tie.Need-square3-requires
-square3-requires c κs = (search needs, (inside _ _ _ (c .before .before .before .before .before .before .before .before .before .starts .ensures) (c .before .before .before .before .before .before .before .before .if1 .taken), inside _ _ _ (c .before .before .before .before .before .before .before .starts2 .ensures) (ltb-true _ _ (c .before .before .before .before .before .before .if2 .taken))))
+square-requires : tie.Need-square-requires
+square-requires c κs = (search needs, (inside _ _ _ (c .before .before .before .before .before .before .before .before .before .starts .ensures) (c .before .before .before .before .before .before .before .before .if1 .taken), inside _ _ _ (c .before .before .before .before .before .before .before .starts2 .ensures) (ltb-true _ _ (c .before .before .before .before .before .before .if2 .taken))))
 
 returns : tie.Need-returns
 returns c =
     let a = c .before .before .before .before .before .before .before .before .before .before .before .before .before .before .before .before .before .before in
     let hx = inside _ _ _ (c .before .before .before .before .before .before .before .before .before .before .starts .ensures) (c .before .before .before .before .before .before .before .before .before .if1 .taken) in
     let hy = inside _ _ _ (c .before .before .before .before .before .before .before .before .starts2 .ensures) (ltb-true _ _ (c .before .before .before .before .before .before .before .if2 .taken)) in
-    cubic-inside _ _ _ (a .args .policy) (a .args .background) _ _ (a .args .code) (a .pre .1 .1 .0) (a .pre .1 .1 .1) _ _ hx hy
+    cubic-inside _ _ _ _ (a .args .policy) (a .args .background) _ _ (a .args .code) (a .pre .1 .1 .0) (a .pre .1 .1 .1) _ _ hx hy
     (started (c .before .before .before .before .before .before .before .before .before .before .before .before .before .before .before .before2 .result) (c .before .before .before .before .before .before .before .before .before .before .before .before .before .before .before .before .below .result) (c .before .before .before .before .before .before .before .before .before .before .before .before .before .before .before .before2 .ok) (c .before .before .before .before .before .before .before .before .before .before .before .before .before .before .before .before .below .ok) (c .before .before .before .before .before .before .before .before .before .before .before .before .before .before .bits-of-i64 .ensures) (c .before .before .before .before .before .before .before .before .before .before .before .before .before .before .before .before2 .ensures) (c .before .before .before .before .before .before .before .before .before .before .before .before .before .before .before .before .below .ensures) hx (a .pre .0 .sizes .width-most))
     (started (c .before .before .before .before .before .before .before .before .before .before .before .before .before3 .result) (c .before .before .before .before .before .before .before .before .before .before .before .before .before .below2 .result) (c .before .before .before .before .before .before .before .before .before .before .before .before .before3 .ok) (c .before .before .before .before .before .before .before .before .before .before .before .before .before .below2 .ok) (c .before .before .before .before .before .before .before .before .before .before .before .bits-of-i642 .ensures) (c .before .before .before .before .before .before .before .before .before .before .before .before .before3 .ensures) (c .before .before .before .before .before .before .before .before .before .before .before .before .before .below2 .ensures) hy (a .pre .0 .sizes .height-most))
-    (c .before .before .before .before .before .before .fraction .ensures) (c .before .before .before .before .fraction2 .ensures) (c .before .before .before .before .before .kernel .ensures) (c .before .before .before .kernel2 .ensures) (c .square3 .ensures)
+    (c .before .before .before .before .before .before .fraction .ensures) (c .before .before .before .before .fraction2 .ensures) (c .before .before .before .before .before .kernel .ensures) (c .before .before .before .kernel2 .ensures) (c .square .ensures)
 
 several-requires : tie.Need-several-requires
 several-requires c κs = search needs
 
 returns-2 : tie.Need-returns-2
-returns-2 c = let a = c .before .before .before .before .before .before .before .before .before .before in cubic-anywhere _ _ _ _ _ _ _ (a .args .code) (a .pre .1 .1 .0) (a .pre .1 .1 .1) (c .several .ensures)
+returns-2 c = let a = c .before .before .before .before .before .before .before .before .before .before in cubic-anywhere _ _ _ _ _ _ _ _ (a .args .code) (a .pre .1 .1 .0) (a .pre .1 .1 .1) (c .several .ensures)
 
-pub cubic3-spec : {M : Type 1} → statement M
-cubic3-spec =
+pub cubic-spec : {M : Type 1} → statement M
+cubic-spec =
     tie.close
     (tie.spec
     below-requires
@@ -102,7 +102,7 @@ cubic3-spec =
     kernel-requires
     fraction-requires-2
     kernel-requires-2
-    square3-requires
+    square-requires
     returns
     several-requires
     returns-2)

@@ -1,0 +1,156 @@
+// `Catrom` and `Spline`: where the four by four taps lie inside they are read straight from the bytes, row by row, and no policy is asked. Assumes
+// that the bytes are a picture's, and the point's coordinates at most 2^30 + 1 in magnitude.
+ghost use mathlib.Core.Path.{_≡_};
+ghost use Prim.Native.Nat.{_+_, _-_, _*_, _≤_, _<_};
+ghost use lib.IntN.{pos};
+ghost use lib.ListN.{length};
+ghost use Rattle.pixels.specs.Pixel.{Limited, Picture};
+ghost use Rattle.cell.specs.Cell.{Reached};
+ghost use Rattle.taps.specs.Taps.{taps};
+ghost use Rattle.weighted.specs.Weighted.{weighted};
+ghost use Rattle.taps.specs.Weights.{products};
+ghost use Rattle.blend.specs.Interpolate as Interpolate;
+ghost use Rattle.sixteen.specs.Sixteen.{kernel, own, lineSums};
+use blend::square::several;
+use cell::cell::before;
+use cell::cell::below;
+use cell::cell::fraction;
+use cubic::cubic::catrom;
+use cubic::cubic::spline;
+use endian::pattern::bits_of_i64;
+use pixels::colour::Rgba;
+use pixels::pixel::lone;
+use pixels::pixel::rgb;
+use pixels::pixel::rgba;
+use weighted::weighted::Sums;
+use weighted::weighted::added;
+use weighted::weighted::mean;
+use weighted::weighted::nothing;
+
+// The sums with a row of four taps added, whose samples are numbered from k on: of four channels.
+fn line4(picture: &[u8], k: u64, wx: &[f32; 4], v: f32, s: Sums) -> Sums
+    requires { ⌜ ((k + 16) * 4 ≤ length (now picture)) × Limited (now picture) ⌝ }
+    ensures { λ r. ⌜ r ≡ lineSums (now (picture .entry)) 4 k (now (wx .entry)) v s ⌝ }
+{
+    let last = k + 12;
+    let a = added(rgba(picture, k), wx[0] * v, s);
+    let b = added(rgba(picture, k + 4), wx[1] * v, a);
+    let c = added(rgba(picture, k + 8), wx[2] * v, b);
+    added(rgba(picture, last), wx[3] * v, c)
+}
+
+// Of three.
+fn line3(picture: &[u8], k: u64, wx: &[f32; 4], v: f32, s: Sums) -> Sums
+    requires { ⌜ ((k + 12) * 4 ≤ length (now picture)) × Limited (now picture) ⌝ }
+    ensures { λ r. ⌜ r ≡ lineSums (now (picture .entry)) 3 k (now (wx .entry)) v s ⌝ }
+{
+    let last = k + 9;
+    let a = added(rgb(picture, k), wx[0] * v, s);
+    let b = added(rgb(picture, k + 3), wx[1] * v, a);
+    let c = added(rgb(picture, k + 6), wx[2] * v, b);
+    added(rgb(picture, last), wx[3] * v, c)
+}
+
+// Of fewer: the colour is one sample three times.
+fn line1(picture: &[u8], channels: u64, k: u64, wx: &[f32; 4], v: f32, s: Sums) -> Sums
+    requires { ⌜ (0 < channels) × (channels < 3) ⌝ }
+    requires { ⌜ ((k + 4 * channels) * 4 ≤ length (now picture)) × Limited (now picture) ⌝ }
+    ensures { λ r. ⌜ r ≡ lineSums (now (picture .entry)) channels k (now (wx .entry)) v s ⌝ }
+{
+    let last = k + 3 * channels;
+    let a = added(lone(picture, k), wx[0] * v, s);
+    let b = added(lone(picture, k + channels), wx[1] * v, a);
+    let c = added(lone(picture, k + 2 * channels), wx[2] * v, b);
+    added(lone(picture, last), wx[3] * v, c)
+}
+
+// Of as many as there are.
+fn line(picture: &[u8], channels: u64, k: u64, wx: &[f32; 4], v: f32, s: Sums) -> Sums
+    requires { ⌜ (0 < channels) × (channels ≤ 4) ⌝ }
+    requires { ⌜ ((k + 4 * channels) * 4 ≤ length (now picture)) × Limited (now picture) ⌝ }
+    ensures { λ r. ⌜ r ≡ lineSums (now (picture .entry)) channels k (now (wx .entry)) v s ⌝ }
+{
+    if channels == 4 {
+        return line4(picture, k, wx, v, s);
+    }
+    if channels == 3 {
+        return line3(picture, k, wx, v, s);
+    }
+    line1(picture, channels, k, wx, v, s)
+}
+
+// The weighted mean of the sixteen taps from column i, row j on.
+pub fn square(
+    picture: &[u8],
+    width: u64,
+    height: u64,
+    channels: u64,
+    i: u64,
+    j: u64,
+    wx: &[f32; 4],
+    wy: &[f32; 4],
+) -> Rgba
+    requires { ⌜ Picture (now picture) width height channels ⌝ }
+    requires { ⌜ (i + 3 < width) × (j + 3 < height) ⌝ }
+    ensures { λ r.
+        ⌜ r ≡ weighted (taps (own (now (picture .entry)) width channels) (record { column = pos i; row = pos j }) 4) (products (now (wx .entry)) (now (wy .entry))) 16 ⌝ }
+{
+    let mut s = nothing();
+    for m in 0..4 {
+        s = line(
+            picture,
+            channels,
+            ((j + m as u64) * width + i) * channels,
+            wx,
+            wy[m],
+            s,
+        );
+    }
+    mean(s)
+}
+
+// The weights of a column or a row, by the interpolation's code: 6 is `Catrom`, 7 is `Spline`.
+fn kernel(code: u64, t: f32) -> [f32; 4]
+    ensures { λ r. ⌜ r ≡ kernel code t ⌝ }
+{
+    if code == 6 {
+        return catrom(t);
+    }
+    spline(t)
+}
+
+// A side less three, where a square of four starts last.
+fn starts(n: u64) -> u64
+    ensures { λ r. ⌜ r ≡ n - 3 ⌝ }
+{
+    if n < 3 {
+        return 0;
+    }
+    n - 3
+}
+
+pub fn cubic(
+    picture: &[u8],
+    width: u64,
+    height: u64,
+    channels: u64,
+    policy: u64,
+    code: u64,
+    background: Rgba,
+    x: f64,
+    y: f64,
+) -> Rgba
+    requires { ⌜ Picture (now picture) width height channels ⌝ }
+    requires { ⌜ Reached x × Reached y ⌝ }
+    requires { ⌜ (6 ≤ code) × (code < 8) ⌝ }
+    ensures { λ r. ⌜ r ≡ Interpolate.interpolate (now (picture .entry)) width height channels policy code background x y ⌝ }
+{
+    let i = bits_of_i64(before(below(x)));
+    let j = bits_of_i64(before(below(y)));
+    if i < starts(width) && j < starts(height) {
+        let wx = kernel(code, fraction(x));
+        let wy = kernel(code, fraction(y));
+        return square(picture, width, height, channels, i, j, &wx, &wy);
+    }
+    several(picture, width, height, channels, policy, code, background, x, y)
+}

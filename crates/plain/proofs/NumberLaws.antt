@@ -51,9 +51,9 @@ bounded-numbers {b} {c} B =
       alpha = number-is (c .a) (B .alpha .number);
     }
 
-module _ (bytes : List ℕ) (w h i j : ℕ) (P : Picture bytes w h 3) (hi : i + 1 < w) (hj : j + 1 < h) where
+module _ (bytes : List ℕ) (w h n i j : ℕ) (P : Picture bytes w h n) (hi : i + 1 < w) (hj : j + 1 < h) where
   abbrev square : List Rgba
-  square = pixelAt bytes w 3 i j ∷ pixelAt bytes w 3 (i + 1) j ∷ pixelAt bytes w 3 i (j + 1) ∷ pixelAt bytes w 3 (i + 1) (j + 1) ∷ []
+  square = pixelAt bytes w n i j ∷ pixelAt bytes w n (i + 1) j ∷ pixelAt bytes w n i (j + 1) ∷ pixelAt bytes w n (i + 1) (j + 1) ∷ []
 
   tap-bounded : (k : ℕ) → k < 4 → BoundedBy (frac 65536 1) (tapAt square k)
   tap-bounded zero l = pixel-bounded (picture-bounded P) i j (omega arith) (omega arith)
@@ -70,6 +70,6 @@ module _ (bytes : List ℕ) (w h i j : ℕ) (P : Picture bytes w h 3) (hi : i + 
     weight-bounded (suc (suc (suc zero))) l = bilinear-bounded tx ty x y .1 .1 .1
     weight-bounded (suc (suc (suc (suc k)))) l = absurd (omega arith)
 
-    pub blend-numbers : Numbers (blend bytes w i j tx ty)
+    pub blend-numbers : Numbers (blend bytes w n i j tx ty)
     unfolding blend
     blend-numbers = bounded-numbers (weighted-bounded square (corners tx ty) 4 (lit≤ tt) tap-bounded weight-bounded)

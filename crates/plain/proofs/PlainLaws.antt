@@ -4,24 +4,26 @@
 -- `places-colours` (from cells and places to the band's definition), `marked`, `no-matte`, `no-mattes` (points that can be used). Assumes nothing.
 use mathlib.Core.Path.{_≡_, refl, sym, ap, _∙_}
 use mathlib.Core.Logic.{_≢_}
-use mathlib.Core.Bool.{Bool, true, false, cond, _&&_}
+use mathlib.Core.Bool.{Bool, true, false, cond, _&&_, false≢true}
 use mathlib.Core.List.{List, [], _∷_}
 use Prim.Native.Nat.{ℕ, _+_, _-_, _*_, _≤_, _<_}
 use native.Mathlib.Nat.{not-suc-le-zero}
 use native.Mathlib.Omega.{arith}
 use borrow.Author.Count.{below-more}
-use lib.Dec.{T}
+use lib.Dec.{T, eqb}
 use lib.ListN.{length, getD, set, length-set}
 use lib.Seq.{getD-set-same, getD-set-other}
 use lib.Ieee.{Float, nan}
 use Rattle.exact.specs.Double.{_⊖_}
-use Rattle.exact.specs.Single.{_⊘_}
+use Rattle.exact.specs.Single.{_⊗_, _⊘_}
 use Rattle.exact.specs.Warp.{half}
-use Rattle.exact.specs.Weighted.{w00, w10, w01, w11, weightSum, alphaSum, colourSum, Unit32}
+use Rattle.exact.specs.Weighted.{w00, w10, w01, w11, fourSum, weightSum, Unit32}
 use Rattle.exact.proofs.Weighted.{alpha-sum, alpha-one}
 use Rattle.matrix.specs.Matrix.{at}
 use Rattle.number.specs.Magnitude.{within}
-use Rattle.pixels.specs.Pixel.{Picture, pixelAt, widened}
+use Rattle.pixels.specs.Colour.{one}
+use Rattle.pixels.specs.Pixel.{Picture, pixelAt}
+use Rattle.pixels.proofs.PixelCode.{widened-opaque}
 use Rattle.pixels.specs.declared.colour.Rgba.{Rgba}
 use Rattle.point.specs.Point.{limit, usable}
 use Rattle.cell.specs.Interpolation.{interpolation}
@@ -30,7 +32,8 @@ use Rattle.taps.specs.Weights.{corners}
 use Rattle.cell.proofs.CellFloor.{cell-law}
 use Rattle.weighted.proofs.WeightedOpaque.{summed-four, opaque-four}
 use Rattle.cells.specs.Cells.{Cell, Cells, Place, Places}
-use Rattle.opaque.specs.Square.{squareSums}
+use Rattle.weighted.specs.declared.weighted.Sums.{Sums}
+use Rattle.corners.specs.Square.{squareSums}
 use Rattle.opaque.proofs.OpaqueCode.{bilinear-inside, single-inside}
 use Rattle.put.specs.Band.{Source, shown, keptColour, keptMatte, pixelBytes}
 use Rattle.put.specs.Joined.{joined, totalled}
@@ -77,26 +80,50 @@ module _ {xs ys w₁ w₂ w₃ w₄ sums : List Float} where
   weigh-last k n a s = record { weighed = λ i h. s .done .weighed i (omega arith) }
 
 -- ---- one cell
-module _ (bytes : List ℕ) (w i j : ℕ) where
-  own : (tx ty : Float) → Unit32 tx → Unit32 ty → over (squareSums bytes w i j (w00 tx ty) (w10 tx ty) (w01 tx ty) (w11 tx ty)) (weightSum tx ty) ≡ blend bytes w i j tx ty
-  unfolding blend weighted squareSums added pixelAt widened
-  own tx ty x y =
-      let p = pixelAt bytes w 3 i j in
-      let q = pixelAt bytes w 3 (i + 1) j in
-      let r = pixelAt bytes w 3 i (j + 1) in
-      let s = pixelAt bytes w 3 (i + 1) (j + 1) in
+module _ (bytes : List ℕ) (w n i j : ℕ) (tx ty : Float) where
+  abbrev p : Rgba
+  p = pixelAt bytes w n i j
+
+  abbrev q : Rgba
+  q = pixelAt bytes w n (i + 1) j
+
+  abbrev r : Rgba
+  r = pixelAt bytes w n i (j + 1)
+
+  abbrev s : Rgba
+  s = pixelAt bytes w n (i + 1) (j + 1)
+
+  abbrev sums : Sums
+  sums = squareSums bytes w n i j (w00 tx ty) (w10 tx ty) (w01 tx ty) (w11 tx ty)
+
+  own-mean : mean sums ≡ blend bytes w n i j tx ty
+  unfolding blend weighted squareSums
+  own-mean = sym (ap mean (summed-four (p ∷ q ∷ r ∷ s ∷ []) (corners tx ty)))
+
+  -- with every alpha 1, the sum of alphas is that of the weights
+  own-over : (n ≡ 4 → ⊥) → Unit32 tx → Unit32 ty → over sums (weightSum tx ty) ≡ mean sums
+  unfolding squareSums added pixelAt
+  own-over fewer x y =
+      let P : p .a ≡ one = widened-opaque bytes n _ fewer in
+      let Q : q .a ≡ one = widened-opaque bytes n _ fewer in
+      let R : r .a ≡ one = widened-opaque bytes n _ fewer in
+      let S : s .a ≡ one = widened-opaque bytes n _ fewer in
       (λ t. record {
-        r = colourSum tx ty (p .r) (q .r) (r .r) (s .r) ⊘ sym (alpha-sum tx ty x y) t;
-        g = colourSum tx ty (p .g) (q .g) (r .g) (s .g) ⊘ sym (alpha-sum tx ty x y) t;
-        b = colourSum tx ty (p .b) (q .b) (r .b) (s .b) ⊘ sym (alpha-sum tx ty x y) t;
+        r = fourSum (w00 tx ty ⊗ p .r ⊗ P t) (w10 tx ty ⊗ q .r ⊗ Q t) (w01 tx ty ⊗ r .r ⊗ R t) (w11 tx ty ⊗ s .r ⊗ S t) ⊘ sym (alpha-sum tx ty x y) t;
+        g = fourSum (w00 tx ty ⊗ p .g ⊗ P t) (w10 tx ty ⊗ q .g ⊗ Q t) (w01 tx ty ⊗ r .g ⊗ R t) (w11 tx ty ⊗ s .g ⊗ S t) ⊘ sym (alpha-sum tx ty x y) t;
+        b = fourSum (w00 tx ty ⊗ p .b ⊗ P t) (w10 tx ty ⊗ q .b ⊗ Q t) (w01 tx ty ⊗ r .b ⊗ R t) (w11 tx ty ⊗ s .b ⊗ S t) ⊘ sym (alpha-sum tx ty x y) t;
         a = sym (alpha-one tx ty x y) t;
       })
-      ∙ sym (opaque-four tx ty x y p q r s refl refl refl refl)
-      ∙ sym (ap mean (summed-four (p ∷ q ∷ r ∷ s ∷ []) (corners tx ty)))
+      ∙ sym (opaque-four tx ty x y p q r s P Q R S)
 
-  pub mixed-blend : {tx ty a b c d s : Float} → Unit32 tx → Unit32 ty → Weighed tx ty a b c d s → mixed bytes w i j a b c d s ≡ blend bytes w i j tx ty
+  pub mixed-blend : {a b c d t : Float} → Unit32 tx → Unit32 ty → Weighed tx ty a b c d t → mixed bytes w n i j a b c d t ≡ blend bytes w n i j tx ty
   unfolding mixed
-  mixed-blend {tx} {ty} x y W = (λ t. over (squareSums bytes w i j (W .at-00 t) (W .at-10 t) (W .at-01 t) (W .at-11 t)) (W .total t)) ∙ own tx ty x y
+  mixed-blend {a} {b} {c} {d} {t} x y W =
+      (λ z. mixed bytes w n i j (W .at-00 z) (W .at-10 z) (W .at-01 z) (W .at-11 z) (W .total z)) ∙ either (eqb n 4) refl ∙ own-mean
+    where
+      either : (four : Bool) → eqb n 4 ≡ four → cond four (mean sums) (over sums (weightSum tx ty)) ≡ mean sums
+      either true e = refl
+      either false e = own-over (λ m. false≢true (sym e ∙ rw m)) x y
 
 -- ---- a point's own cell
 both : (a b : Bool) → T a → T b → a && b ≡ true
@@ -122,30 +149,30 @@ no-mattes n us vs h =
     none : (n : ℕ) {r : ℕ} → r ≤ n * 0 → r ≡ 0
     none n l = omega arith
 
-cell-colour : (bytes : List ℕ) (w h policy : ℕ) (background matte : Rgba) {u v tx ty : Float} {i j : ℕ} → Cell (w - 1) u i tx → Cell (h - 1) v j ty
-    → blend bytes w i j tx ty
-    ≡ keptColour (record { image = record { bytes = bytes; width = w; height = h; channels = 3 }; policy = policy; interpolation = 5; background = background; matte = matte }) u v
+cell-colour : (bytes : List ℕ) (w h n policy : ℕ) (background matte : Rgba) {u v tx ty : Float} {i j : ℕ} → Cell (w - 1) u i tx → Cell (h - 1) v j ty
+    → blend bytes w n i j tx ty
+    ≡ keptColour (record { image = record { bytes = bytes; width = w; height = h; channels = n }; policy = policy; interpolation = 5; background = background; matte = matte }) u v
 unfolding shown blend
-cell-colour bytes w h policy background matte {u} {v} {tx} {ty} {i} {j} C D =
+cell-colour bytes w h n policy background matte {u} {v} {tx} {ty} {i} {j} C D =
     rw (marked u v (C .usable) (D .usable))
-    (bilinear-inside bytes w h 3 policy background (u ⊖ half) (v ⊖ half) i j (next i w (C .below)) (next j h (D .below)) (sym (C .floor)) (sym (D .floor)) (C .fraction) (D .fraction) refl)
+    (bilinear-inside bytes w h n policy background (u ⊖ half) (v ⊖ half) i j (next i w (C .below)) (next j h (D .below)) (sym (C .floor)) (sym (D .floor)) (C .fraction) (D .fraction) refl)
 
 -- ---- a stretch of them
-module _ (bytes : List ℕ) (w : ℕ) (columns rows : List ℕ) {n : ℕ} {xs ys w₁ w₂ w₃ w₄ sums : List Float} where
+module _ (bytes : List ℕ) (w channels : ℕ) (columns rows : List ℕ) {n : ℕ} {xs ys w₁ w₂ w₃ w₄ sums : List Float} where
   pub blend-all : Fractions n xs → Fractions n ys → Weights n xs ys w₁ w₂ w₃ w₄ sums
-      → joined (λ (k : ℕ). pixelBytes 3 (mixed bytes w (getD columns k 0) (getD rows k 0) (at w₁ k) (at w₂ k) (at w₃ k) (at w₄ k) (at sums k))) n
-      ≡ joined (λ (k : ℕ). pixelBytes 3 (blend bytes w (getD columns k 0) (getD rows k 0) (at xs k) (at ys k))) n
+      → joined (λ (k : ℕ). pixelBytes channels (mixed bytes w channels (getD columns k 0) (getD rows k 0) (at w₁ k) (at w₂ k) (at w₃ k) (at w₄ k) (at sums k))) n
+      ≡ joined (λ (k : ℕ). pixelBytes channels (blend bytes w channels (getD columns k 0) (getD rows k 0) (at xs k) (at ys k))) n
   blend-all X Y W =
-      joined-same (λ (k : ℕ). pixelBytes 3 (mixed bytes w (getD columns k 0) (getD rows k 0) (at w₁ k) (at w₂ k) (at w₃ k) (at w₄ k) (at sums k)))
-      (λ (k : ℕ). pixelBytes 3 (blend bytes w (getD columns k 0) (getD rows k 0) (at xs k) (at ys k))) n
-      (λ k l. ap (pixelBytes 3) (mixed-blend bytes w (getD columns k 0) (getD rows k 0) (X .unit k l) (Y .unit k l) (W .weighed k l)))
+      joined-same (λ (k : ℕ). pixelBytes channels (mixed bytes w channels (getD columns k 0) (getD rows k 0) (at w₁ k) (at w₂ k) (at w₃ k) (at w₄ k) (at sums k)))
+      (λ (k : ℕ). pixelBytes channels (blend bytes w channels (getD columns k 0) (getD rows k 0) (at xs k) (at ys k))) n
+      (λ k l. ap (pixelBytes channels) (mixed-blend bytes w channels (getD columns k 0) (getD rows k 0) (at xs k) (at ys k) (X .unit k l) (Y .unit k l) (W .weighed k l)))
 
-  pub mixable : (h : ℕ) → Picture bytes w h 3 → Inside w h n columns rows → Fractions n xs → Fractions n ys → Weights n xs ys w₁ w₂ w₃ w₄ sums → Mixable bytes w n columns rows w₁ w₂ w₃ w₄ sums
+  pub mixable : (h : ℕ) → Picture bytes w h channels → Inside w h n columns rows → Fractions n xs → Fractions n ys → Weights n xs ys w₁ w₂ w₃ w₄ sums → Mixable bytes w channels n columns rows w₁ w₂ w₃ w₄ sums
   mixable h P I X Y W =
       record {
         numbers = λ k l.
-            rw (mixed-blend bytes w (getD columns k 0) (getD rows k 0) (X .unit k l) (Y .unit k l) (W .weighed k l))
-            (blend-numbers bytes w h (getD columns k 0) (getD rows k 0) P (I .column k l) (I .row k l) (at xs k) (at ys k) (X .unit k l) (Y .unit k l));
+            rw (mixed-blend bytes w channels (getD columns k 0) (getD rows k 0) (at xs k) (at ys k) (X .unit k l) (Y .unit k l) (W .weighed k l))
+            (blend-numbers bytes w h channels (getD columns k 0) (getD rows k 0) P (I .column k l) (I .row k l) (at xs k) (at ys k) (X .unit k l) (Y .unit k l));
       }
 
 pub cells-units : {reach n : ℕ} {us : List Float} {cs : List ℕ} {ts : List Float} → Cells reach n us cs ts → Fractions n ts
@@ -158,13 +185,13 @@ module _ (w h : ℕ) {n : ℕ} {us vs : List Float} {columns rows : List ℕ} {x
   pub cells-mattes : 0 ≡ totalled (λ (k : ℕ). keptMatte (at us k) (at vs k)) n
   cells-mattes = no-mattes n us vs (λ k l. no-matte (at us k) (at vs k) (C .cell k l .usable) (D .cell k l .usable))
 
-  pub cells-colours : (bytes : List ℕ) (policy : ℕ) (background matte : Rgba)
-      → joined (λ (k : ℕ). pixelBytes 3 (blend bytes w (getD columns k 0) (getD rows k 0) (at xs k) (at ys k))) n
-      ≡ joined (λ (k : ℕ). pixelBytes 3 (keptColour (record { image = record { bytes = bytes; width = w; height = h; channels = 3 }; policy = policy; interpolation = 5; background = background; matte = matte }) (at us k) (at vs k))) n
-  cells-colours bytes policy background matte =
-      joined-same (λ (k : ℕ). pixelBytes 3 (blend bytes w (getD columns k 0) (getD rows k 0) (at xs k) (at ys k)))
-      (λ (k : ℕ). pixelBytes 3 (keptColour (record { image = record { bytes = bytes; width = w; height = h; channels = 3 }; policy = policy; interpolation = 5; background = background; matte = matte }) (at us k) (at vs k))) n
-      (λ k l. ap (pixelBytes 3) (cell-colour bytes w h policy background matte (C .cell k l) (D .cell k l)))
+  pub cells-colours : (bytes : List ℕ) (channels policy : ℕ) (background matte : Rgba)
+      → joined (λ (k : ℕ). pixelBytes channels (blend bytes w channels (getD columns k 0) (getD rows k 0) (at xs k) (at ys k))) n
+      ≡ joined (λ (k : ℕ). pixelBytes channels (keptColour (record { image = record { bytes = bytes; width = w; height = h; channels = channels }; policy = policy; interpolation = 5; background = background; matte = matte }) (at us k) (at vs k))) n
+  cells-colours bytes channels policy background matte =
+      joined-same (λ (k : ℕ). pixelBytes channels (blend bytes w channels (getD columns k 0) (getD rows k 0) (at xs k) (at ys k)))
+      (λ (k : ℕ). pixelBytes channels (keptColour (record { image = record { bytes = bytes; width = w; height = h; channels = channels }; policy = policy; interpolation = 5; background = background; matte = matte }) (at us k) (at vs k))) n
+      (λ k l. ap (pixelBytes channels) (cell-colour bytes w h channels policy background matte (C .cell k l) (D .cell k l)))
 
 -- ---- one tap
 place-colour : (bytes : List ℕ) (w h channels policy : ℕ) (background matte : Rgba) (code : ℕ) → code < 2 → {u v : Float} {i j : ℕ} → Place (interpolation code) w u i → Place (interpolation code) h v j

@@ -1,8 +1,10 @@
--- A stretch whose places or cells lie inside a picture of three channels. By `Bilinear`: each point's four weights and their sum, and the colour that they make of the
+-- A stretch whose places or cells lie inside a picture. By `Bilinear`: each point's four weights and their sum, and the colour that they make of the
 -- cell's four pixels. Assumes nothing.
 use Prim.Native.Nat.{ℕ, _+_, _<_}
 use mathlib.Core.Path.{_≡_}
+use mathlib.Core.Bool.{cond}
 use mathlib.Core.List.{List, [], _∷_}
+use lib.Dec.{eqb}
 use lib.ListN.{getD}
 use lib.Ieee.{Float}
 use Rattle.exact.specs.Single.{_⊘_}
@@ -12,10 +14,10 @@ use Rattle.pixels.specs.Colour.{one}
 use Rattle.pixels.specs.Pixel.{pixelAt}
 use Rattle.pixels.specs.declared.colour.Rgba.{Rgba}
 use Rattle.stored.specs.Store.{Numbers}
-use Rattle.weighted.specs.Weighted.{weighted}
+use Rattle.weighted.specs.Weighted.{weighted, mean}
 use Rattle.taps.specs.Weights.{corners}
 use Rattle.weighted.specs.declared.weighted.Sums.{Sums}
-use Rattle.opaque.specs.Square.{squareSums}
+use Rattle.corners.specs.Square.{squareSums}
 
 -- the first n places lie inside: their columns and rows
 pub record Within (width height n : ℕ) (columns rows : List ℕ) : Type 0 where
@@ -32,9 +34,9 @@ pub record Fractions (n : ℕ) (ts : List Float) : Type 0 where
   pub unit : (k : ℕ) → k < n → Unit32 (at ts k)
 
 -- the colour of the cell at column i and row j, for a point with the fractions tx and ty
-unfoldable pub blend : List ℕ → ℕ → ℕ → ℕ → Float → Float → Rgba
-blend bytes width i j tx ty =
-    weighted (pixelAt bytes width 3 i j ∷ pixelAt bytes width 3 (i + 1) j ∷ pixelAt bytes width 3 i (j + 1) ∷ pixelAt bytes width 3 (i + 1) (j + 1) ∷ []) (corners tx ty) 4
+unfoldable pub blend : List ℕ → ℕ → ℕ → ℕ → ℕ → Float → Float → Rgba
+blend bytes width channels i j tx ty =
+    weighted (pixelAt bytes width channels i j ∷ pixelAt bytes width channels (i + 1) j ∷ pixelAt bytes width channels i (j + 1) ∷ pixelAt bytes width channels (i + 1) (j + 1) ∷ []) (corners tx ty) 4
 
 -- ---- how it is worked out
 -- the weights of the four taps at the fractions tx and ty, and their sum
@@ -53,10 +55,10 @@ pub record Weights (n : ℕ) (xs ys w₀₀ w₁₀ w₀₁ w₁₁ ws : List Fl
 abbrev pub over : Sums → Float → Rgba
 over s t = record { r = s .r ⊘ t; g = s .g ⊘ t; b = s .b ⊘ t; a = one }
 
--- the cell's colour by given weights and their sum
-unfoldable pub mixed : List ℕ → ℕ → ℕ → ℕ → Float → Float → Float → Float → Float → Rgba
-mixed bytes width i j a b c d s = over (squareSums bytes width i j a b c d) s
+-- the cell's colour by given weights and their sum, which is that of the alphas where each is 1
+unfoldable pub mixed : List ℕ → ℕ → ℕ → ℕ → ℕ → Float → Float → Float → Float → Float → Rgba
+mixed bytes width channels i j a b c d s = cond (eqb channels 4) (mean (squareSums bytes width channels i j a b c d)) (over (squareSums bytes width channels i j a b c d) s)
 
 -- the first n colours so made are numbers
-pub record Mixable (bytes : List ℕ) (width n : ℕ) (columns rows : List ℕ) (w₀₀ w₁₀ w₀₁ w₁₁ ws : List Float) : Type 0 where
-  pub numbers : (k : ℕ) → k < n → Numbers (mixed bytes width (getD columns k 0) (getD rows k 0) (at w₀₀ k) (at w₁₀ k) (at w₀₁ k) (at w₁₁ k) (at ws k))
+pub record Mixable (bytes : List ℕ) (width channels n : ℕ) (columns rows : List ℕ) (w₀₀ w₁₀ w₀₁ w₁₁ ws : List Float) : Type 0 where
+  pub numbers : (k : ℕ) → k < n → Numbers (mixed bytes width channels (getD columns k 0) (getD rows k 0) (at w₀₀ k) (at w₁₀ k) (at w₀₁ k) (at w₁₁ k) (at ws k))

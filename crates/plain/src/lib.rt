@@ -1,2 +1,2 @@
-// Stretches inside a picture of three channels, by `Bilinear` and by one tap: a loop that decides nothing.
+// Stretches inside a picture, by `Bilinear` and by one tap: a loop that decides nothing but by the channels.
 pub mod plain;

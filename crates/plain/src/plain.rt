@@ -1,4 +1,4 @@
-// Stretches that lie inside a picture of three channels: cells, fractions and weights are worked out first, several pixels at a time, so that the loop over the
+// Stretches that lie inside a picture: cells, fractions and weights are worked out first, several pixels at a time, so that the loop over the
 // pixels reads, sums and puts, and decides nothing. Assumes that the bytes are a picture's and that the band has room for the stretch.
 ghost use mathlib.Core.Path.{_≡_};
 ghost use mathlib.Core.Logic.{_⊎_};
@@ -11,10 +11,14 @@ ghost use Rattle.put.specs.Band.{pixelBytes};
 ghost use Rattle.put.specs.Joined.{joined};
 ghost use Rattle.plain.specs.Plain as Plain;
 ghost use Rattle.plain.specs.Plain.{Within, Inside, Fractions, Weights, Mixable, blend};
-use opaque::opaque::sums;
+use corners::four::sums1;
+use corners::four::sums3;
+use corners::four::sums4;
 use pixels::colour::Rgba;
 use pixels::pixel::pixel;
 use stored::store::put_number_pixel;
+use weighted::weighted::Sums;
+use weighted::weighted::mean;
 
 // An array has as many elements as its type says: a function is told so of one that it takes by value.
 pub fn sized(a: [f32; 64])
@@ -65,11 +69,24 @@ fn weigh(
     }
 }
 
+// The quotients of sums of colours by the sum of weights, opaque.
+fn over(s: Sums, t: f32) -> Rgba
+    ensures { λ r. ⌜ r ≡ Plain.over s t ⌝ }
+{
+    Rgba {
+        r: s.r / t,
+        g: s.g / t,
+        b: s.b / t,
+        a: 1.0,
+    }
+}
+
 // The colour of the cell at column i and row j, by its weights and their sum.
 fn mixed(
     picture: &[u8],
     width: u64,
     height: u64,
+    channels: u64,
     i: u64,
     j: u64,
     a: f32,
@@ -78,17 +95,20 @@ fn mixed(
     d: f32,
     s: f32,
 ) -> Rgba
-    requires { ⌜ Picture (now picture) width height 3 ⌝ }
+    requires { ⌜ Picture (now picture) width height channels ⌝ }
     requires { ⌜ (i + 1 < width) × (j + 1 < height) ⌝ }
-    ensures { λ r. ⌜ r ≡ Plain.mixed (now (picture .entry)) width i j a b c d s ⌝ }
+    ensures { λ r. ⌜ r ≡ Plain.mixed (now (picture .entry)) width channels i j a b c d s ⌝ }
 {
-    let t = sums(picture, width, height, i, j, a, b, c, d);
-    Rgba {
-        r: t.r / s,
-        g: t.g / s,
-        b: t.b / s,
-        a: 1.0,
+    if channels == 4 {
+        return mean(sums4(picture, width, height, i, j, a, b, c, d));
     }
+    if channels == 3 {
+        return over(sums3(picture, width, height, i, j, a, b, c, d), s);
+    }
+    over(
+        sums1(picture, width, height, channels, i, j, a, b, c, d),
+        s,
+    )
 }
 
 // The colours of n cells at their weights, put from the band's pixel numbered `place` on.
@@ -96,6 +116,7 @@ fn put_plain(
     picture: &[u8],
     width: u64,
     height: u64,
+    channels: u64,
     columns: &[u32; 64],
     rows: &[u32; 64],
     w00: &[f32; 64],
@@ -107,23 +128,25 @@ fn put_plain(
     place: u64,
     band: &mut [u8],
 )
-    requires { ⌜ Picture (now picture) width height 3 ⌝ }
+    requires { ⌜ Picture (now picture) width height channels ⌝ }
+    requires { ⌜ (channels ≡ 1) ⊎ ((channels ≡ 3) ⊎ (channels ≡ 4)) ⌝ }
     requires { ⌜ n ≤ 64 ⌝ }
     requires { ⌜ Inside width height n (now columns) (now rows) ⌝ }
-    requires { ⌜ Mixable (now picture) width n (now columns) (now rows) (now w00) (now w10) (now w01) (now w11) (now ws) ⌝ }
-    requires { ⌜ (place + n) * 3 * 4 ≤ length (now band) ⌝ }
+    requires { ⌜ Mixable (now picture) width channels n (now columns) (now rows) (now w00) (now w10) (now w01) (now w11) (now ws) ⌝ }
+    requires { ⌜ (place + n) * channels * 4 ≤ length (now band) ⌝ }
     ensures { λ _.
-        ⌜ now (band .exit) ≡ take (place * 3 * 4) (now (band .entry)) ++ joined (λ (k : ℕ). pixelBytes 3 (Plain.mixed (now (picture .entry)) width (getD (now (columns .entry)) k 0) (getD (now (rows .entry)) k 0) (Vectors.at (now (w00 .entry)) k) (Vectors.at (now (w10 .entry)) k) (Vectors.at (now (w01 .entry)) k) (Vectors.at (now (w11 .entry)) k) (Vectors.at (now (ws .entry)) k))) n ++ drop ((place + n) * 3 * 4) (now (band .entry)) ⌝ }
+        ⌜ now (band .exit) ≡ take (place * channels * 4) (now (band .entry)) ++ joined (λ (k : ℕ). pixelBytes channels (Plain.mixed (now (picture .entry)) width channels (getD (now (columns .entry)) k 0) (getD (now (rows .entry)) k 0) (Vectors.at (now (w00 .entry)) k) (Vectors.at (now (w10 .entry)) k) (Vectors.at (now (w01 .entry)) k) (Vectors.at (now (w11 .entry)) k) (Vectors.at (now (ws .entry)) k))) n ++ drop ((place + n) * channels * 4) (now (band .entry)) ⌝ }
 {
     for k in 0..n {
         put_number_pixel(
             band,
-            3,
+            channels,
             place + k as u64,
             mixed(
                 picture,
                 width,
                 height,
+                channels,
                 wide(columns[k]),
                 wide(rows[k]),
                 w00[k],
@@ -141,6 +164,7 @@ pub fn put_cells(
     picture: &[u8],
     width: u64,
     height: u64,
+    channels: u64,
     columns: &[u32; 64],
     rows: &[u32; 64],
     xs: &[f32; 64],
@@ -149,13 +173,14 @@ pub fn put_cells(
     place: u64,
     band: &mut [u8],
 )
-    requires { ⌜ Picture (now picture) width height 3 ⌝ }
+    requires { ⌜ Picture (now picture) width height channels ⌝ }
+    requires { ⌜ (channels ≡ 1) ⊎ ((channels ≡ 3) ⊎ (channels ≡ 4)) ⌝ }
     requires { ⌜ n ≤ 64 ⌝ }
     requires { ⌜ Inside width height n (now columns) (now rows) ⌝ }
     requires { ⌜ Fractions n (now xs) × Fractions n (now ys) ⌝ }
-    requires { ⌜ (place + n) * 3 * 4 ≤ length (now band) ⌝ }
+    requires { ⌜ (place + n) * channels * 4 ≤ length (now band) ⌝ }
     ensures { λ _.
-        ⌜ now (band .exit) ≡ take (place * 3 * 4) (now (band .entry)) ++ joined (λ (k : ℕ). pixelBytes 3 (blend (now (picture .entry)) width (getD (now (columns .entry)) k 0) (getD (now (rows .entry)) k 0) (Vectors.at (now (xs .entry)) k) (Vectors.at (now (ys .entry)) k))) n ++ drop ((place + n) * 3 * 4) (now (band .entry)) ⌝ }
+        ⌜ now (band .exit) ≡ take (place * channels * 4) (now (band .entry)) ++ joined (λ (k : ℕ). pixelBytes channels (blend (now (picture .entry)) width channels (getD (now (columns .entry)) k 0) (getD (now (rows .entry)) k 0) (Vectors.at (now (xs .entry)) k) (Vectors.at (now (ys .entry)) k))) n ++ drop ((place + n) * channels * 4) (now (band .entry)) ⌝ }
 {
     let mut w00 = [0.0; 64];
     let mut w10 = [0.0; 64];
@@ -167,6 +192,7 @@ pub fn put_cells(
         picture,
         width,
         height,
+        channels,
         columns,
         rows,
         &w00,

@@ -1,15 +1,16 @@
 -- The band: rows of output pixels in bytes, whatever it held before, and how many of them are matte. An output pixel is asked at its middle; where
 -- its source point is none or unusable it is matte, and else the picture's colour there, half a pixel back into index space. Assumes nothing.
 use Prim.Native.Nat.{ℕ, _+_, _*_}
+use mathlib.Core.Path.{_≡_}
 use mathlib.Core.Bool.{Bool, cond}
-use mathlib.Core.List.{List}
+use mathlib.Core.List.{List, _++_}
 use lib.Ieee.{Float}
 use lib.IntN.{ℤ}
-use lib.ListN.{replicate}
+use lib.ListN.{replicate, take, drop}
 use Rattle.exact.specs.Double.{_⊖_}
 use Rattle.exact.specs.Sums.{asked}
 use Rattle.exact.specs.Warp.{half}
-use Rattle.matrix.specs.Matrix.{Vector}
+use Rattle.matrix.specs.Matrix.{Vector, at}
 use Rattle.inverse.specs.Inverse.{inverse}
 use Rattle.point.specs.Point.{point, usable}
 use Rattle.point.specs.declared.point.Point.{Point}
@@ -63,6 +64,19 @@ keptMatte u v = cond (usable u v) 0 1
 -- its bytes, four a sample
 abbrev pub pixelBytes : ℕ → Rgba → List ℕ
 pixelBytes channels c = putPixel (replicate (channels * 4) 0) channels 0 c
+
+-- ---- a stretch of n pixels whose source points are kept as us and vs, put from the pixel numbered `place` on
+-- what bytes become by it
+abbrev pub stretchBytes : Source → ℕ → List Float → List Float → ℕ → ℕ → List ℕ → List ℕ
+stretchBytes s channels us vs n place bytes =
+    take (place * channels * 4) bytes ++ joined (λ (k : ℕ). pixelBytes channels (keptColour s (at us k) (at vs k))) n ++ drop ((place + n) * channels * 4) bytes
+
+-- where all of it lies inside: with as many samples as the picture has, whatever the colours outside; and none is matte
+abbrev pub Inner : Image → ℕ → List Float → List Float → ℕ → ℕ → List ℕ → List ℕ → Type 0
+Inner image interpolation us vs n place before after =
+    (policy : ℕ) (background matte : Rgba)
+    → (0 ≡ totalled (λ (k : ℕ). keptMatte (at us k) (at vs k)) n)
+    × (after ≡ stretchBytes (record { image = image; policy = policy; interpolation = interpolation; background = background; matte = matte }) (image .channels) us vs n place before)
 
 -- ---- row j, and then rows from `first` on, of a window of this width
 unfoldable pub rowBytes : Source → Frame → ℕ → ℕ → ℕ → List ℕ

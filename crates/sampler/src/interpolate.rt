@@ -10,9 +10,9 @@ ghost use Rattle.pixels.specs.Pixel.{Picture};
 use blend::bilinear::bilinear;
 use blend::square::several;
 use cell::cell::first;
-use cubic3::sixteen::cubic3;
 use pixels::at::at;
 use pixels::colour::Rgba;
+use sixteen::sixteen::cubic;
 
 // One tap alone.
 fn single(
@@ -40,39 +40,6 @@ fn single(
         background,
         first(code, x),
         first(code, y),
-    )
-}
-
-// `Catrom` and `Spline`. A picture of three channels has a way of its own.
-fn cubic(
-    picture: &[u8],
-    width: u64,
-    height: u64,
-    channels: u64,
-    policy: u64,
-    code: u64,
-    background: Rgba,
-    x: f64,
-    y: f64,
-) -> Rgba
-    requires { ⌜ Picture (now picture) width height channels ⌝ }
-    requires { ⌜ Reached x × Reached y ⌝ }
-    requires { ⌜ (6 ≤ code) × (code < 8) ⌝ }
-    ensures { λ r. ⌜ r ≡ Interpolate.interpolate (now (picture .entry)) width height channels policy code background x y ⌝ }
-{
-    if channels == 3 {
-        return cubic3(picture, width, height, policy, code, background, x, y);
-    }
-    several(
-        picture,
-        width,
-        height,
-        channels,
-        policy,
-        code,
-        background,
-        x,
-        y,
     )
 }
 

@@ -1,6 +1,5 @@
 -- `plain::plain::put_plain` meets its contract. The loop's invariant: the pixels passed are in the band. Assumes nothing.
 use mathlib.Core.Path.{_∙_, refl}
-use mathlib.Core.Logic.{inl, inr}
 use Prim.Native.Nat.{ℕ, _-_}
 use native.Mathlib.Nat.{le-antisymm}
 use native.Mathlib.Omega.{arith}
@@ -14,42 +13,42 @@ use Rattle.plain.proofs.plain.put_plain.Statement.{statement}
 use Rattle.plain.proofs.plain.put_plain.Tie as tie
 
 abbrev Inv-loop : tie.InvT-loop
-Inv-loop picture width height columns rows w00 w10 w01 w11 ws n place band₀ k₀ band k =
-    RowHolds 3 n place (λ (i : ℕ). mixed picture width (getD columns i 0) (getD rows i 0) (at w00 i) (at w10 i) (at w01 i) (at w11 i) (at ws i)) (λ (i : ℕ). 0) band₀ band 0 k
+Inv-loop picture width height channels columns rows w00 w10 w01 w11 ws n place band₀ k₀ band k =
+    RowHolds channels n place (λ (i : ℕ). mixed picture width channels (getD columns i 0) (getD rows i 0) (at w00 i) (at w10 i) (at w01 i) (at w11 i) (at ws i)) (λ (i : ℕ). 0) band₀ band 0 k
 
 abbrev μ-loop : tie.MeasureT-loop
-μ-loop picture width height columns rows w00 w10 w01 w11 ws n place band₀ k₀ band k = n - k
+μ-loop picture width height channels columns rows w00 w10 w01 w11 ws n place band₀ k₀ band k = n - k
 
 loop-holds : tie.Need-loop-holds Inv-loop μ-loop
-loop-holds c = row-start (c .before .before .pre .1 .1 .1 .1) (λ k. omega arith)
+loop-holds c = row-start (c .before .before .pre .1 .1 .1 .1 .1) (λ k. omega arith)
 
 add-put-number-pixel : tie.Need-add-put-number-pixel Inv-loop μ-loop
 add-put-number-pixel c =
     let e = c .before .before .before .before .before in
-    record { fits = omega (arith, place-small (e .args .place) (e .args .n) 3 _ (channels-pos 3 (inr (inl refl))) (e .pre .1 .1 .1 .1), c .before .before .loop .inv .most, e .good .1 .1 .1 .1 .1 .1 .1 .1 .1 .1 .1 .1 .0 .0) }
+    record { fits = omega (arith, place-small (e .args .place) (e .args .n) (e .args .channels) _ (channels-pos _ (e .pre .1 .0)) (e .pre .1 .1 .1 .1 .1), c .before .before .loop .inv .most, e .good .1 .1 .1 .1 .1 .1 .1 .1 .1 .1 .1 .1 .1 .0 .0) }
 
 mixed-requires : tie.Need-mixed-requires Inv-loop μ-loop
 mixed-requires c κs =
     let e = c .before .before .before .before .before .before .before .before .before .before .before .before .before .before in
-    (e .pre .0, (rw (c .before .before .before .before .before .before .before .wide .ensures) (e .pre .1 .1 .0 .column _ (search needs)), rw (c .before .before .before .before .before .wide2 .ensures) (e .pre .1 .1 .0 .row _ (search needs))))
+    (e .pre .0, (rw (c .before .before .before .before .before .before .before .wide .ensures) (e .pre .1 .1 .1 .0 .column _ (search needs)), rw (c .before .before .before .before .before .wide2 .ensures) (e .pre .1 .1 .1 .0 .row _ (search needs))))
 
 put-number-pixel-requires : tie.Need-put-number-pixel-requires Inv-loop μ-loop
 put-number-pixel-requires c κs =
     let e = c .before .before .before .before .before .before .before .before .before .before .before .before .before .before .before in
-    ((search needs, row-room (e .pre .1 .1 .1 .1) (c .before .before .before .before .before .before .before .before .before .before .before .before .loop .inv) (search needs)), rw (c .mixed .ensures, c .before .before .before .before .before .before .before .before .wide .ensures, c .before .before .before .before .before .before .wide2 .ensures) (e .pre .1 .1 .1 .0 .numbers _ (search needs)))
+    ((channels-pos _ (e .pre .1 .0), row-room (e .pre .1 .1 .1 .1 .1) (c .before .before .before .before .before .before .before .before .before .before .before .before .loop .inv) (search needs)), rw (c .mixed .ensures, c .before .before .before .before .before .before .before .before .wide .ensures, c .before .before .before .before .before .before .wide2 .ensures) (e .pre .1 .1 .1 .1 .0 .numbers _ (search needs)))
 
 loop-again : tie.Need-loop-again Inv-loop μ-loop
 loop-again c =
-    row-next (c .before .before .before .before .before .before .before .before .before .before .before .before .before .before .before .before .before .before .pre .1 .1 .1 .1) (c .before .before .before .before .before .before .before .before .before .before .before .before .before .before .before .loop .inv) (inr (inl refl)) (search needs) refl
+    row-next (c .before .before .before .before .before .before .before .before .before .before .before .before .before .before .before .before .before .before .pre .1 .1 .1 .1 .1) (c .before .before .before .before .before .before .before .before .before .before .before .before .before .before .before .loop .inv) (c .before .before .before .before .before .before .before .before .before .before .before .before .before .before .before .before .before .before .pre .1 .0) (search needs) refl
     (c .before .before .put-number-pixel .ensures ∙ rw (c .before .before .before .mixed .ensures, c .before .before .before .before .before .before .before .before .before .before .before .wide .ensures, c .before .before .before .before .before .before .before .before .before .wide2 .ensures))
 
 same-length : tie.Need-same-length Inv-loop μ-loop
-same-length c = row-same (c .before .before .before .before .pre .1 .1 .1 .1) (c .before .loop .inv)
+same-length c = row-same (c .before .before .before .before .pre .1 .1 .1 .1 .1) (c .before .loop .inv)
 
 returns : tie.Need-returns Inv-loop μ-loop
 returns c =
     let H = c .before .loop .inv in
-    row-done (c .before .before .before .before .pre .1 .1 .1 .1) H (le-antisymm (H .most) (search needs))
+    row-done (c .before .before .before .before .pre .1 .1 .1 .1 .1) H (le-antisymm (H .most) (search needs))
 
 pub put-plain-spec : {M : Type 1} → statement M
 put-plain-spec =

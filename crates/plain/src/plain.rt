@@ -33,7 +33,7 @@ pub fn wide(c: u32) -> u64
 }
 
 // The weights of the first n points at their fractions, and their sums.
-fn weigh(
+pub fn weigh(
     xs: &[f32; 64],
     ys: &[f32; 64],
     n: usize,
@@ -82,7 +82,7 @@ fn over(s: Sums, t: f32) -> Rgba
 }
 
 // The colour of the cell at column i and row j, by its weights and their sum.
-fn mixed(
+pub fn mixed(
     picture: &[u8],
     width: u64,
     height: u64,
@@ -105,10 +105,7 @@ fn mixed(
     if channels == 3 {
         return over(sums3(picture, width, height, i, j, a, b, c, d), s);
     }
-    over(
-        sums1(picture, width, height, channels, i, j, a, b, c, d),
-        s,
-    )
+    over(sums1(picture, width, height, channels, i, j, a, b, c, d), s)
 }
 
 // The colours of n cells at their weights, put from the band's pixel numbered `place` on.

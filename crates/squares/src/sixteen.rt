@@ -14,11 +14,11 @@ ghost use Rattle.squares.specs.Kernels.{Squares, Past, Weighed4, Kernels
 use cells::cells::cells;
 use cubic::cubic::between;
 use cubic::cubic::middle;
-use sixteen::sixteen::square3;
 use number::magnitude::abs_f32;
 use pixels::colour::Rgba;
 use plain::plain::sized;
 use plain::plain::wide;
+use sixteen::sixteen::square3;
 use stored::store::put_pixel;
 
 // Whether the first n are all above 0.

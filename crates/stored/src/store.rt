@@ -49,6 +49,16 @@ fn put_numbers(band: &mut [u8], k: u64, c: Rgba)
     put_number(band, k + 2, c.b);
 }
 
+// Four numbers, from the sample numbered k on.
+pub fn put_four(band: &mut [u8], k: u64, c: Rgba)
+    requires { ⌜ (k + 4) * 4 ≤ length (now band) ⌝ }
+    requires { ⌜ Numbers c ⌝ }
+    ensures { λ _. ⌜ now (band .exit) ≡ putSample (putRgb (now (band .entry)) k c) (k + 3) (c .a) ⌝ }
+{
+    put_numbers(band, k, c);
+    put_number(band, k + 3, c.a);
+}
+
 // The colour without its alpha, from the sample numbered k on. One branch for the three, which are numbers nearly always, costs less than a choice
 // for each.
 fn put_rgb(band: &mut [u8], k: u64, c: Rgba)
@@ -99,8 +109,7 @@ pub fn put_number_pixel(band: &mut [u8], channels: u64, p: u64, c: Rgba)
 {
     let k = p * channels;
     if channels == 4 {
-        put_numbers(band, k, c);
-        put_number(band, k + 3, c.a);
+        put_four(band, k, c);
         return;
     }
     if channels == 3 {

@@ -8,11 +8,11 @@ use Rattle.stored.proofs.store.put_number_pixel.Tie as tie
 
 returns : tie.Need-returns
 unfolding putPixel narrowed
-returns c = c .before .before .put-number .ensures ∙ rw (c .before .before .before .before .before .before .put-numbers .ensures, c .before .before .before .before .before .before .before .before .if1 .taken)
+returns c = c .before .before .put-four .ensures ∙ rw (c .before .before .before .before .if1 .taken)
 
 returns-2 : tie.Need-returns-2
 unfolding putPixel narrowed
-returns-2 c = c .before .before .put-numbers2 .ensures ∙ rw (c .before .before .before .before .if2 .taken)
+returns-2 c = c .before .before .put-numbers .ensures ∙ rw (c .before .before .before .before .if2 .taken)
 
 returns-3 : tie.Need-returns-3
 unfolding putPixel narrowed
@@ -22,8 +22,6 @@ pub put-number-pixel-spec : {M : Type 1} → statement M
 put-number-pixel-spec =
     tie.close
     (tie.spec
-    (λ c. search needs)
-    (λ c κs. search needs)
     (λ c. search needs)
     (λ c κs. search needs)
     (λ c. search needs)

@@ -1,0 +1,2 @@
+-- The definitions of four samples at a time.
+pub mod Broad

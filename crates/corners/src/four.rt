@@ -29,7 +29,11 @@ pub fn sums4(
 {
     let k = (j * width + i) * 4;
     let n = k + width * 4;
-    let s = added(rgba(picture, k + 4), b, added(rgba(picture, k), a, nothing()));
+    let s = added(
+        rgba(picture, k + 4),
+        b,
+        added(rgba(picture, k), a, nothing()),
+    );
     added(rgba(picture, n + 4), d, added(rgba(picture, n), c, s))
 }
 
@@ -75,6 +79,14 @@ pub fn sums1(
 {
     let k = (j * width + i) * channels;
     let n = k + width * channels;
-    let s = added(lone(picture, k + channels), b, added(lone(picture, k), a, nothing()));
-    added(lone(picture, n + channels), d, added(lone(picture, n), c, s))
+    let s = added(
+        lone(picture, k + channels),
+        b,
+        added(lone(picture, k), a, nothing()),
+    );
+    added(
+        lone(picture, n + channels),
+        d,
+        added(lone(picture, n), c, s),
+    )
 }

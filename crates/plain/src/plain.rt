@@ -105,10 +105,7 @@ fn mixed(
     if channels == 3 {
         return over(sums3(picture, width, height, i, j, a, b, c, d), s);
     }
-    over(
-        sums1(picture, width, height, channels, i, j, a, b, c, d),
-        s,
-    )
+    over(sums1(picture, width, height, channels, i, j, a, b, c, d), s)
 }
 
 // The colours of n cells at their weights, put from the band's pixel numbered `place` on.

@@ -152,5 +152,15 @@ pub fn cubic(
         let wy = kernel(code, fraction(y));
         return square(picture, width, height, channels, i, j, &wx, &wy);
     }
-    several(picture, width, height, channels, policy, code, background, x, y)
+    several(
+        picture,
+        width,
+        height,
+        channels,
+        policy,
+        code,
+        background,
+        x,
+        y,
+    )
 }

@@ -247,7 +247,7 @@ pub fn put_cubic(
     requires { ⌜ n ≤ 64 ⌝ }
     requires { ⌜ (place + n) * channels * 4 ≤ length (now band) ⌝ }
     ensures { λ r.
-        ⌜ (r ≡ true → Inner (record { bytes = now (picture .entry); width = width; height = height; channels = channels }) code (now (us .entry)) (now (vs .entry)) n place (now (band .entry)) (now (band .exit))) × (r ≡ false → now (band .exit) ≡ now (band .entry)) ⌝ }
+        ⌜ (r ≡ true → Inner (record { bytes = now (picture .entry); width = width; height = height; channels = channels }) code channels (now (us .entry)) (now (vs .entry)) n place (now (band .entry)) (now (band .exit))) × (r ≡ false → now (band .exit) ≡ now (band .entry)) ⌝ }
 {
     let mut columns = [0; 64];
     let mut rows = [0; 64];

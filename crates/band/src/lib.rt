@@ -1,4 +1,5 @@
 // The band: rows of output pixels, worked in stretches.
+pub mod inside;
 pub mod rows;
 pub mod stretch;
 pub mod three;

@@ -9,23 +9,18 @@ ghost use lib.IntN.{natAbs};
 ghost use lib.ListN.{length, take, drop};
 ghost use Rattle.matrix.specs.Matrix as Vectors;
 ghost use Rattle.pixels.specs.Pixel.{Picture};
-ghost use Rattle.put.specs.Band.{colourAt, matteAt, keptColour, keptMatte, pixelBytes};
+ghost use Rattle.put.specs.Band.{colourAt, matteAt, keptMatte, pixelBytes, stretchBytes, Inner};
 ghost use Rattle.put.specs.Joined.{joined, totalled};
-use crate::three::put_bilinear;
-use crate::three::put_single;
+use crate::inside::put_inside;
+use crate::three::put_bilinear_each;
+use crate::three::put_single_each;
 use pixels::colour::Rgba;
 use points::points::points;
 use put::any::put_any;
-use squares::sixteen::put_cubic;
 
-// Whether a loop was there that is made for such pixels, and then how many were matte.
-struct Tried {
-    done: bool,
-    missed: u64,
-}
-
-// The colours of n pixels by the loop that is made for them, if there is one. Else nothing is put.
-fn put_three(
+// The colours of n pixels wherever they lie, one pixel after another: put `depth` samples a pixel from the band's pixel numbered `place` on; and how many are matte. Each loop has
+// one caller, so that it becomes a part of it.
+fn put_each(
     picture: &[u8],
     width: u64,
     height: u64,
@@ -40,17 +35,17 @@ fn put_three(
     n: usize,
     place: u64,
     band: &mut [u8],
-) -> Tried
+) -> u64
     requires { ⌜ Picture (now picture) width height channels ⌝ }
     requires { ⌜ (depth ≡ 1) ⊎ ((depth ≡ 3) ⊎ (depth ≡ 4)) ⌝ }
     requires { ⌜ n ≤ 64 ⌝ }
     requires { ⌜ (place + n) * depth * 4 ≤ length (now band) ⌝ }
     ensures { λ r.
-        ⌜ (r .done ≡ true → (r .missed ≡ totalled (λ (k : ℕ). keptMatte (Vectors.at (now (us .entry)) k) (Vectors.at (now (vs .entry)) k)) n) × (now (band .exit) ≡ take (place * depth * 4) (now (band .entry)) ++ joined (λ (k : ℕ). pixelBytes depth (keptColour (record { image = record { bytes = now (picture .entry); width = width; height = height; channels = channels }; policy = policy; interpolation = interpolation; background = background; matte = matte }) (Vectors.at (now (us .entry)) k) (Vectors.at (now (vs .entry)) k))) n ++ drop ((place + n) * depth * 4) (now (band .entry)))) × (r .done ≡ false → now (band .exit) ≡ now (band .entry)) ⌝ }
+        ⌜ (r ≡ totalled (λ (k : ℕ). keptMatte (Vectors.at (now (us .entry)) k) (Vectors.at (now (vs .entry)) k)) n) × (now (band .exit) ≡ stretchBytes (record { image = record { bytes = now (picture .entry); width = width; height = height; channels = channels }; policy = policy; interpolation = interpolation; background = background; matte = matte }) depth (now (us .entry)) (now (vs .entry)) n place (now (band .entry))) ⌝ }
 {
     if channels == 3 && depth == 3 {
         if interpolation == 5 {
-            let missed = put_bilinear(
+            return put_bilinear_each(
                 picture,
                 width,
                 height,
@@ -63,10 +58,9 @@ fn put_three(
                 place,
                 band,
             );
-            return Tried { done: true, missed };
         }
         if interpolation < 2 {
-            let missed = put_single(
+            return put_single_each(
                 picture,
                 width,
                 height,
@@ -80,31 +74,65 @@ fn put_three(
                 place,
                 band,
             );
-            return Tried { done: true, missed };
-        }
-        if interpolation > 5 && interpolation < 8 {
-            let done = put_cubic(
-                picture,
-                width,
-                height,
-                interpolation,
-                us,
-                vs,
-                n,
-                place,
-                band,
-            );
-            return Tried { done, missed: 0 };
         }
     }
-    Tried {
-        done: false,
-        missed: 0,
-    }
+    put_any(
+        picture,
+        width,
+        height,
+        channels,
+        policy,
+        interpolation,
+        background,
+        matte,
+        depth,
+        us,
+        vs,
+        n,
+        place,
+        band,
+    )
 }
 
-// The colours of n pixels, put `depth` samples a pixel from the band's pixel numbered `place` on; and how many are matte. `put_any` has one caller, so
-// that it becomes a part of it.
+// The colours of n pixels that all lie inside and are put with the picture's channels, by what is worked out first. False: nothing was put.
+fn put_alike(
+    picture: &[u8],
+    width: u64,
+    height: u64,
+    channels: u64,
+    interpolation: u64,
+    depth: u64,
+    us: &[f64; 64],
+    vs: &[f64; 64],
+    n: usize,
+    place: u64,
+    band: &mut [u8],
+) -> bool
+    requires { ⌜ Picture (now picture) width height channels ⌝ }
+    requires { ⌜ (depth ≡ 1) ⊎ ((depth ≡ 3) ⊎ (depth ≡ 4)) ⌝ }
+    requires { ⌜ n ≤ 64 ⌝ }
+    requires { ⌜ (place + n) * depth * 4 ≤ length (now band) ⌝ }
+    ensures { λ r.
+        ⌜ (r ≡ true → Inner (record { bytes = now (picture .entry); width = width; height = height; channels = channels }) interpolation depth (now (us .entry)) (now (vs .entry)) n place (now (band .entry)) (now (band .exit))) × (r ≡ false → now (band .exit) ≡ now (band .entry)) ⌝ }
+{
+    if channels == depth {
+        return put_inside(
+            picture,
+            width,
+            height,
+            depth,
+            interpolation,
+            us,
+            vs,
+            n,
+            place,
+            band,
+        );
+    }
+    false
+}
+
+// The colours of n pixels, put `depth` samples a pixel from the band's pixel numbered `place` on; and how many are matte.
 fn put_colours(
     picture: &[u8],
     width: u64,
@@ -126,28 +154,24 @@ fn put_colours(
     requires { ⌜ n ≤ 64 ⌝ }
     requires { ⌜ (place + n) * depth * 4 ≤ length (now band) ⌝ }
     ensures { λ r.
-        ⌜ (r ≡ totalled (λ (k : ℕ). keptMatte (Vectors.at (now (us .entry)) k) (Vectors.at (now (vs .entry)) k)) n) × (now (band .exit) ≡ take (place * depth * 4) (now (band .entry)) ++ joined (λ (k : ℕ). pixelBytes depth (keptColour (record { image = record { bytes = now (picture .entry); width = width; height = height; channels = channels }; policy = policy; interpolation = interpolation; background = background; matte = matte }) (Vectors.at (now (us .entry)) k) (Vectors.at (now (vs .entry)) k))) n ++ drop ((place + n) * depth * 4) (now (band .entry))) ⌝ }
+        ⌜ (r ≡ totalled (λ (k : ℕ). keptMatte (Vectors.at (now (us .entry)) k) (Vectors.at (now (vs .entry)) k)) n) × (now (band .exit) ≡ stretchBytes (record { image = record { bytes = now (picture .entry); width = width; height = height; channels = channels }; policy = policy; interpolation = interpolation; background = background; matte = matte }) depth (now (us .entry)) (now (vs .entry)) n place (now (band .entry))) ⌝ }
 {
-    let t = put_three(
+    if put_alike(
         picture,
         width,
         height,
         channels,
-        policy,
         interpolation,
-        background,
-        matte,
         depth,
         us,
         vs,
         n,
         place,
         band,
-    );
-    if t.done {
-        return t.missed;
+    ) {
+        return 0;
     }
-    put_any(
+    put_each(
         picture,
         width,
         height,

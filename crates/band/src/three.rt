@@ -1,5 +1,4 @@
-// The stretches of a picture of three channels, put with three samples a pixel, by `Bilinear` and by one tap: where all of a stretch lies inside, by cells and places that are
-// worked out first, and else pixel by pixel. Assumes that the bytes are a picture's and that the band has room for the stretch.
+// The stretches of a picture of three channels that do not lie inside, put with three samples a pixel, by `Bilinear` and by one tap: pixel by pixel. Assumes that the bytes are a picture's and that the band has room for the stretch.
 ghost use mathlib.Core.Path.{_≡_};
 ghost use mathlib.Core.List.{_++_};
 ghost use Prim.Native.Nat.{ℕ, _+_, _*_, _≤_, _<_};
@@ -9,13 +8,9 @@ ghost use Rattle.pixels.specs.Pixel.{Picture};
 ghost use Rattle.stored.specs.Store.{putPixel};
 ghost use Rattle.put.specs.Band.{keptColour, keptMatte, pixelBytes};
 ghost use Rattle.put.specs.Joined.{joined, totalled};
-use cells::cells::cells;
-use cells::cells::places;
 use opaque::opaque::bilinear3;
 use opaque::opaque::single3;
 use pixels::colour::Rgba;
-use plain::plain::put_cells;
-use plain::plain::put_places;
 use point::usable::point;
 use stored::store::put_pixel;
 
@@ -52,7 +47,7 @@ fn put_bilinear_one(
 }
 
 // The colours of n pixels by `Bilinear`, wherever they lie, put from the band's pixel numbered `place` on; and how many are matte.
-fn put_bilinear_each(
+pub fn put_bilinear_each(
     picture: &[u8],
     width: u64,
     height: u64,
@@ -88,62 +83,6 @@ fn put_bilinear_each(
             );
     }
     missed
-}
-
-// The same, by cells and fractions worked out first where all of them lie inside: put from the band's pixel numbered `place` on; and how many are matte.
-pub fn put_bilinear(
-    picture: &[u8],
-    width: u64,
-    height: u64,
-    policy: u64,
-    background: Rgba,
-    matte: Rgba,
-    us: &[f64; 64],
-    vs: &[f64; 64],
-    n: usize,
-    place: u64,
-    band: &mut [u8],
-) -> u64
-    requires { ⌜ Picture (now picture) width height 3 ⌝ }
-    requires { ⌜ n ≤ 64 ⌝ }
-    requires { ⌜ (place + n) * 3 * 4 ≤ length (now band) ⌝ }
-    ensures { λ r.
-        ⌜ (r ≡ totalled (λ (k : ℕ). keptMatte (Vectors.at (now (us .entry)) k) (Vectors.at (now (vs .entry)) k)) n) × (now (band .exit) ≡ take (place * 3 * 4) (now (band .entry)) ++ joined (λ (k : ℕ). pixelBytes 3 (keptColour (record { image = record { bytes = now (picture .entry); width = width; height = height; channels = 3 }; policy = policy; interpolation = 5; background = background; matte = matte }) (Vectors.at (now (us .entry)) k) (Vectors.at (now (vs .entry)) k))) n ++ drop ((place + n) * 3 * 4) (now (band .entry))) ⌝ }
-{
-    let mut columns = [0; 64];
-    let mut rows = [0; 64];
-    let mut xs = [0.0; 64];
-    let mut ys = [0.0; 64];
-    if cells(us, n, width - 1, &mut columns, &mut xs) {
-        if cells(vs, n, height - 1, &mut rows, &mut ys) {
-            put_cells(
-                picture,
-                width,
-                height,
-                &columns,
-                &rows,
-                &xs,
-                &ys,
-                n,
-                place,
-                band,
-            );
-            return 0;
-        }
-    }
-    put_bilinear_each(
-        picture,
-        width,
-        height,
-        policy,
-        background,
-        matte,
-        us,
-        vs,
-        n,
-        place,
-        band,
-    )
 }
 
 // One pixel by `Integer` or `Nearest`, as `put_one` puts it.
@@ -190,7 +129,7 @@ fn put_single_one(
 }
 
 // The colours of n pixels by `Integer` or `Nearest`, wherever they lie, put from the band's pixel numbered `place` on; and how many are matte.
-fn put_single_each(
+pub fn put_single_each(
     picture: &[u8],
     width: u64,
     height: u64,
@@ -229,50 +168,4 @@ fn put_single_each(
             );
     }
     missed
-}
-
-// The same, by places worked out first where all of them lie inside: put from the band's pixel numbered `place` on; and how many are matte.
-pub fn put_single(
-    picture: &[u8],
-    width: u64,
-    height: u64,
-    policy: u64,
-    code: u64,
-    background: Rgba,
-    matte: Rgba,
-    us: &[f64; 64],
-    vs: &[f64; 64],
-    n: usize,
-    place: u64,
-    band: &mut [u8],
-) -> u64
-    requires { ⌜ Picture (now picture) width height 3 ⌝ }
-    requires { ⌜ code < 2 ⌝ }
-    requires { ⌜ n ≤ 64 ⌝ }
-    requires { ⌜ (place + n) * 3 * 4 ≤ length (now band) ⌝ }
-    ensures { λ r.
-        ⌜ (r ≡ totalled (λ (k : ℕ). keptMatte (Vectors.at (now (us .entry)) k) (Vectors.at (now (vs .entry)) k)) n) × (now (band .exit) ≡ take (place * 3 * 4) (now (band .entry)) ++ joined (λ (k : ℕ). pixelBytes 3 (keptColour (record { image = record { bytes = now (picture .entry); width = width; height = height; channels = 3 }; policy = policy; interpolation = code; background = background; matte = matte }) (Vectors.at (now (us .entry)) k) (Vectors.at (now (vs .entry)) k))) n ++ drop ((place + n) * 3 * 4) (now (band .entry))) ⌝ }
-{
-    let mut columns = [0; 64];
-    let mut rows = [0; 64];
-    if places(us, n, code, width, &mut columns) {
-        if places(vs, n, code, height, &mut rows) {
-            put_places(picture, width, height, &columns, &rows, n, place, band);
-            return 0;
-        }
-    }
-    put_single_each(
-        picture,
-        width,
-        height,
-        policy,
-        code,
-        background,
-        matte,
-        us,
-        vs,
-        n,
-        place,
-        band,
-    )
 }

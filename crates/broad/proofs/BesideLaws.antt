@@ -21,7 +21,7 @@ module _ {bytes : List ℕ} {w h : ℕ} (P : Picture bytes w h 3) where
   broad-numbers : (i j : ℕ) → i + 2 < w → j + 1 < h → {tx ty a b c d s : Float} → Unit32 tx → Unit32 ty → Weighed tx ty a b c d s → Numbers (broad bytes w i j a b c d s)
   broad-numbers i j hi hj x y W =
       let own = cell-numbers i j (omega arith) hj x y W in
-      record { red = own .red; green = own .green; blue = own .blue; alpha = cell-numbers (i + 1) j (omega arith) hj x y W .red }
+      record { red = own .red; green = own .green; blue = own .blue; alpha = cell-numbers (i + 1) j (omega arith) hj x y W .red; grey = own .grey }
 
   pub all-beside : {n : ℕ} {columns rows : List ℕ} {xs ys w₁ w₂ w₃ w₄ sums : List Float} → Inside w h n columns rows → ((k : ℕ) → k < n → getD columns k 0 + 2 < w) → Fractions n xs → Fractions n ys
       → Weights n xs ys w₁ w₂ w₃ w₄ sums → Beside bytes w h n columns rows w₁ w₂ w₃ w₄ sums

@@ -1,18 +1,22 @@
 -- No NaN is put. The samples of a picture are at most 65,536 in magnitude and the weights of fractions from 0 to 1 at most 1, so that the weighted mean is bounded.
--- Provides: `picture-bounded`, `bounded-numbers`, `blend-numbers`. Assumes nothing.
+-- Provides: `picture-bounded`, `bounded-numbers`, `pixel-numbers`, `blend-numbers`. Assumes nothing.
 use mathlib.Core.Path.{_≡_, refl, subst}
 use mathlib.Core.Bool.{Bool, true, false, not}
 use mathlib.Core.List.{List, [], _∷_}
-use Prim.Native.Nat.{ℕ, zero, suc, _+_, _*_, _≤_, _<_}
+use Prim.Native.Nat.{ℕ, zero, suc, _+_, _*_, _^_, _≤_, _<_}
 use native.Mathlib.Omega.{arith}
 use lib.Dec.{T, le→leb, lit≤}
 use lib.ListN.{length}
-use lib.Ieee.{Float, nan, inf, fin, binary32, isNan}
+use lib.Ieee.{Float, nan, inf, fin, binary32, isNan, ofBits}
 use lib.Ieee.Scale.{finite}
-use Rattle.exact.specs.Fraction.{Fraction, frac}
+use Rattle.exact.specs.Fraction.{frac, _+F_, _*F_, absF}
+use Rattle.exact.specs.Single.{_⊗_}
 use Rattle.exact.specs.Weighted.{Unit32}
+use Rattle.exact.proofs.Sums.{step-fine}
+use Rattle.cubic.proofs.Sizes.{mul-bounded, add-bounded}
 use Rattle.endian.specs.Bytes.{u32At, sampleAt}
 use Rattle.number.proofs.MagnitudeTests.{within-bits}
+use Rattle.pixels.specs.Colour.{luma}
 use Rattle.pixels.specs.Pixel.{Limited, Picture, pixelAt}
 use Rattle.pixels.specs.declared.colour.Rgba.{Rgba}
 use Rattle.weighted.specs.Weighted.{Bounded, BoundedBy, tapAt, weightAt, weighted}
@@ -20,7 +24,7 @@ use Rattle.taps.specs.Weights.{corners}
 use Rattle.weighted.proofs.WeightedFinite.{most, weighted-bounded}
 use Rattle.weighted.proofs.WeightedWeights.{bilinear-bounded}
 use Rattle.sampler.specs.Finite.{BoundedPicture}
-use Rattle.sampler.proofs.AtFinite.{within-bounded, pixel-bounded}
+use Rattle.sampler.proofs.AtFinite.{within-bounded, bounded-more, pixel-bounded}
 use Rattle.stored.specs.Store.{Numbers}
 use Rattle.plain.specs.Plain.{blend}
 
@@ -42,14 +46,32 @@ number-is nan h = h
 number-is (inf s) h = tt
 number-is (fin s m e) h = tt
 
-pub bounded-numbers : {b : Fraction} {c : Rgba} → BoundedBy b c → Numbers c
-bounded-numbers {b} {c} B =
+-- one product of the luma, by a number of at most 1
+part-bounded : {k x : Float} → Bounded (frac 1 1) k → Bounded most x → Bounded most (k ⊗ x)
+part-bounded p q = mul-bounded (step-fine binary32 216 (2 ^ 67) 1 (2 ^ 42) 1 tt) p q (unfold _*F_ in record { le = lit≤ tt })
+
+luma-bounded : {c : Rgba} → BoundedBy most c → Bounded (frac (2 ^ 69) 1) (luma c)
+luma-bounded B =
+    add-bounded (step-fine binary32 218 (2 ^ 69) 1 (2 ^ 44) 1 tt)
+    (add-bounded (step-fine binary32 217 (2 ^ 68) 1 (2 ^ 43) 1 tt)
+    (part-bounded (unfold ofBits absF in record { number = tt; size = record { le = lit≤ tt } }) (B .red))
+    (part-bounded (unfold ofBits absF in record { number = tt; size = record { le = lit≤ tt } }) (B .green))
+    (unfold _+F_ in record { le = lit≤ tt }))
+    (part-bounded (unfold ofBits absF in record { number = tt; size = record { le = lit≤ tt } }) (B .blue))
+    (unfold _+F_ in record { le = lit≤ tt })
+
+pub bounded-numbers : {c : Rgba} → BoundedBy most c → Numbers c
+bounded-numbers {c} B =
     record {
       red = number-is (c .r) (B .red .number);
       green = number-is (c .g) (B .green .number);
       blue = number-is (c .b) (B .blue .number);
       alpha = number-is (c .a) (B .alpha .number);
+      grey = number-is (luma c) (luma-bounded B .number);
     }
+
+pub pixel-numbers : {bytes : List ℕ} {w h channels : ℕ} → Picture bytes w h channels → (x y : ℕ) → x < w → y < h → Numbers (pixelAt bytes w channels x y)
+pixel-numbers P x y hx hy = bounded-numbers (bounded-more (record { le = lit≤ tt }) _ (pixel-bounded (picture-bounded P) x y hx hy))
 
 module _ (bytes : List ℕ) (w h n i j : ℕ) (P : Picture bytes w h n) (hi : i + 1 < w) (hj : j + 1 < h) where
   abbrev square : List Rgba

@@ -71,12 +71,12 @@ abbrev pub stretchBytes : Source → ℕ → List Float → List Float → ℕ �
 stretchBytes s channels us vs n place bytes =
     take (place * channels * 4) bytes ++ joined (λ (k : ℕ). pixelBytes channels (keptColour s (at us k) (at vs k))) n ++ drop ((place + n) * channels * 4) bytes
 
--- where all of it lies inside: with as many samples as the picture has, whatever the colours outside; and none is matte
-abbrev pub Inner : Image → ℕ → List Float → List Float → ℕ → ℕ → List ℕ → List ℕ → Type 0
-Inner image interpolation us vs n place before after =
+-- where all of it lies inside: whatever the colours outside, and none is matte
+abbrev pub Inner : Image → ℕ → ℕ → List Float → List Float → ℕ → ℕ → List ℕ → List ℕ → Type 0
+Inner image interpolation channels us vs n place before after =
     (policy : ℕ) (background matte : Rgba)
     → (0 ≡ totalled (λ (k : ℕ). keptMatte (at us k) (at vs k)) n)
-    × (after ≡ stretchBytes (record { image = image; policy = policy; interpolation = interpolation; background = background; matte = matte }) (image .channels) us vs n place before)
+    × (after ≡ stretchBytes (record { image = image; policy = policy; interpolation = interpolation; background = background; matte = matte }) channels us vs n place before)
 
 -- ---- row j, and then rows from `first` on, of a window of this width
 unfoldable pub rowBytes : Source → Frame → ℕ → ℕ → ℕ → List ℕ

@@ -105,14 +105,14 @@ one-back (suc n) h = -ℤ-one (pos (suc n)) ∙ ap pos (go n)
 two-on : (c n : ℕ) → 0 < c → c < n - 2 → c - 1 + 3 < n
 two-on c n h l = omega arith
 
-square-colour : (bytes : List ℕ) (w h policy : ℕ) (background matte : Rgba) (code : ℕ) → 6 ≤ code → code < 8 → {u v tx ty : Float} {i j : ℕ} {wx wy : List Float}
+square-colour : (bytes : List ℕ) (w h n policy : ℕ) (background matte : Rgba) (code : ℕ) → 6 ≤ code → code < 8 → {u v tx ty : Float} {i j : ℕ} {wx wy : List Float}
     → Cell (w - 2) u i tx → Cell (h - 2) v j ty → 0 < i → 0 < j → wx ≡ kernel code tx → wy ≡ kernel code ty
-    → squared bytes w i j wx wy
-    ≡ keptColour (record { image = record { bytes = bytes; width = w; height = h; channels = 3 }; policy = policy; interpolation = code; background = background; matte = matte }) u v
+    → squared bytes w n i j wx wy
+    ≡ keptColour (record { image = record { bytes = bytes; width = w; height = h; channels = n }; policy = policy; interpolation = code; background = background; matte = matte }) u v
 unfolding shown squared
-square-colour bytes w h policy background matte code least most {u} {v} {tx} {ty} {i} {j} C D hi hj kx ky =
+square-colour bytes w h n policy background matte code least most {u} {v} {tx} {ty} {i} {j} C D hi hj kx ky =
     rw (marked u v (C .usable) (D .usable))
-    (cubic-inside bytes w h policy background (u ⊖ half) (v ⊖ half) code least most (i - 1) (j - 1) (two-on i w hi (C .below)) (two-on j h hj (D .below))
+    (cubic-inside bytes w h n policy background (u ⊖ half) (v ⊖ half) code least most (i - 1) (j - 1) (two-on i w hi (C .below)) (two-on j h hj (D .below))
     (sym (ap (λ (z : ℤ). z -ℤ pos 1) (C .floor) ∙ one-back i hi)) (sym (ap (λ (z : ℤ). z -ℤ pos 1) (D .floor) ∙ one-back j hj)) (C .fraction) (D .fraction) kx ky refl)
 
 -- ---- a stretch of them
@@ -126,13 +126,13 @@ module _ {w h n : ℕ} {us vs : List Float} {columns rows : List ℕ} {xs ys : L
   pub cubic-mattes : 0 ≡ totalled (λ (k : ℕ). keptMatte (at us k) (at vs k)) n
   cubic-mattes = no-mattes n us vs (λ k l. no-matte (at us k) (at vs k) (S .across .cell k l .usable) (S .down .cell k l .usable))
 
-  pub cubic-colours : {x₀ x₁ x₂ x₃ y₀ y₁ y₂ y₃ : List Float} (code : ℕ) → Kernels code n xs x₀ x₁ x₂ x₃ → Kernels code n ys y₀ y₁ y₂ y₃ → (bytes : List ℕ) (policy : ℕ) (background matte : Rgba) → 6 ≤ code → code < 8
-      → joined (λ (k : ℕ). pixelBytes 3 (squared bytes w (getD columns k 0) (getD rows k 0) (ofFour x₀ x₁ x₂ x₃ k) (ofFour y₀ y₁ y₂ y₃ k))) n
-      ≡ joined (λ (k : ℕ). pixelBytes 3 (keptColour (record { image = record { bytes = bytes; width = w; height = h; channels = 3 }; policy = policy; interpolation = code; background = background; matte = matte }) (at us k) (at vs k))) n
-  cubic-colours {x₀} {x₁} {x₂} {x₃} {y₀} {y₁} {y₂} {y₃} code X Y bytes policy background matte least most =
-      joined-same (λ (k : ℕ). pixelBytes 3 (squared bytes w (getD columns k 0) (getD rows k 0) (ofFour x₀ x₁ x₂ x₃ k) (ofFour y₀ y₁ y₂ y₃ k)))
-      (λ (k : ℕ). pixelBytes 3 (keptColour (record { image = record { bytes = bytes; width = w; height = h; channels = 3 }; policy = policy; interpolation = code; background = background; matte = matte }) (at us k) (at vs k))) n
-      (λ k l. ap (pixelBytes 3) (square-colour bytes w h policy background matte code least most (S .across .cell k l) (S .down .cell k l) (S .left .past k l) (S .above .past k l) (X .weights k l) (Y .weights k l)))
+  pub cubic-colours : {x₀ x₁ x₂ x₃ y₀ y₁ y₂ y₃ : List Float} (code : ℕ) → Kernels code n xs x₀ x₁ x₂ x₃ → Kernels code n ys y₀ y₁ y₂ y₃ → (bytes : List ℕ) (channels policy : ℕ) (background matte : Rgba) → 6 ≤ code → code < 8
+      → joined (λ (k : ℕ). pixelBytes channels (squared bytes w channels (getD columns k 0) (getD rows k 0) (ofFour x₀ x₁ x₂ x₃ k) (ofFour y₀ y₁ y₂ y₃ k))) n
+      ≡ joined (λ (k : ℕ). pixelBytes channels (keptColour (record { image = record { bytes = bytes; width = w; height = h; channels = channels }; policy = policy; interpolation = code; background = background; matte = matte }) (at us k) (at vs k))) n
+  cubic-colours {x₀} {x₁} {x₂} {x₃} {y₀} {y₁} {y₂} {y₃} code X Y bytes channels policy background matte least most =
+      joined-same (λ (k : ℕ). pixelBytes channels (squared bytes w channels (getD columns k 0) (getD rows k 0) (ofFour x₀ x₁ x₂ x₃ k) (ofFour y₀ y₁ y₂ y₃ k)))
+      (λ (k : ℕ). pixelBytes channels (keptColour (record { image = record { bytes = bytes; width = w; height = h; channels = channels }; policy = policy; interpolation = code; background = background; matte = matte }) (at us k) (at vs k))) n
+      (λ k l. ap (pixelBytes channels) (square-colour bytes w h channels policy background matte code least most (S .across .cell k l) (S .down .cell k l) (S .left .past k l) (S .above .past k l) (X .weights k l) (Y .weights k l)))
 
 -- both answers
 pub standing : {w h p q n : ℕ} {us vs : List Float} {columns rows : List ℕ} {xs ys : List Float} {a b : Bool} → p ≡ w - 2 → q ≡ h - 2 → Cells p n us columns xs → Cells q n vs rows ys

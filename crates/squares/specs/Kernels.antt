@@ -1,4 +1,4 @@
--- A stretch by `Catrom` or `Spline` whose squares of four by four taps lie inside a picture of three channels: each point's weights along a row and along a column, and the
+-- A stretch by `Catrom` or `Spline` whose squares of four by four taps lie inside a picture: each point's weights along a row and along a column, and the
 -- colour that they make of the square. Assumes nothing.
 use Prim.Native.Nat.{ℕ, _+_, _-_, _<_}
 use mathlib.Core.Path.{_≡_}
@@ -46,5 +46,5 @@ pub record Kernels (code n : ℕ) (ts w₀ w₁ w₂ w₃ : List Float) : Type 0
   pub weights : (k : ℕ) → k < n → ofFour w₀ w₁ w₂ w₃ k ≡ kernel code (at ts k)
 
 -- the colour of the square around the cell at column i and row j
-unfoldable pub squared : List ℕ → ℕ → ℕ → ℕ → List Float → List Float → Rgba
-squared bytes width i j wx wy = weighted (taps (own bytes width) (record { column = pos (i - 1); row = pos (j - 1) }) 4) (products wx wy) 16
+unfoldable pub squared : List ℕ → ℕ → ℕ → ℕ → ℕ → List Float → List Float → Rgba
+squared bytes width channels i j wx wy = weighted (taps (own bytes width channels) (record { column = pos (i - 1); row = pos (j - 1) }) 4) (products wx wy) 16

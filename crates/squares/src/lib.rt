@@ -1,2 +1,2 @@
-// Stretches inside a picture of three channels, by `Catrom` and `Spline`.
-pub mod sixteen;
+// Stretches inside a picture, by `Catrom` and `Spline`.
+pub mod squares;

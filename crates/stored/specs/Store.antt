@@ -27,9 +27,10 @@ narrowed bytes channels k c =
 unfoldable pub putPixel : List ℕ → ℕ → ℕ → Rgba → List ℕ
 putPixel bytes channels p c = narrowed bytes channels (p * channels) c
 
--- none of a colour's samples is a NaN
+-- none of what can be put of a colour is a NaN: its samples and its luma
 pub record Numbers (c : Rgba) : Type 0 where
   pub red : T (not (isNan (c .r)))
   pub green : T (not (isNan (c .g)))
   pub blue : T (not (isNan (c .b)))
   pub alpha : T (not (isNan (c .a)))
+  pub grey : T (not (isNan (luma c)))

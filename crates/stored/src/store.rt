@@ -101,7 +101,7 @@ pub fn put_pixel(band: &mut [u8], channels: u64, p: u64, c: Rgba)
     narrowed(band, channels, p * channels, c);
 }
 
-// The same of a colour whose samples are numbers: no test for a NaN but that of a luma.
+// The same of a colour of numbers: no test for a NaN.
 pub fn put_number_pixel(band: &mut [u8], channels: u64, p: u64, c: Rgba)
     requires { ⌜ (0 < channels) × ((p * channels + channels) * 4 ≤ length (now band)) ⌝ }
     requires { ⌜ Numbers c ⌝ }
@@ -116,5 +116,5 @@ pub fn put_number_pixel(band: &mut [u8], channels: u64, p: u64, c: Rgba)
         put_numbers(band, k, c);
         return;
     }
-    put_sample(band, k, luma(c));
+    put_number(band, k, luma(c));
 }

@@ -6,8 +6,7 @@ use native.Mathlib.Omega.{arith}
 use borrow.Author.Needs.{needs}
 use lib.ListN.{getD}
 use Rattle.pixels.specs.Pixel.{pixelAt}
-use Rattle.plain.proofs.NumberLaws.{picture-bounded, bounded-numbers}
-use Rattle.sampler.proofs.AtFinite.{pixel-bounded}
+use Rattle.plain.proofs.NumberLaws.{pixel-numbers}
 use Rattle.put.proofs.PixelLaws.{channels-pos}
 use Rattle.put.proofs.RowLaws.{RowHolds, row-start, row-room, row-next, row-done, row-same, place-small}
 use Rattle.plain.proofs.plain.put_places.Statement.{statement}
@@ -40,7 +39,7 @@ put-number-pixel-requires c κs =
     let W = e .pre .1 .1 .1 .0 in (
       (channels-pos _ (e .pre .1 .0), row-room (e .pre .1 .1 .1 .1) (c .before .before .before .before .before .before .before .loop .inv) (search needs)),
       rw (c .pixel .ensures, c .before .before .before .wide .ensures, c .before .wide2 .ensures)
-          (bounded-numbers (pixel-bounded (picture-bounded (e .pre .0)) _ _ (W .column _ (search needs)) (W .row _ (search needs)))),
+          (pixel-numbers (e .pre .0) _ _ (W .column _ (search needs)) (W .row _ (search needs))),
     )
 
 loop-again : tie.Need-loop-again Inv-loop μ-loop

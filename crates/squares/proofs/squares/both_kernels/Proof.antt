@@ -1,8 +1,8 @@
--- `squares::sixteen::both_kernels` meets its contract: both answers. Assumes nothing.
+-- `squares::squares::both_kernels` meets its contract: both answers. Assumes nothing.
 use borrow.Author.Needs.{needs}
 use Rattle.squares.proofs.KernelLaws.{both-true}
-use Rattle.squares.proofs.sixteen.both_kernels.Statement.{statement}
-use Rattle.squares.proofs.sixteen.both_kernels.Tie as tie
+use Rattle.squares.proofs.squares.both_kernels.Statement.{statement}
+use Rattle.squares.proofs.squares.both_kernels.Tie as tie
 
 returns : tie.Need-returns
 returns c = both-true _ _ (c .before .before .before .before .before .kernels .ensures) (c .kernels2 .ensures)

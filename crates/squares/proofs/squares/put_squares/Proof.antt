@@ -1,6 +1,5 @@
--- `squares::sixteen::put_squares` meets its contract. The loop's invariant: the pixels passed are in the band. Assumes nothing.
+-- `squares::squares::put_squares` meets its contract. The loop's invariant: the pixels passed are in the band. Assumes nothing.
 use mathlib.Core.Path.{_∙_, refl}
-use mathlib.Core.Logic.{inl, inr}
 use Prim.Native.Nat.{ℕ, _-_}
 use native.Mathlib.Nat.{le-antisymm}
 use native.Mathlib.Omega.{arith}
@@ -9,28 +8,28 @@ use lib.ListN.{getD}
 use Rattle.squares.specs.Kernels.{ofFour, squared}
 use Rattle.put.proofs.PixelLaws.{channels-pos}
 use Rattle.put.proofs.RowLaws.{RowHolds, row-start, row-room, row-next, row-done, row-same, place-small}
-use Rattle.squares.proofs.sixteen.put_squares.Statement.{statement}
-use Rattle.squares.proofs.sixteen.put_squares.Tie as tie
+use Rattle.squares.proofs.squares.put_squares.Statement.{statement}
+use Rattle.squares.proofs.squares.put_squares.Tie as tie
 
 abbrev Inv-loop : tie.InvT-loop
-Inv-loop picture width height columns rows x0 x1 x2 x3 y0 y1 y2 y3 n place band₀ k₀ band k =
-    RowHolds 3 n place (λ (i : ℕ). squared picture width (getD columns i 0) (getD rows i 0) (ofFour x0 x1 x2 x3 i) (ofFour y0 y1 y2 y3 i)) (λ (i : ℕ). 0) band₀ band 0 k
+Inv-loop picture width height channels columns rows x0 x1 x2 x3 y0 y1 y2 y3 n place band₀ k₀ band k =
+    RowHolds channels n place (λ (i : ℕ). squared picture width channels (getD columns i 0) (getD rows i 0) (ofFour x0 x1 x2 x3 i) (ofFour y0 y1 y2 y3 i)) (λ (i : ℕ). 0) band₀ band 0 k
 
 abbrev μ-loop : tie.MeasureT-loop
-μ-loop picture width height columns rows x0 x1 x2 x3 y0 y1 y2 y3 n place band₀ k₀ band k = n - k
+μ-loop picture width height channels columns rows x0 x1 x2 x3 y0 y1 y2 y3 n place band₀ k₀ band k = n - k
 
 loop-holds : tie.Need-loop-holds Inv-loop μ-loop
-loop-holds c = row-start (c .before .before .pre .1 .1 .1) (λ k. omega arith)
+loop-holds c = row-start (c .before .before .pre .1 .1 .1 .1) (λ k. omega arith)
 
 add-put-pixel : tie.Need-add-put-pixel Inv-loop μ-loop
 add-put-pixel c =
     let e = c .before .before .before .before .before in
-    record { fits = omega (arith, place-small (e .args .place) (e .args .n) 3 _ (channels-pos 3 (inr (inl refl))) (e .pre .1 .1 .1), c .before .before .loop .inv .most, e .good .1 .1 .1 .1 .1 .1 .1 .1 .1 .1 .1 .1 .1 .1 .1 .0 .0) }
+    record { fits = omega (arith, place-small (e .args .place) (e .args .n) (e .args .channels) _ (channels-pos _ (e .pre .1 .0)) (e .pre .1 .1 .1 .1), c .before .before .loop .inv .most, e .good .1 .1 .1 .1 .1 .1 .1 .1 .1 .1 .1 .1 .1 .1 .1 .1 .0 .0) }
 
 squared-requires : tie.Need-squared-requires Inv-loop μ-loop
 squared-requires c κs =
     let e = c .before .before .before .before .before .before .before .before .before .before .before .before .before .before .before .before .before in
-    let S = e .pre .1 .1 .0 in (
+    let S = e .pre .1 .1 .1 .0 in (
       e .pre .0,
       (
         rw (c .before .before .before .before .before .before .before .before .before .before .wide .ensures) (S .left _ (search needs)),
@@ -42,20 +41,20 @@ squared-requires c κs =
     )
 
 put-pixel-requires : tie.Need-put-pixel-requires Inv-loop μ-loop
-put-pixel-requires c κs = (search needs, row-room (c .before .before .before .before .before .before .before .before .before .before .before .before .before .before .before .before .before .before .pre .1 .1 .1) (c .before .before .before .before .before .before .before .before .before .before .before .before .before .before .before .loop .inv) (search needs))
+put-pixel-requires c κs = (channels-pos _ (c .before .before .before .before .before .before .before .before .before .before .before .before .before .before .before .before .before .before .pre .1 .0), row-room (c .before .before .before .before .before .before .before .before .before .before .before .before .before .before .before .before .before .before .pre .1 .1 .1 .1) (c .before .before .before .before .before .before .before .before .before .before .before .before .before .before .before .loop .inv) (search needs))
 
 loop-again : tie.Need-loop-again Inv-loop μ-loop
 loop-again c =
-    row-next (c .before .before .before .before .before .before .before .before .before .before .before .before .before .before .before .before .before .before .before .before .before .pre .1 .1 .1) (c .before .before .before .before .before .before .before .before .before .before .before .before .before .before .before .before .before .before .loop .inv) (inr (inl refl)) (search needs) refl
+    row-next (c .before .before .before .before .before .before .before .before .before .before .before .before .before .before .before .before .before .before .before .before .before .pre .1 .1 .1 .1) (c .before .before .before .before .before .before .before .before .before .before .before .before .before .before .before .before .before .before .loop .inv) (c .before .before .before .before .before .before .before .before .before .before .before .before .before .before .before .before .before .before .before .before .before .pre .1 .0) (search needs) refl
     (c .before .before .put-pixel .ensures ∙ rw (c .before .before .before .squared .ensures, c .before .before .before .before .before .before .before .before .before .before .before .before .before .before .wide .ensures, c .before .before .before .before .before .before .before .before .before .before .before .before .wide2 .ensures))
 
 same-length : tie.Need-same-length Inv-loop μ-loop
-same-length c = row-same (c .before .before .before .before .pre .1 .1 .1) (c .before .loop .inv)
+same-length c = row-same (c .before .before .before .before .pre .1 .1 .1 .1) (c .before .loop .inv)
 
 returns : tie.Need-returns Inv-loop μ-loop
 returns c =
     let H = c .before .loop .inv in
-    row-done (c .before .before .before .before .pre .1 .1 .1) H (le-antisymm (H .most) (search needs))
+    row-done (c .before .before .before .before .pre .1 .1 .1 .1) H (le-antisymm (H .most) (search needs))
 
 pub put-squares-spec : {M : Type 1} → statement M
 put-squares-spec =

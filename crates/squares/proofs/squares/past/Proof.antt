@@ -1,12 +1,12 @@
--- `squares::sixteen::past` meets its contract. The loop's invariant: the first k are above 0, if the answer is still true. Assumes nothing.
+-- `squares::squares::past` meets its contract. The loop's invariant: the first k are above 0, if the answer is still true. Assumes nothing.
 use mathlib.Core.Path.{_≡_}
 use mathlib.Core.Bool.{true}
 use Prim.Native.Nat.{_-_, _≤_}
 use borrow.Author.Needs.{needs}
 use Rattle.squares.specs.Kernels.{Past}
 use Rattle.squares.proofs.KernelLaws.{past-none, past-more, past-last}
-use Rattle.squares.proofs.sixteen.past.Statement.{statement}
-use Rattle.squares.proofs.sixteen.past.Tie as tie
+use Rattle.squares.proofs.squares.past.Statement.{statement}
+use Rattle.squares.proofs.squares.past.Tie as tie
 
 abbrev Inv-loop : tie.InvT-loop
 Inv-loop cs n good₀ k₀ good k = (good ≡ true → Past k cs) × (k ≤ n)

@@ -1,15 +1,14 @@
-// Stretches by `Catrom` and `Spline` in a picture of three channels: cells, fractions and weights are worked out first, several pixels at a time, where every square of taps lies
+// Stretches by `Catrom` and `Spline`: cells, fractions and weights are worked out first, several pixels at a time, where every square of taps lies
 // inside. Assumes that the bytes are a picture's and that the band has room for the stretch.
 ghost use mathlib.Core.Path.{_≡_};
 ghost use mathlib.Core.Bool.{true, false};
+ghost use mathlib.Core.Logic.{_⊎_};
 ghost use mathlib.Core.List.{[], _∷_, _++_};
 ghost use Prim.Native.Nat.{ℕ, _+_, _-_, _*_, _≤_, _<_};
 ghost use lib.ListN.{length, take, drop, getD};
-ghost use Rattle.matrix.specs.Matrix as Vectors;
 ghost use Rattle.pixels.specs.Pixel.{Picture};
-ghost use Rattle.pixels.specs.declared.colour.Rgba.{Rgba};
-ghost use Rattle.put.specs.Band.{keptColour, keptMatte, pixelBytes};
-ghost use Rattle.put.specs.Joined.{joined, totalled};
+ghost use Rattle.put.specs.Band.{pixelBytes, Inner};
+ghost use Rattle.put.specs.Joined.{joined};
 ghost use Rattle.squares.specs.Kernels.{Squares, Past, Weighed4, Kernels, Standing, ofFour, squared};
 use cells::cells::cells;
 use cubic::cubic::between;
@@ -18,7 +17,7 @@ use number::magnitude::abs_f32;
 use pixels::colour::Rgba;
 use plain::plain::sized;
 use plain::plain::wide;
-use sixteen::sixteen::square3;
+use sixteen::sixteen::square;
 use stored::store::put_pixel;
 
 // Whether the first n are all above 0.
@@ -94,6 +93,7 @@ fn squared(
     picture: &[u8],
     width: u64,
     height: u64,
+    channels: u64,
     i: u64,
     j: u64,
     a0: f32,
@@ -105,14 +105,14 @@ fn squared(
     b2: f32,
     b3: f32,
 ) -> Rgba
-    requires { ⌜ Picture (now picture) width height 3 ⌝ }
+    requires { ⌜ Picture (now picture) width height channels ⌝ }
     requires { ⌜ (0 < i) × ((i + 2 < width) × ((0 < j) × (j + 2 < height))) ⌝ }
     ensures { λ r.
-        ⌜ r ≡ squared (now (picture .entry)) width i j (a0 ∷ a1 ∷ a2 ∷ a3 ∷ []) (b0 ∷ b1 ∷ b2 ∷ b3 ∷ []) ⌝ }
+        ⌜ r ≡ squared (now (picture .entry)) width channels i j (a0 ∷ a1 ∷ a2 ∷ a3 ∷ []) (b0 ∷ b1 ∷ b2 ∷ b3 ∷ []) ⌝ }
 {
     let wx = [a0, a1, a2, a3];
     let wy = [b0, b1, b2, b3];
-    square3(picture, width, height, i - 1, j - 1, &wx, &wy)
+    square(picture, width, height, channels, i - 1, j - 1, &wx, &wy)
 }
 
 // The colours of n squares at their weights, put from the band's pixel numbered `place` on.
@@ -120,6 +120,7 @@ fn put_squares(
     picture: &[u8],
     width: u64,
     height: u64,
+    channels: u64,
     columns: &[u32; 64],
     rows: &[u32; 64],
     x0: &[f32; 64],
@@ -134,22 +135,24 @@ fn put_squares(
     place: u64,
     band: &mut [u8],
 )
-    requires { ⌜ Picture (now picture) width height 3 ⌝ }
+    requires { ⌜ Picture (now picture) width height channels ⌝ }
+    requires { ⌜ (channels ≡ 1) ⊎ ((channels ≡ 3) ⊎ (channels ≡ 4)) ⌝ }
     requires { ⌜ n ≤ 64 ⌝ }
     requires { ⌜ Squares width height n (now columns) (now rows) ⌝ }
-    requires { ⌜ (place + n) * 3 * 4 ≤ length (now band) ⌝ }
+    requires { ⌜ (place + n) * channels * 4 ≤ length (now band) ⌝ }
     ensures { λ _.
-        ⌜ now (band .exit) ≡ take (place * 3 * 4) (now (band .entry)) ++ joined (λ (k : ℕ). pixelBytes 3 (squared (now (picture .entry)) width (getD (now (columns .entry)) k 0) (getD (now (rows .entry)) k 0) (ofFour (now (x0 .entry)) (now (x1 .entry)) (now (x2 .entry)) (now (x3 .entry)) k) (ofFour (now (y0 .entry)) (now (y1 .entry)) (now (y2 .entry)) (now (y3 .entry)) k))) n ++ drop ((place + n) * 3 * 4) (now (band .entry)) ⌝ }
+        ⌜ now (band .exit) ≡ take (place * channels * 4) (now (band .entry)) ++ joined (λ (k : ℕ). pixelBytes channels (squared (now (picture .entry)) width channels (getD (now (columns .entry)) k 0) (getD (now (rows .entry)) k 0) (ofFour (now (x0 .entry)) (now (x1 .entry)) (now (x2 .entry)) (now (x3 .entry)) k) (ofFour (now (y0 .entry)) (now (y1 .entry)) (now (y2 .entry)) (now (y3 .entry)) k))) n ++ drop ((place + n) * channels * 4) (now (band .entry)) ⌝ }
 {
     for k in 0..n {
         put_pixel(
             band,
-            3,
+            channels,
             place + k as u64,
             squared(
                 picture,
                 width,
                 height,
+                channels,
                 wide(columns[k]),
                 wide(rows[k]),
                 x0[k],
@@ -230,6 +233,7 @@ pub fn put_cubic(
     picture: &[u8],
     width: u64,
     height: u64,
+    channels: u64,
     code: u64,
     us: &[f64; 64],
     vs: &[f64; 64],
@@ -237,12 +241,13 @@ pub fn put_cubic(
     place: u64,
     band: &mut [u8],
 ) -> bool
-    requires { ⌜ Picture (now picture) width height 3 ⌝ }
+    requires { ⌜ Picture (now picture) width height channels ⌝ }
+    requires { ⌜ (channels ≡ 1) ⊎ ((channels ≡ 3) ⊎ (channels ≡ 4)) ⌝ }
     requires { ⌜ (6 ≤ code) × (code < 8) ⌝ }
     requires { ⌜ n ≤ 64 ⌝ }
-    requires { ⌜ (place + n) * 3 * 4 ≤ length (now band) ⌝ }
+    requires { ⌜ (place + n) * channels * 4 ≤ length (now band) ⌝ }
     ensures { λ r.
-        ⌜ (r ≡ true → (policy : ℕ) (background matte : Rgba) → (0 ≡ totalled (λ (k : ℕ). keptMatte (Vectors.at (now (us .entry)) k) (Vectors.at (now (vs .entry)) k)) n) × (now (band .exit) ≡ take (place * 3 * 4) (now (band .entry)) ++ joined (λ (k : ℕ). pixelBytes 3 (keptColour (record { image = record { bytes = now (picture .entry); width = width; height = height; channels = 3 }; policy = policy; interpolation = code; background = background; matte = matte }) (Vectors.at (now (us .entry)) k) (Vectors.at (now (vs .entry)) k))) n ++ drop ((place + n) * 3 * 4) (now (band .entry)))) × (r ≡ false → now (band .exit) ≡ now (band .entry)) ⌝ }
+        ⌜ (r ≡ true → Inner (record { bytes = now (picture .entry); width = width; height = height; channels = channels }) code channels (now (us .entry)) (now (vs .entry)) n place (now (band .entry)) (now (band .exit))) × (r ≡ false → now (band .exit) ≡ now (band .entry)) ⌝ }
 {
     let mut columns = [0; 64];
     let mut rows = [0; 64];
@@ -285,6 +290,7 @@ pub fn put_cubic(
                 picture,
                 width,
                 height,
+                channels,
                 &columns,
                 &rows,
                 &x0,

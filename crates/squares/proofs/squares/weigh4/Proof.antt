@@ -1,4 +1,4 @@
--- `squares::sixteen::weigh4` meets its contract. The loop's invariant: the first k fractions are weighed, if the answer is still true. Assumes nothing.
+-- `squares::squares::weigh4` meets its contract. The loop's invariant: the first k fractions are weighed, if the answer is still true. Assumes nothing.
 use mathlib.Core.Path.{ap}
 use mathlib.Core.List.{List, [], _∷_}
 use Prim.Native.Nat.{_-_, _≤_}
@@ -7,8 +7,8 @@ use borrow.Author.Needs.{needs}
 use Rattle.matrix.specs.Matrix.{at}
 use Rattle.cubic.proofs.CubicCode.{middle-weights}
 use Rattle.squares.proofs.KernelLaws.{Weighing4, weigh4-none, weigh4-more, weigh4-last}
-use Rattle.squares.proofs.sixteen.weigh4.Statement.{statement}
-use Rattle.squares.proofs.sixteen.weigh4.Tie as tie
+use Rattle.squares.proofs.squares.weigh4.Statement.{statement}
+use Rattle.squares.proofs.squares.weigh4.Tie as tie
 
 abbrev Inv-loop : tie.InvT-loop
 Inv-loop b c ts n w0₀ w1₀ w2₀ w3₀ good₀ k₀ w0 w1 w2 w3 good k = Weighing4 b c k good ts w0 w1 w2 w3 × (k ≤ n)

@@ -1,9 +1,9 @@
--- `squares::sixteen::squares` meets its contract: both lists of cells, and none in the first column or row. Assumes nothing.
+-- `squares::squares::squares` meets its contract: both lists of cells, and none in the first column or row. Assumes nothing.
 use mathlib.Core.Bool.{false≢true}
 use borrow.Author.Needs.{needs}
 use Rattle.squares.proofs.KernelLaws.{standing}
-use Rattle.squares.proofs.sixteen.squares.Statement.{statement}
-use Rattle.squares.proofs.sixteen.squares.Tie as tie
+use Rattle.squares.proofs.squares.squares.Statement.{statement}
+use Rattle.squares.proofs.squares.squares.Tie as tie
 
 returns : tie.Need-returns
 returns c = standing (c .before .before .before .before .before .before .before .before .before .before .before .before .before .inner .ensures) (c .before .before .before .before .before .before .before .before .inner2 .ensures) (c .before .before .before .before .before .before .before .before .before .before .cells .ensures (c .before .before .before .before .before .before .before .before .before .if1 .taken)) (c .before .before .before .before .before .cells2 .ensures (c .before .before .before .before .if2 .taken)) (c .before .before .past .ensures) (c .past2 .ensures)

@@ -1,8 +1,8 @@
--- `squares::sixteen::kernels` meets its contract: B and C are the code's. Assumes nothing.
+-- `squares::squares::kernels` meets its contract: B and C are the code's. Assumes nothing.
 use borrow.Author.Needs.{needs}
 use Rattle.squares.proofs.KernelLaws.{kernel-catrom, kernel-spline}
-use Rattle.squares.proofs.sixteen.kernels.Statement.{statement}
-use Rattle.squares.proofs.sixteen.kernels.Tie as tie
+use Rattle.squares.proofs.squares.kernels.Statement.{statement}
+use Rattle.squares.proofs.squares.kernels.Tie as tie
 
 returns : tie.Need-returns
 returns c = λ e. kernel-catrom (c .before .before .before .before .before .if1 .taken) (c .weigh4 .ensures e)

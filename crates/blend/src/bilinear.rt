@@ -14,9 +14,9 @@ ghost use Rattle.weighted.specs.Weighted.{weighted};
 ghost use Rattle.taps.specs.Weights.{corners, weights};
 use cell::cell::below;
 use cell::cell::fraction;
+use corners::four::sums;
 use endian::pattern::bits_of_i64;
 use pixels::colour::Rgba;
-use pixels::pixel::pixel;
 use taps::taps::tap;
 use weighted::weighted::added;
 use weighted::weighted::mean;
@@ -48,39 +48,13 @@ fn inside(
     ensures { λ r.
         ⌜ r ≡ weighted (pixelAt (now (picture .entry)) width channels i j ∷ pixelAt (now (picture .entry)) width channels (i + 1) j ∷ pixelAt (now (picture .entry)) width channels i (j + 1) ∷ pixelAt (now (picture .entry)) width channels (i + 1) (j + 1) ∷ []) (corners tx ty) 4 ⌝ }
 {
-    blended(
-        pixel(picture, width, channels, i, j),
-        pixel(picture, width, channels, i + 1, j),
-        pixel(picture, width, channels, i, j + 1),
-        pixel(picture, width, channels, i + 1, j + 1),
-        tx,
-        ty,
-    )
-}
-
-// The same with the number of channels as a literal, so that the compiler asks for it once and not at each tap.
-fn inside_of(
-    picture: &[u8],
-    width: u64,
-    height: u64,
-    channels: u64,
-    i: u64,
-    j: u64,
-    tx: f32,
-    ty: f32,
-) -> Rgba
-    requires { ⌜ Picture (now picture) width height channels ⌝ }
-    requires { ⌜ (i + 1 < width) × (j + 1 < height) ⌝ }
-    ensures { λ r.
-        ⌜ r ≡ weighted (pixelAt (now (picture .entry)) width channels i j ∷ pixelAt (now (picture .entry)) width channels (i + 1) j ∷ pixelAt (now (picture .entry)) width channels i (j + 1) ∷ pixelAt (now (picture .entry)) width channels (i + 1) (j + 1) ∷ []) (corners tx ty) 4 ⌝ }
-{
-    if channels == 4 {
-        return inside(picture, width, height, 4, i, j, tx, ty);
-    }
-    if channels == 3 {
-        return inside(picture, width, height, 3, i, j, tx, ty);
-    }
-    inside(picture, width, height, channels, i, j, tx, ty)
+    let sx = 1.0 - tx;
+    let sy = 1.0 - ty;
+    let a = sx * sy;
+    let b = tx * sy;
+    let c = sx * ty;
+    let d = tx * ty;
+    mean(sums(picture, width, height, channels, i, j, a, b, c, d))
 }
 
 // Those of any cell.
@@ -176,7 +150,7 @@ fn around(
     let i = bits_of_i64(column);
     let j = bits_of_i64(row);
     if i < width - 1 && j < height - 1 {
-        return inside_of(picture, width, height, channels, i, j, tx, ty);
+        return inside(picture, width, height, channels, i, j, tx, ty);
     }
     anywhere(
         picture,

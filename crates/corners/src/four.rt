@@ -90,3 +90,29 @@ pub fn sums1(
         added(lone(picture, n), c, s),
     )
 }
+
+// Of as many as there are.
+pub fn sums(
+    picture: &[u8],
+    width: u64,
+    height: u64,
+    channels: u64,
+    i: u64,
+    j: u64,
+    a: f32,
+    b: f32,
+    c: f32,
+    d: f32,
+) -> Sums
+    requires { ⌜ Picture (now picture) width height channels ⌝ }
+    requires { ⌜ (i + 1 < width) × (j + 1 < height) ⌝ }
+    ensures { λ r. ⌜ r ≡ squareSums (now (picture .entry)) width channels i j a b c d ⌝ }
+{
+    if channels == 4 {
+        return sums4(picture, width, height, i, j, a, b, c, d);
+    }
+    if channels == 3 {
+        return sums3(picture, width, height, i, j, a, b, c, d);
+    }
+    sums1(picture, width, height, channels, i, j, a, b, c, d)
+}

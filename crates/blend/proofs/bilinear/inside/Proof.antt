@@ -1,50 +1,28 @@
--- `blend::bilinear::inside` meets its contract: the four pixels lie inside. Assumes nothing.
-use native.Mathlib.Omega.{arith}
+-- `blend::bilinear::inside` meets its contract: a loop over four taps is the sums written out. Assumes nothing.
+use mathlib.Core.Path.{_≡_, sym, ap, _∙_}
+use mathlib.Core.List.{[], _∷_}
+use Prim.Native.Nat.{_+_}
 use borrow.Author.Needs.{needs}
+use denote.Ref.{now}
+use Rattle.pixels.specs.Pixel.{pixelAt}
+use Rattle.weighted.specs.Weighted.{mean, weighted}
+use Rattle.taps.specs.Weights.{corners}
+use Rattle.weighted.proofs.WeightedOpaque.{summed-four}
+use Rattle.corners.specs.Square.{squareSums}
 use Rattle.blend.proofs.bilinear.inside.Statement.{statement}
 use Rattle.blend.proofs.bilinear.inside.Tie as tie
 
-pixel-requires : tie.Need-pixel-requires
-pixel-requires c κs = let a = c .before in record { height = a .args .height; picture = search needs; column = omega arith; row = omega arith }
-
-add-pixel : tie.Need-add-pixel
-add-pixel c = search needs
-
-pixel-requires-2 : tie.Need-pixel-requires-2
-pixel-requires-2 c κs = let a = c .before .before in record { height = a .args .height; picture = search needs; column = omega arith; row = omega arith }
-
-add-pixel-2 : tie.Need-add-pixel-2
-add-pixel-2 c = search needs
-
-pixel-requires-3 : tie.Need-pixel-requires-3
-pixel-requires-3 c κs = let a = c .before .before .before in record { height = a .args .height; picture = search needs; column = omega arith; row = omega arith }
-
-add-pixel-3 : tie.Need-add-pixel-3
-add-pixel-3 c = search needs
-
-add-pixel-4 : tie.Need-add-pixel-4
-add-pixel-4 c = search needs
-
-pixel-requires-4 : tie.Need-pixel-requires-4
-pixel-requires-4 c κs = search needs
-
-blended-requires : tie.Need-blended-requires
-blended-requires c κs = search needs
-
 returns : tie.Need-returns
-returns c = rw (c .blended .ensures, c .before .pixel4 .ensures, c .before .before .pixel3 .ensures, c .before .before .before .pixel2 .ensures, c .before .before .before .before .pixel .ensures)
+unfolding weighted squareSums
+returns c =
+    let q = c .before .before .before in
+    let b = now (q .args .picture) in
+    let w = q .args .width in
+    let n = q .args .channels in
+    c .mean .ensures
+    ∙ ap mean
+    (c .before .sums .ensures
+    ∙ sym (summed-four (pixelAt b w n (q .args .i) (q .args .j) ∷ pixelAt b w n (q .args .i + 1) (q .args .j) ∷ pixelAt b w n (q .args .i) (q .args .j + 1) ∷ pixelAt b w n (q .args .i + 1) (q .args .j + 1) ∷ []) (corners (q .args .tx) (q .args .ty))))
 
 pub inside-spec : {M : Type 1} → statement M
-inside-spec =
-    tie.close
-    (tie.spec
-    pixel-requires
-    add-pixel
-    pixel-requires-2
-    add-pixel-2
-    pixel-requires-3
-    add-pixel-3
-    add-pixel-4
-    pixel-requires-4
-    blended-requires
-    returns)
+inside-spec = tie.close (tie.spec (λ c κs. search needs) (λ c κs. search needs) returns)

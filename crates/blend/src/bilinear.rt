@@ -58,6 +58,31 @@ fn inside(
     )
 }
 
+// The same with the number of channels as a literal, so that the compiler asks for it once and not at each tap.
+fn inside_of(
+    picture: &[u8],
+    width: u64,
+    height: u64,
+    channels: u64,
+    i: u64,
+    j: u64,
+    tx: f32,
+    ty: f32,
+) -> Rgba
+    requires { ⌜ Picture (now picture) width height channels ⌝ }
+    requires { ⌜ (i + 1 < width) × (j + 1 < height) ⌝ }
+    ensures { λ r.
+        ⌜ r ≡ weighted (pixelAt (now (picture .entry)) width channels i j ∷ pixelAt (now (picture .entry)) width channels (i + 1) j ∷ pixelAt (now (picture .entry)) width channels i (j + 1) ∷ pixelAt (now (picture .entry)) width channels (i + 1) (j + 1) ∷ []) (corners tx ty) 4 ⌝ }
+{
+    if channels == 4 {
+        return inside(picture, width, height, 4, i, j, tx, ty);
+    }
+    if channels == 3 {
+        return inside(picture, width, height, 3, i, j, tx, ty);
+    }
+    inside(picture, width, height, channels, i, j, tx, ty)
+}
+
 // Those of any cell.
 pub fn anywhere(
     picture: &[u8],
@@ -151,7 +176,7 @@ fn around(
     let i = bits_of_i64(column);
     let j = bits_of_i64(row);
     if i < width - 1 && j < height - 1 {
-        return inside(picture, width, height, channels, i, j, tx, ty);
+        return inside_of(picture, width, height, channels, i, j, tx, ty);
     }
     anywhere(
         picture,

@@ -1,15 +1,13 @@
 -- Document 01's refusal table: each test by itself, then the table. A test stands on its own and may be asked out of turn; the table's order says which
 -- number a caller gets. Assumes nothing.
 use Prim.Native.Nat.{ℕ, _+_, _*_}
-use mathlib.Core.Bool.{Bool, false, not, _||_, cond}
+use mathlib.Core.Bool.{Bool, not, _||_, cond}
 use mathlib.Core.List.{List, [], _∷_}
 use lib.Dec.{eqb, ltb}
 use lib.ListN.{length, take}
-use lib.Ieee.{binary32, ofBits, lt}
-use Rattle.exact.specs.Loop.{upTo}
+use lib.Ieee.{lt}
 use Rattle.exact.specs.Table.{firstOf}
-use Rattle.endian.specs.Bytes.{sampleAt}
-use Rattle.number.specs.Magnitude.{within}
+unfoldable pub use Rattle.samples.specs.Samples.{large}
 use Rattle.arguments.specs.Method.{present}
 use Rattle.arguments.specs.Refusal as Arguments
 use Rattle.build.specs.Build.{build}
@@ -58,10 +56,7 @@ badStock p = not (eqb (length (p .bytes)) (p .width * p .height * p .channels * 
 unfoldable pub badCode : ℕ → ℕ → ℕ → Bool
 badCode method policy interpolation = not (present method) || (ltb 13 policy || ltb 8 interpolation)
 
--- ---- 5, number: one of the first n samples is not finite or above 65,536 in magnitude
-unfoldable pub large : List ℕ → ℕ → Bool
-large bytes n = upTo (λ (k : ℕ) (t : Bool). t || not (within (ofBits binary32 0x4780_0000) (sampleAt bytes k))) 0 n false
-
+-- ---- 5, number
 unfoldable pub badNumber : Image → List ℕ → List ℕ → List ℕ → Bool
 badNumber p arguments background matte =
     Arguments.badNumber arguments || (large (p .bytes) (p .width * p .height * p .channels) || (large background 4 || large matte 4))

@@ -2,8 +2,6 @@
 // that the tests before it failed; `unfit` assumes nothing.
 ghost use mathlib.Core.Path.{_≡_};
 ghost use mathlib.Core.Bool.{false};
-ghost use Prim.Native.Nat.{_*_, _≤_};
-ghost use lib.ListN.{length};
 ghost use Rattle.distort.specs.Job.{imageOf, plainly};
 ghost use Rattle.distort.specs.Refusal as Refusal;
 ghost use Rattle.distort.specs.Refusal.{badSide, badChannels, badSize, badStock, badCode, badNumber};
@@ -11,10 +9,7 @@ use arguments::code::is_present;
 use arguments::refusal::bad_count;
 use arguments::refusal::bad_order;
 use arguments::refusal::few_pairs;
-use endian::bytes::f32_within;
-
-// 65536.0, the largest sample in magnitude, by its pattern.
-const LIMIT: u32 = 0x4780_0000;
+use samples::large::large;
 
 fn bad_side(n: u64) -> bool
     ensures { λ r. ⌜ r ≡ badSide n ⌝ }
@@ -48,19 +43,6 @@ pub fn bad_code(method: u64, policy: u64, interpolation: u64) -> bool
     ensures { λ r. ⌜ r ≡ badCode method policy interpolation ⌝ }
 {
     !is_present(method) | ((13 < policy) | (8 < interpolation))
-}
-
-// Whether one of the first n samples is not finite or above 65,536 in magnitude. It reads every sample, with no way out in the middle, so
-// that the compiler takes several at once.
-pub fn large(bytes: &[u8], n: usize) -> bool
-    requires { ⌜ n * 4 ≤ length (now bytes) ⌝ }
-    ensures { λ r. ⌜ r ≡ Refusal.large (now (bytes .entry)) n ⌝ }
-{
-    let mut found = false;
-    for k in 0..n {
-        found = found | !f32_within(bytes, 4 * k, LIMIT);
-    }
-    found
 }
 
 // 5, number.

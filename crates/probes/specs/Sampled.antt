@@ -1,14 +1,13 @@
 -- The sampler handed out: 0 with the colour's bits in the bytes lent, or 1 outside the domain, where nothing is written. Assumes nothing.
 use Prim.Native.Nat.{ℕ, _*_}
-use mathlib.Core.Bool.{Bool, false, not, cond, _||_}
+use mathlib.Core.Bool.{Bool, not, cond, _||_}
 use mathlib.Core.List.{List}
 use lib.Dec.{eqb, ltb}
 use lib.ListN.{length}
-use lib.Ieee.{binary32, binary64, ofBits}
-use Rattle.exact.specs.Loop.{upTo}
-use Rattle.endian.specs.Bytes.{sampleAt}
+use lib.Ieee.{binary64, ofBits}
 use Rattle.number.specs.Magnitude.{within}
 use Rattle.number_probes.specs.Size.{wrongSize}
+unfoldable pub use Rattle.samples.specs.Samples.{large}
 use Rattle.cell.specs.Cell.{reach}
 use Rattle.blend.specs.Interpolate.{interpolate}
 use Rattle.pixels.specs.Pixel.{pixelAt}
@@ -26,10 +25,6 @@ wrongPicture bytes width height channels =
 
 unfoldable pub wrongCodes : ℕ → ℕ → Bool
 wrongCodes policy code = ltb 13 policy || ltb 8 code
-
--- one of the first n samples is not a number, or above 65,536 in magnitude
-unfoldable pub large : List ℕ → ℕ → Bool
-large bytes n = upTo (λ (k : ℕ) (t : Bool). t || not (within (ofBits binary32 0x4780_0000) (sampleAt bytes k))) 0 n false
 
 -- a coordinate, by its bits, that is not a number or above 2^30 + 1 in magnitude
 unfoldable pub beyond : ℕ → Bool

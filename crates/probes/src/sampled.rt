@@ -4,16 +4,16 @@ ghost use mathlib.Core.Bool.{not};
 ghost use Prim.Native.Nat.{_+_, _*_, _≤_};
 ghost use lib.ListN.{length};
 ghost use lib.Ieee.{binary64, ofBits};
-ghost use Rattle.probes.specs.Sampled.{wrongChannels, wrongPicture, wrongCodes, large, beyond, outside, putColour, probeInterpolate};
+ghost use Rattle.probes.specs.Sampled.{wrongChannels, wrongPicture, wrongCodes, beyond, outside, putColour, probeInterpolate};
 ghost use Rattle.cell.specs.Cell.{Reached};
 ghost use Rattle.pixels.specs.Pixel.{Picture};
-use endian::bytes::f32_within;
 use endian::pattern::f64_bits_within;
 use endian::pattern::f64_of_bits;
 use number_probes::size::wrong_size;
 use pixels::colour::Rgba;
 use pixels::pixel::pixel;
 use sampler::interpolate::interpolate;
+use samples::large::large;
 use stored::store::put_pixel;
 
 fn wrong_channels(n: u64) -> bool
@@ -41,18 +41,6 @@ fn wrong_codes(policy: u64, code: u64) -> bool
     ensures { λ r. ⌜ r ≡ wrongCodes policy code ⌝ }
 {
     (13 < policy) | (8 < code)
-}
-
-// Whether one of the first n samples is not a number or above 65,536 in magnitude.
-fn large(s: &[u8], n: usize) -> bool
-    requires { ⌜ n * 4 ≤ length (now s) ⌝ }
-    ensures { λ r. ⌜ r ≡ large (now (s .entry)) n ⌝ }
-{
-    let mut found = false;
-    for k in 0..n {
-        found = found | !f32_within(s, 4 * k, 0x4780_0000);
-    }
-    found
 }
 
 pub fn beyond(x: u64) -> bool

@@ -62,9 +62,9 @@ fn asked() -> Result<Asked, String> {
 fn run(r: Reference, asked: &Asked) {
     println!("Nanoseconds of one thread an output pixel, best of the rounds:\n");
     println!(
-        "| picture | channels | method | interpolation | policy | whole | in bands | reference | times as fast | rounds |"
+        "| picture | channels | method | interpolation | policy | whole | in bands | of share and test | reference | times as fast | rounds |"
     );
-    println!("|---|---|---|---|---|---:|---:|---:|---:|---:|");
+    println!("|---|---|---|---|---|---:|---:|---:|---:|---:|---:|");
     let mut measured: Vec<(Row, Times)> = Vec::new();
     let mut memories: Vec<(Shape, Memory)> = Vec::new();
     let mut held: Option<Source> = None;
@@ -99,10 +99,11 @@ fn effort(row: &Row, quick: bool) -> Effort {
 
 fn print_row(row: &Row, t: &Times) {
     println!(
-        "| {} | {:.1} | {:.1} | {:.1} | {:.2} | {} |",
+        "| {} | {:.1} | {:.1} | {:.2} | {:.1} | {:.2} | {} |",
         row.words().join(" | "),
         t.whole,
         t.banded,
+        t.more(),
         t.reference,
         t.ratio(),
         t.rounds

@@ -1,6 +1,6 @@
 //! The goals for the call's speed, and whether the rows that were measured meet them.
 
-use super::measure::{BAND, Times};
+use super::measure::Times;
 use super::memory::Memory;
 use super::rows::{EDGE, Row, Shape};
 use differential::codes;
@@ -40,7 +40,7 @@ pub fn print(rows: &Measured, memories: &[(Shape, Memory)], opencv: f64) {
     least("Perspective, Catrom and Spline: 5", 5.0, rows, &cubic);
     least("every row: 1", 1.0, rows, &|_| true);
     samples(memories);
-    bands(rows, memories);
+    bands(rows);
     let limit = WITHIN * opencv;
     let found = rows.iter().find(|(row, _)| common(row));
     let found = found.map(|(_, t)| (t.whole <= limit, format!("{:.1} ns", t.whole)));
@@ -80,18 +80,12 @@ fn samples(memories: &[(Shape, Memory)]) {
 }
 
 /// A row's bands against their share of the whole and one test of all samples for each.
-fn bands(rows: &Measured, memories: &[(Shape, Memory)]) {
-    let more = |(row, t): &&(Row, Times)| {
-        let memory = memories.iter().find(|(shape, _)| *shape == row.shape);
-        let test = memory.map_or(0.0, |(_, m)| m.test);
-        let count = row.shape.height.div_ceil(BAND) as f64;
-        t.banded / (t.whole + count * test / row.shape.pixels() as f64)
-    };
-    let highest = rows.iter().max_by(|a, b| more(a).total_cmp(&more(b)));
-    let words = |of: f64, row: &Row| format!("{of:.2} of that ({})", row.words().join(" "));
-    let found = highest.map(|pair| (more(&pair) <= SLACK, words(more(&pair), &pair.0)));
+fn bands(rows: &Measured) {
+    let highest = rows.iter().max_by(|a, b| a.1.more().total_cmp(&b.1.more()));
+    let words =
+        |row: &Row, t: &Times| format!("{:.2} of that ({})", t.more(), row.words().join(" "));
     say(
         "a band of 16 rows: its share and the test of all samples",
-        found,
+        highest.map(|(row, t)| (t.more() <= SLACK, words(row, t))),
     );
 }

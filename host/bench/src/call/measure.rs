@@ -48,6 +48,8 @@ pub struct Effort {
 pub struct Times {
     pub whole: f64,
     pub banded: f64,
+    /// As many tests of all samples as there are bands.
+    pub tests: f64,
     pub reference: f64,
     pub rounds: u32,
 }
@@ -56,6 +58,11 @@ impl Times {
     /// How many times as fast as the original the product is.
     pub fn ratio(&self) -> f64 {
         self.reference / self.whole
+    }
+
+    /// The bands' time over their share of the whole and one test of all samples for each.
+    pub fn more(&self) -> f64 {
+        self.banded / (self.whole + self.tests)
     }
 }
 
@@ -122,13 +129,15 @@ pub fn row(r: Reference, row: &Row, source: &mut Source, effort: Effort) -> Time
     let arguments: Vec<u8> = args.iter().flat_map(|x| x.to_le_bytes()).collect();
     let job = product(row, &source.bytes, &arguments);
     let prepared = original(r, row, &source.samples, &args);
-    let (mut whole, mut banded, mut rust) = (f64::INFINITY, f64::INFINITY, f64::INFINITY);
+    let (mut whole, mut banded) = (f64::INFINITY, f64::INFINITY);
+    let (mut tests, mut rust) = (f64::INFINITY, f64::INFINITY);
     let mut output = Vec::new();
     let mut rounds = 0;
     let start = Instant::now();
     while rounds < effort.least || start.elapsed().as_secs_f64() < effort.seconds {
         whole = whole.min(time(|| own(&job, &mut source.whole)));
         banded = banded.min(time(|| in_bands(job, &mut source.bands)));
+        tests = tests.min(time(|| in_no_rows(job, row.shape.height.div_ceil(BAND))));
         drop(output);
         let original = || black_box(&prepared).distort().expect("the job is fit");
         let (nanoseconds, made) = timed(original);
@@ -143,6 +152,7 @@ pub fn row(r: Reference, row: &Row, source: &mut Source, effort: Effort) -> Time
     Times {
         whole: whole / pixels,
         banded: banded / pixels,
+        tests: tests / pixels,
         reference: rust / pixels,
         rounds,
     }
@@ -161,6 +171,14 @@ fn in_bands(mut job: Job, picture: &mut [u8]) {
         job.first_row = k as u64 * BAND;
         job.rows = (band.len() / row) as u64;
         own(&job, band);
+    }
+}
+
+/// The test of all samples alone, as often as is said: calls for no rows.
+fn in_no_rows(mut job: Job, calls: u64) {
+    job.rows = 0;
+    for _ in 0..calls {
+        own(&job, &mut []);
     }
 }
 

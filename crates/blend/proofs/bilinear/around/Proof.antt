@@ -26,8 +26,8 @@ sub-if1 c = search needs
 sub-if2 : tie.Need-sub-if2
 sub-if2 c = search needs
 
-inside-requires : tie.Need-inside-requires
-inside-requires c κs = (search needs, (next _ _ (c .before .if1 .taken), next _ _ (ltb-true _ _ (c .if2 .taken))))
+inside-of-requires : tie.Need-inside-of-requires
+inside-of-requires c κs = (search needs, (next _ _ (c .before .if1 .taken), next _ _ (ltb-true _ _ (c .if2 .taken))))
 
 returns : tie.Need-returns
 returns c =
@@ -37,7 +37,7 @@ returns c =
     let hx = c .before .before .if1 .taken in
     let hy = ltb-true _ _ (c .before .if2 .taken) in
     rw (bits-before (argument (a .fits .column) (i .ensures)) hx (a .pre .0 .sizes .width-most), bits-before (argument (a .fits .row) (j .ensures)) hy (a .pre .0 .sizes .height-most))
-    (c .inside .ensures ∙ inside-corners _ _ _ _ (a .args .policy) (a .args .background) _ _ (next _ _ hx) (next _ _ hy) _ _)
+    (c .inside-of .ensures ∙ inside-corners _ _ _ _ (a .args .policy) (a .args .background) _ _ (next _ _ hx) (next _ _ hy) _ _)
 
 anywhere-requires : tie.Need-anywhere-requires
 anywhere-requires c κs = let a = c .before .before .before .before in (search needs, (small 2147483649 _ (a .fits .column) (search needs), small 2147483649 _ (a .fits .row) (search needs)))
@@ -53,7 +53,7 @@ around-spec =
     bits-of-i64-requires-2
     sub-if1
     sub-if2
-    inside-requires
+    inside-of-requires
     returns
     anywhere-requires
     returns-2)

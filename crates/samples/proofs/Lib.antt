@@ -1,0 +1,3 @@
+-- The laws, each file under its subject.
+pub mod AnyLaws
+pub mod PartsLaws

@@ -1,0 +1,2 @@
+-- The definition of the test of samples.
+pub mod Samples

@@ -18,20 +18,7 @@ pub fn sample(picture: &[u8], k: u64) -> f32
     f32_plain_at(picture, 4 * k as usize)
 }
 
-// The pixel of four channels whose first sample is numbered k.
-pub fn rgba(picture: &[u8], k: u64) -> Rgba
-    requires { ⌜ ((k + 4) * 4 ≤ length (now picture)) × Limited (now picture) ⌝ }
-    ensures { λ r. ⌜ r ≡ Pixel.widened (now (picture .entry)) 4 k ⌝ }
-{
-    Rgba {
-        r: sample(picture, k),
-        g: sample(picture, k + 1),
-        b: sample(picture, k + 2),
-        a: sample(picture, k + 3),
-    }
-}
-
-// Of three.
+// The pixel of three channels whose first sample is numbered k.
 pub fn rgb(picture: &[u8], k: u64) -> Rgba
     requires { ⌜ ((k + 3) * 4 ≤ length (now picture)) × Limited (now picture) ⌝ }
     ensures { λ r. ⌜ r ≡ Pixel.widened (now (picture .entry)) 3 k ⌝ }
@@ -41,6 +28,20 @@ pub fn rgb(picture: &[u8], k: u64) -> Rgba
         g: sample(picture, k + 1),
         b: sample(picture, k + 2),
         a: 1.0,
+    }
+}
+
+// Of four.
+pub fn rgba(picture: &[u8], k: u64) -> Rgba
+    requires { ⌜ ((k + 4) * 4 ≤ length (now picture)) × Limited (now picture) ⌝ }
+    ensures { λ r. ⌜ r ≡ Pixel.widened (now (picture .entry)) 4 k ⌝ }
+{
+    let c = rgb(picture, k);
+    Rgba {
+        r: c.r,
+        g: c.g,
+        b: c.b,
+        a: sample(picture, k + 3),
     }
 }
 

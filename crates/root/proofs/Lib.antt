@@ -3,9 +3,9 @@ mod RootCases
 mod RootDigits
 mod RootNear
 mod RootNumbers
-mod RootPositive
+pub mod RootPositive
 mod RootScale
-mod RootSettle
+pub mod RootSettle
 mod RootValue
 pub mod RootLaws
 pub mod RootWhole

@@ -2,10 +2,10 @@
 mod RootCases
 mod RootDigits
 mod RootNear
-mod RootNumbers
-pub mod RootPositive
+pub mod RootNumbers
+mod RootPositive
 mod RootScale
-pub mod RootSettle
+mod RootSettle
 mod RootValue
 pub mod RootLaws
 pub mod RootWhole

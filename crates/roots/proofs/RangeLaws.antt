@@ -113,23 +113,3 @@ module _ (a b : ℕ) (A : a ≤ b) (B : b < 0x7ff0_0000_0000_0000) (x : Float) (
 
   pub kept-out : Between a b hi
   kept-out = record { pattern = b; is = refl; least = A; most = le-refl b }
-
--- ---- a number of the range that equals another is that one: no zero is in the range
-pub same-is : (z x : Float) → T (fits binary64 z) → T (fits binary64 x) → T (positive z) → eq z x ≡ true → z ≡ x
-unfolding eq
-same-is nan x f g p h = absurd p
-same-is (inf s) x f g p h = absurd p
-same-is (fin true m e) x f g p h = absurd p
-same-is (fin false m e) nan f g p h = absurd (false≢true h)
-same-is (fin false m e) (inf t) f g p h = absurd (false≢true h)
-same-is (fin false m e) (fin t n d) f g p h =
-    let w = both (eqb (m * up e * down d) (n * up d * down e)) (Bool·beq false t || eqb (m * up e * down d) 0) h in
-    go t g (eqb-true _ _ (w .0)) (w .1)
-  where
-    both : (a b : Bool) → (a && b) ≡ true → (a ≡ true) × (b ≡ true)
-    both true b h = (refl, h)
-    both false b h = absurd (false≢true h)
-
-    go : (t : Bool) → T (fits binary64 (fin t n d)) → m * up e * down d ≡ n * up d * down e → (Bool·beq false t || eqb (m * up e * down d) 0) ≡ true → fin false m e ≡ fin t n d
-    go false g l k = unique binary64 binary64 (fin false m e) (fin false n d) false (m * up e) (down e) (down-pos e) f g (refl, refl) (refl, sym l)
-    go true g l k = absurd (lt-irrefl 0 (subst (λ (z : ℕ). 0 < z) (eqb-true _ _ k) (mul-pos (mul-pos (ltb→lt 0 m p) (up-pos e)) (down-pos d))))

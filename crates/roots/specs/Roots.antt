@@ -6,6 +6,11 @@ use Prim.Native.Nat.{ℕ, _<_}
 use lib.ListN.{getD}
 use lib.Ieee.{Float, nan}
 use Rattle.root.specs.Root.{root}
+use Rattle.roots.specs.Range.{Candidate}
+
+-- each of the first n can be tested
+pub record Candidates (n : ℕ) (r : List Float) : Type 0 where
+  pub each : (k : ℕ) → k < n → Candidate (getD r k nan)
 
 pub record Roots (n : ℕ) (s r : List Float) : Type 0 where
   pub each : (k : ℕ) → k < n → getD r k nan ≡ root (getD s k nan)

@@ -1,6 +1,4 @@
-// The numbers that the loop works with. Each choice is one instruction for two numbers, and takes a NaN to the lower bound. Assumes nothing.
-ghost use mathlib.Core.Path.{_≡_};
-ghost use mathlib.Core.Bool.{true};
+// The numbers that the loops work with. Each choice is one instruction for two numbers, and takes a NaN to the lower bound. Assumes nothing.
 ghost use Rattle.roots.specs.Range.{Radicand, Candidate};
 
 // x, or the bound next to it: from 2^-960 up to 2^960.
@@ -17,14 +15,6 @@ pub fn radicand(x: f64) -> f64
     } else {
         9.7453140114e288
     }
-}
-
-// Whether that is x itself.
-pub fn same(z: f64, x: f64) -> bool
-    requires { ⌜ Radicand z ⌝ }
-    ensures { λ r. ⌜ (r ≡ true → z ≡ x) ⌝ }
-{
-    z == x
 }
 
 // Something of which nothing is known, for a root: from 2^-480 up to 2^480.

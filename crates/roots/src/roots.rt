@@ -1,13 +1,11 @@
-// The roots of a stretch: a loop with no branch in it, so that the compiler takes several numbers at a time. Assumes nothing.
+// The roots of a stretch: three loops with no branch in them, so that the compiler takes several numbers at a time. Assumes nothing.
 ghost use mathlib.Core.Path.{_≡_};
 ghost use mathlib.Core.Bool.{true};
 ghost use Prim.Native.Nat.{_≤_};
 ghost use lib.ListN.{length};
-ghost use Rattle.roots.specs.Roots.{Roots};
-use crate::guess::guess;
-use crate::range::candidate;
-use crate::range::radicand;
-use crate::range::same;
+ghost use Rattle.roots.specs.Roots.{Candidates, Roots};
+use crate::guess::leading;
+use crate::guess::stepped;
 use crate::settled::settled;
 
 // An array has as many elements as its type says: a function is told so of one that it takes by value.
@@ -15,18 +13,34 @@ fn sized(a: [f64; 64])
     ensures { λ _. ⌜ length a ≡ 64 ⌝ }
 {}
 
-// The loop.
-fn fill(s: &[f64; 64], n: usize, r: &mut [f64; 64]) -> bool
+// The leading digits of each root.
+fn lead(s: &[f64; 64], n: usize, h: &mut [f64; 64])
+    requires { ⌜ (n ≤ 64) × ((length (now s) ≡ 64) × (length (now h) ≡ 64)) ⌝ }
+{
+    for k in 0..n {
+        h[k] = leading(s[k]);
+    }
+}
+
+// The step from there.
+fn step(s: &[f64; 64], h: &[f64; 64], n: usize, r: &mut [f64; 64])
+    requires { ⌜ (n ≤ 64) × ((length (now s) ≡ 64) × ((length (now h) ≡ 64) × (length (now r) ≡ 64))) ⌝ }
+    ensures { λ _. ⌜ Candidates n (now (r .exit)) ⌝ }
+{
+    for k in 0..n {
+        r[k] = stepped(s[k], h[k]);
+    }
+}
+
+// Whether all are settled.
+fn settle(s: &[f64; 64], n: usize, r: &[f64; 64]) -> bool
     requires { ⌜ (n ≤ 64) × ((length (now s) ≡ 64) × (length (now r) ≡ 64)) ⌝ }
-    ensures { λ b. ⌜ (b ≡ true → Roots n (now (s .entry)) (now (r .exit))) ⌝ }
+    requires { ⌜ Candidates n (now r) ⌝ }
+    ensures { λ b. ⌜ (b ≡ true → Roots n (now (s .entry)) (now (r .entry))) ⌝ }
 {
     let mut good = true;
     for k in 0..n {
-        let x = s[k];
-        let z = radicand(x);
-        let g = candidate(guess(z));
-        r[k] = g;
-        good = good & (same(z, x) & settled(z, g));
+        good = good & settled(s[k], r[k]);
     }
     good
 }
@@ -37,7 +51,13 @@ pub fn roots(s: &[f64; 64], n: usize, r: &mut [f64; 64]) -> bool
     requires { ⌜ n ≤ 64 ⌝ }
     ensures { λ b. ⌜ (b ≡ true → Roots n (now (s .entry)) (now (r .exit))) ⌝ }
 {
+    let mut h = [0.0; 64];
     sized(*s);
     sized(*r);
-    fill(s, n, r)
+    sized(h);
+    lead(s, n, &mut h);
+    sized(h);
+    step(s, &h, n, r);
+    sized(*r);
+    settle(s, n, r)
 }

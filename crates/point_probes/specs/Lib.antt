@@ -1,3 +1,4 @@
 -- What the probes answer.
 pub mod Pointed
 pub mod Points
+pub mod Rows

@@ -1,4 +1,5 @@
 // A static library for tests alone: its exports hand the source points to the host. Floats pass as their
 // bits; a NaN comes out as 0x7ff8000000000000. No product links it.
+pub mod many;
 pub mod pointed;
-pub mod points;
+pub mod rows;

@@ -36,7 +36,7 @@ kept-point u v = record { marked = refl; across = λ h. refl; down = λ h. refl 
 kept-none : (v : Float) → Kept none nan v
 kept-none v = record { marked = nan-marked v; across = λ h. absurd (false≢true h); down = λ h. absurd (false≢true h) }
 
-kept-either : (t : Bool) (u v : Float) → Kept (cond t none (point u v)) (unless t u) v
+pub kept-either : (t : Bool) (u v : Float) → Kept (cond t none (point u v)) (unless t u) v
 kept-either true u v = kept-none v
 kept-either false u v = kept-point u v
 

@@ -1,2 +1,3 @@
--- The definition of the points of a stretch.
+-- The definitions of the points of a stretch (Points), and of the steps to those of the barrels (Barrels).
+pub mod Barrels
 pub mod Points

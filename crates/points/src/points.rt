@@ -1,32 +1,27 @@
-// The source points of a stretch of a row, worked out before its colours: a loop for each kind, with no branch in those of Affine and Perspective, so
-// that the compiler takes several pixels at a time. Assumes that the pixels lie within the limits of a window.
+// The source points of a stretch of a row, worked out before its colours: a loop for each kind, with no branch in those of Affine,
+// Perspective and the barrels, so that the compiler takes several pixels at a time. Assumes that the pixels lie within the limits of a window.
 ghost use mathlib.Core.Path.{_≡_};
 ghost use Prim.Native.Nat.{_+_, _≤_};
 ghost use lib.IntN.{natAbs};
 ghost use lib.ListN.{length};
 ghost use lib.Ieee.{Float};
+ghost use Rattle.mappings.specs.Mapping.{barrelKind, barrelInverseKind};
 ghost use Rattle.inverse.specs.Affine.{affine};
 ghost use Rattle.inverse.specs.Perspective.{perspective};
 ghost use Rattle.inverse.specs.Inverse.{inverse};
-ghost use Rattle.points.specs.Points.{unless, Stretch, Points};
+ghost use Rattle.points.specs.Points.{Stretch, Points};
+use crate::barrels::barrel_inverse_points;
+use crate::barrels::barrel_points;
+use crate::mark::unless;
 use crate::pixel::asked;
 use crate::pixel::middle;
 use crate::pixel::offset;
+use crate::sized::sized;
 use inverse::source::inverse;
 use mappings::mapping::AFFINE;
+use mappings::mapping::BARREL;
+use mappings::mapping::BARREL_INVERSE;
 use mappings::mapping::PERSPECTIVE;
-
-// What is kept of a coordinate: a NaN where there is no point.
-fn unless(none: bool, u: f64) -> f64
-    ensures { λ r. ⌜ r ≡ unless none u ⌝ }
-{
-    if none { 0.0 / 0.0 } else { u }
-}
-
-// An array has as many elements as its type says: a function is told so of one that it takes by value.
-fn sized(a: [f64; 64])
-    ensures { λ _. ⌜ length a ≡ 64 ⌝ }
-{}
 
 fn affine_points(
     coef: &[f64; 256],
@@ -104,6 +99,56 @@ fn other_points(
     }
 }
 
+// The points of Barrel at once, or one after another where a root was not settled.
+fn barrel_or_other(
+    kind: u64,
+    order: u64,
+    count: u64,
+    coef: &[f64; 256],
+    x: f64,
+    y: f64,
+    first: u32,
+    n: usize,
+    us: &mut [f64; 64],
+    vs: &mut [f64; 64],
+)
+    requires { ⌜ kind ≡ barrelKind ⌝ }
+    requires { ⌜ (n ≤ 64) × ((first + n ≤ 4096) × ((length (now us) ≡ 64) × (length (now vs) ≡ 64))) ⌝ }
+    ensures { λ _. ⌜ Stretch (λ (a : Float). inverse kind order count (now (coef .entry)) a y) x first n (now (us .exit)) (now (vs .exit)) ⌝ }
+{
+    if barrel_points(coef, x, y, first, n, us, vs) {
+        return;
+    }
+    sized(*us);
+    sized(*vs);
+    other_points(kind, order, count, coef, x, y, first, n, us, vs);
+}
+
+// The same for BarrelInverse.
+fn barrel_inverse_or_other(
+    kind: u64,
+    order: u64,
+    count: u64,
+    coef: &[f64; 256],
+    x: f64,
+    y: f64,
+    first: u32,
+    n: usize,
+    us: &mut [f64; 64],
+    vs: &mut [f64; 64],
+)
+    requires { ⌜ kind ≡ barrelInverseKind ⌝ }
+    requires { ⌜ (n ≤ 64) × ((first + n ≤ 4096) × ((length (now us) ≡ 64) × (length (now vs) ≡ 64))) ⌝ }
+    ensures { λ _. ⌜ Stretch (λ (a : Float). inverse kind order count (now (coef .entry)) a y) x first n (now (us .exit)) (now (vs .exit)) ⌝ }
+{
+    if barrel_inverse_points(coef, x, y, first, n, us, vs) {
+        return;
+    }
+    sized(*us);
+    sized(*vs);
+    other_points(kind, order, count, coef, x, y, first, n, us, vs);
+}
+
 // The first n of us and vs: the pixels from column `first` of row j on, of a window at x, y.
 pub fn points(
     kind: u64,
@@ -133,6 +178,14 @@ pub fn points(
     }
     if kind == PERSPECTIVE {
         perspective_points(coef, a, b, start, n, us, vs);
+        return;
+    }
+    if kind == BARREL {
+        barrel_or_other(kind, order, count, coef, a, b, start, n, us, vs);
+        return;
+    }
+    if kind == BARREL_INVERSE {
+        barrel_inverse_or_other(kind, order, count, coef, a, b, start, n, us, vs);
         return;
     }
     other_points(kind, order, count, coef, a, b, start, n, us, vs);

@@ -2,7 +2,7 @@
 mod RootCases
 mod RootDigits
 mod RootNear
-mod RootNumbers
+pub mod RootNumbers
 mod RootPositive
 mod RootScale
 mod RootSettle

@@ -2,7 +2,7 @@
 -- value of the result. Assumes nothing.
 use mathlib.Core.Path.{_≡_, sym, ap, _∙_, subst}
 use mathlib.Core.Bool.{true, false}
-use Prim.Native.Nat.{ℕ, _+_, _*_, _^_, _≤_}
+use Prim.Native.Nat.{ℕ, _+_, _*_, _^_, _≤_, _<_}
 use native.Mathlib.Nat.{lt-of-lt-of-le, mul-assoc}
 use native.Mathlib.Omega.{arith}
 use lib.Count.{leading-top}
@@ -15,7 +15,7 @@ use Rattle.exact.proofs.Naturals.{four-pow}
 use Rattle.exact.proofs.Units.{Units, units}
 use Rattle.root.specs.Root.{root}
 use Rattle.root.proofs.RootWhole.{Nearest}
-use Rattle.root.proofs.RootScale.{moved, scaled, moved-sized, raised-ge, root-near}
+use Rattle.root.proofs.RootScale.{moved, scaled, moved-sized, raised-ge, raised-lt, root-near}
 use Rattle.root.proofs.RootValue.{half, digits, digits-ge, root-value}
 use Rattle.root.proofs.RootPositive.{root-of}
 
@@ -31,6 +31,7 @@ pub record Rooted (x : Float) : Type 0 where
   pub near : Nearest a q
   pub least : 2 ^ 52 ≤ q
   pub large : 2 ^ 104 ≤ a
+  pub limited : a < 2 ^ 106
 
 scale-is : (n a h : ℕ) → a * 4 ^ h ≡ n * 2 ^ 104 → 4 * n * 2 ^ 1074 ≡ 4 * a * (2 ^ (h + 485) * 2 ^ (h + 485))
 scale-is n a h e =
@@ -45,6 +46,9 @@ scale-is n a h e =
   where
     twice : (h : ℕ) → h + h + 970 ≡ h + 485 + (h + 485)
     twice h = omega arith
+
+fewer : (t : ℕ) → t + 2 ≤ 2 ^ 54 → t < 2 ^ 54
+fewer t h = omega arith
 
 of-units : (x : Float) (m k : ℕ) → T (positive x) → Units binary64 x false m k → Rooted x
 of-units x m k p u =
@@ -66,6 +70,7 @@ of-units x m k p u =
       near = root-near t (z .0) (z .1);
       least = digits-ge m k j lo hi s (u .under);
       large = raised-ge t (z .0);
+      limited = raised-lt t (fewer t (z .1));
     }
 
 pub rooted : (x : Float) → T (fits binary64 x) → T (positive x) → Rooted x

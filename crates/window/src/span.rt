@@ -14,7 +14,7 @@ pub enum Span {
     Out,
 }
 
-fn good_offset(from: i64) -> bool
+pub fn good_offset(from: i64) -> bool
     ensures { λ r. ⌜ r ≡ Side.goodOffset from ⌝ }
 {
     (from >= -1048576) & (from <= 1048576)

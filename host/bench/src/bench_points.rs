@@ -1,15 +1,22 @@
-//! Nanoseconds a source point, for each method: the product's through its archive, and the original's `inverse`. Both go
-//! over the same points and leave the same bytes, in turns; of each, the best of many rounds. A product's round has its
-//! fit in it, an original's has not.
+//! Nanoseconds a source point, for each method: the product's through its archive, rows at a time as its call works them,
+//! and the original's `inverse`. Both go over the same points and leave the same bytes, in turns; of each, the best of many
+//! rounds. A product's round has its fit in it, an original's has not.
 
 use differential::{codes, expected};
+use probes::Rows;
 use reference::{Mapping, Reference};
 use std::hint::black_box;
 use std::time::Instant;
 
 const WIDTH: u64 = 1_024;
 const HEIGHT: u64 = 768;
-const ROWS: u64 = 16;
+/// Some rows in the middle of the picture.
+const ROWS: Rows = Rows {
+    x: 0,
+    y: 0,
+    first: HEIGHT / 2,
+    rows: 16,
+};
 const ROUNDS: usize = 600;
 
 fn main() {
@@ -24,10 +31,9 @@ fn main() {
     }
 }
 
-/// The centres of the pixels of some rows in the middle of a picture, as bits of x and y.
+/// The centres of the rows' pixels, as bits of x and y.
 fn points() -> Vec<u8> {
-    let first = HEIGHT / 2;
-    let rows = first..first + ROWS;
+    let rows = ROWS.first..ROWS.first + ROWS.rows;
     let all = rows.flat_map(|j| (0..WIDTH).map(move |i| [i as f64 + 0.5, j as f64 + 0.5]));
     all.flatten().flat_map(f64::to_le_bytes).collect()
 }
@@ -85,7 +91,7 @@ fn report(r: Reference, name: &str, method: u64, args: &[f64], points: &[u8]) {
     // A slow method needs fewer rounds than a fast one.
     let start = Instant::now();
     for _ in 0..ROUNDS {
-        product = product.min(time(|| own(method, &bytes, points, &mut ours)));
+        product = product.min(time(|| own(method, &bytes, &mut ours)));
         rust = rust.min(time(|| original(&mapping, points, &mut originals)));
         if start.elapsed().as_secs() >= 3 {
             break;
@@ -96,8 +102,8 @@ fn report(r: Reference, name: &str, method: u64, args: &[f64], points: &[u8]) {
     println!("{name:28}{product:12.2}{rust:10.2}{:10.2}", product / rust);
 }
 
-fn own(method: u64, args: &[u8], points: &[u8], out: &mut [u8]) {
-    let answer = probes::points(method, args, WIDTH, HEIGHT, black_box(points), out);
+fn own(method: u64, args: &[u8], out: &mut [u8]) {
+    let answer = probes::rows(method, args, WIDTH, HEIGHT, black_box(ROWS), out);
     assert_eq!(answer, 0, "the job is fit");
     black_box(out);
 }

@@ -65,6 +65,19 @@ mod ffi {
             out: *mut u8,
             out_length: usize,
         ) -> u64;
+        pub unsafe fn probe_rows(
+            method: u64,
+            arguments: *const u8,
+            length: usize,
+            width: u64,
+            height: u64,
+            x: i64,
+            y: i64,
+            first: u64,
+            rows: u64,
+            out: *mut u8,
+            out_length: usize,
+        ) -> u64;
         pub unsafe fn probe_window(
             method: u64,
             arguments: *const u8,
@@ -298,6 +311,44 @@ pub fn points(
             height,
             points.as_ptr(),
             points.len(),
+            out.as_mut_ptr(),
+            out.len(),
+        )
+    }
+}
+
+/// Rows of a window of the picture's width, at an offset.
+#[derive(Clone, Copy, Debug)]
+pub struct Rows {
+    pub x: i64,
+    pub y: i64,
+    pub first: u64,
+    pub rows: u64,
+}
+
+/// The source points of whole rows by one fit, worked as the call works them: 24 bytes each, as `points` writes them, but one that
+/// cannot be used as 24 zeros. The answer is the refusal's number, 12 where the rows are beyond a window's limits or the bytes are
+/// not 24 for each point; a refusal writes nothing.
+pub fn rows(
+    method: u64,
+    arguments: &[u8],
+    width: u64,
+    height: u64,
+    rows: Rows,
+    out: &mut [u8],
+) -> u64 {
+    // SAFETY: each pointer and the length after it are one slice's.
+    unsafe {
+        ffi::probe_rows(
+            method,
+            arguments.as_ptr(),
+            arguments.len(),
+            width,
+            height,
+            rows.x,
+            rows.y,
+            rows.first,
+            rows.rows,
             out.as_mut_ptr(),
             out.len(),
         )

@@ -30,7 +30,25 @@ returns-2 c =
 
 returns-3 : tie.Need-returns-3
 returns-3 c =
-    let e = c .before .before .before .before .before in
+    let e = c .before .before .before .before .before .before in
+    let a = e .before .before .before .before .before .before in
+    points-by _ _ _ _ (a .args .x) (a .args .y) _ _ _
+    (e .before .offset .ensures ∙ ap (λ (z : ℤ). ofInt binary64 z) (toZ-ofZ w64 (a .args .x) (a .fits .x)))
+    (e .asked .ensures ∙ ap (λ (z : ℤ). asked (a .args .j) z) (toZ-ofZ w64 (a .args .y) (a .fits .y)))
+    _ (λ c. refl) (c .barrel-or-other .ensures)
+
+returns-4 : tie.Need-returns-4
+returns-4 c =
+    let e = c .before .before .before .before .before .before .before in
+    let a = e .before .before .before .before .before .before in
+    points-by _ _ _ _ (a .args .x) (a .args .y) _ _ _
+    (e .before .offset .ensures ∙ ap (λ (z : ℤ). ofInt binary64 z) (toZ-ofZ w64 (a .args .x) (a .fits .x)))
+    (e .asked .ensures ∙ ap (λ (z : ℤ). asked (a .args .j) z) (toZ-ofZ w64 (a .args .y) (a .fits .y)))
+    _ (λ c. refl) (c .barrel-inverse-or-other .ensures)
+
+returns-5 : tie.Need-returns-5
+returns-5 c =
+    let e = c .before .before .before .before .before .before .before in
     let a = e .before .before .before .before .before .before in
     points-by _ _ _ _ (a .args .x) (a .args .y) _ _ _
     (e .before .offset .ensures ∙ ap (λ (z : ℤ). ofInt binary64 z) (toZ-ofZ w64 (a .args .x) (a .fits .x)))
@@ -51,4 +69,8 @@ points-spec =
     (λ c κs. search needs)
     returns-2
     (λ c κs. search needs)
-    returns-3)
+    returns-3
+    (λ c κs. search needs)
+    returns-4
+    (λ c κs. search needs)
+    returns-5)

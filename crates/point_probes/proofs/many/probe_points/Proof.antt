@@ -1,4 +1,4 @@
--- `point_probes::points::probe_points` meets its contract: each way out is the case of the definition that its tests took. Assumes nothing.
+-- `point_probes::many::probe_points` meets its contract: each way out is the case of the definition that its tests took. Assumes nothing.
 use mathlib.Core.Path.{sym, _∙_}
 use Prim.Native.Nat.{_-_}
 use native.Mathlib.Omega.{arith}
@@ -6,8 +6,8 @@ use Rattle.point_probes.specs.Points.{pointsOf, probePoints}
 use Rattle.point_probes.proofs.PointsLaws.{lengths-fit}
 use borrow.Author.Tests.{eq-eqb, ne-eqb}
 use borrow.Author.Needs.{needs}
-use Rattle.point_probes.proofs.points.probe_points.Statement.{statement}
-use Rattle.point_probes.proofs.points.probe_points.Tie as tie
+use Rattle.point_probes.proofs.many.probe_points.Statement.{statement}
+use Rattle.point_probes.proofs.many.probe_points.Tie as tie
 
 returns : tie.Need-returns
 unfolding probePoints pointsOf

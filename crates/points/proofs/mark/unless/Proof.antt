@@ -1,8 +1,8 @@
--- `points::points::unless` meets its contract: 0 over 0 is a NaN. Assumes nothing.
+-- `points::mark::unless` meets its contract: 0 over 0 is a NaN. Assumes nothing.
 use lib.Ieee.{div, ofBits}
 use borrow.Author.Needs.{needs}
-use Rattle.points.proofs.points.unless.Statement.{statement}
-use Rattle.points.proofs.points.unless.Tie as tie
+use Rattle.points.proofs.mark.unless.Statement.{statement}
+use Rattle.points.proofs.mark.unless.Tie as tie
 
 returns : tie.Need-returns
 unfolding div ofBits

@@ -1,4 +1,4 @@
--- `point_probes::points::put_points` meets its contract. The loop's invariant: k points are written, and the bytes are as many as before.
+-- `point_probes::many::put_points` meets its contract. The loop's invariant: k points are written, and the bytes are as many as before.
 -- Assumes nothing.
 use Rattle.point_probes.specs.Points.{putNext}
 use Rattle.exact.proofs.Loop.{upTo-none, upTo-next, upTo-last}
@@ -7,8 +7,8 @@ use lib.ListN.{length}
 use mathlib.Core.Path.{_≡_, _∙_}
 use Prim.Native.Nat.{_-_, _≤_}
 use borrow.Author.Needs.{needs}
-use Rattle.point_probes.proofs.points.put_points.Statement.{statement}
-use Rattle.point_probes.proofs.points.put_points.Tie as tie
+use Rattle.point_probes.proofs.many.put_points.Statement.{statement}
+use Rattle.point_probes.proofs.many.put_points.Tie as tie
 
 abbrev Inv-loop : tie.InvT-loop
 Inv-loop out₀ points kind order count coef n k₀ out k = (out ≡ upTo (putNext kind order count coef points) 0 k out₀) × ((length out ≡ length out₀) × (k ≤ n))

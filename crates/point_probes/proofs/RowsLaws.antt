@@ -13,7 +13,7 @@ use lib.Ieee.{Float}
 use Rattle.exact.specs.Loop.{upTo}
 use Rattle.exact.specs.Sums.{asked}
 use Rattle.exact.proofs.Loop.{upTo-join, upTo-same}
-use Rattle.matrix.specs.Matrix.{Vector, at}
+use Rattle.matrix.specs.Matrix.{Vector}
 use Rattle.point.specs.declared.point.Point.{Point}
 use Rattle.point.specs.Point.{point, none}
 use Rattle.inverse.specs.Inverse.{inverse}

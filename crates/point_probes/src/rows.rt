@@ -1,8 +1,7 @@
 // Source points in bytes, whole rows of a window by one fit and worked as the call works them, in stretches: so that what is measured is what the product
 // does. Assumes nothing.
 ghost use mathlib.Core.Path.{_≡_};
-ghost use Prim.Native.Nat.{ℕ, _+_, _*_, _≤_, _<_};
-ghost use mathlib.Core.List.{List};
+ghost use Prim.Native.Nat.{_+_, _*_, _≤_, _<_};
 ghost use lib.IntN.{natAbs};
 ghost use lib.ListN.{length};
 ghost use Rattle.exact.specs.Loop.{upTo};

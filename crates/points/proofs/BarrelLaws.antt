@@ -1,8 +1,8 @@
 -- The laws of the barrels' arrays: a store more makes each longer by one, also where a list is changed in place, and the three steps together are the
 -- points. Assumes nothing.
-use mathlib.Core.Path.{_≡_, refl, sym, ap, _∙_}
+use mathlib.Core.Path.{_≡_, refl, ap, _∙_}
 use mathlib.Core.Logic.{_≢_}
-use mathlib.Core.Bool.{Bool, false, cond}
+use mathlib.Core.Bool.{Bool, false}
 use mathlib.Core.List.{List}
 use Prim.Native.Nat.{ℕ, _+_, _≤_, _<_}
 use native.Mathlib.Nat.{not-suc-le-zero}
@@ -21,7 +21,7 @@ use Rattle.point.specs.declared.point.Point.{Point}
 use Rattle.inverse.specs.Barrel.{across, down, cubic, barrel, barrelInverse}
 use Rattle.inverse.specs.Inverse.{inverse}
 use Rattle.points.specs.Barrels.{small, Radii, Moved}
-use Rattle.points.specs.Points.{Kept, middle, unless, Stretch}
+use Rattle.points.specs.Points.{middle, unless, Stretch}
 use Rattle.points.proofs.PointsLaws.{kept-point, kept-either}
 
 others : {i k : ℕ} → i < k → i ≢ k

@@ -59,7 +59,7 @@ newton-leaves c x y u v =
     (either Leaves (lt (abs (du c x y u v) ⊕ abs (dv c x y u v)) (ofBits binary64 0x3e11_2e0b_e826_d695)) (left (point-marked (u ⊖ du c x y u v) (v ⊖ dv c x y u v)))
     (goes _))
 
-forward-marked : (c : Vector) (x y : Float) → Marked (bilinearForward c x y)
+pub forward-marked : (c : Vector) (x y : Float) → Marked (bilinearForward c x y)
 unfolding bilinearForward newtonTurn
 forward-marked c x y =
     ended-marked (λ (w : Float × Float). point (w .0) (w .1)) (λ w. point-marked (w .0) (w .1)) _

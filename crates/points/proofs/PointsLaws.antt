@@ -18,11 +18,12 @@ use Rattle.number.specs.Magnitude.{abs, within}
 use Rattle.matrix.specs.Matrix.{Vector, at}
 use Rattle.point.specs.declared.point.Point.{Point}
 use Rattle.point.specs.Point.{usable, point, none}
-use Rattle.mappings.specs.Mapping.{affineKind, perspectiveKind}
+use Rattle.mappings.specs.Mapping.{affineKind, perspectiveKind, bilinearForwardKind}
+use Rattle.forward.specs.Forward.{bilinearForward}
 use Rattle.inverse.specs.Affine.{affine}
 use Rattle.inverse.specs.Perspective.{wq, perspective}
 use Rattle.inverse.specs.Inverse.{inverse}
-use Rattle.points.proofs.MarkLaws.{Marked, inverse-marked}
+use Rattle.points.proofs.MarkLaws.{Marked, forward-marked, inverse-marked}
 use Rattle.points.specs.Points.{Kept, middle, unless, Stretch, Points}
 
 -- ---- one point
@@ -57,6 +58,10 @@ pub kept-marked :
     (kind order count : ℕ) (coef : Vector) (a y : Float) {p : Point} {u : Float} →
     p ≡ inverse kind order count coef a y → u ≡ unless (not (p .usable)) (p .u) → Kept (inverse kind order count coef a y) u (p .v)
 kept-marked kind order count coef a y e h = rw (h, e) (kept-by _ _ refl (inverse-marked kind order count coef a y))
+
+pub kept-forward :
+    (coef : Vector) (a y : Float) {p : Point} {u : Float} → p ≡ bilinearForward coef a y → u ≡ unless (not (p .usable)) (p .u) → Kept (bilinearForward coef a y) u (p .v)
+kept-forward coef a y e h = rw (h, e) (kept-by _ _ refl (forward-marked coef a y))
 
 -- ---- a stretch
 -- what a loop knows after k turns: k points are kept, in lists of 64 places
@@ -104,3 +109,8 @@ module _ (kind order count : ℕ) (coef : Vector) (x y : ℤ) (first j n : ℕ) 
       kind ≡ perspectiveKind → Stretch (λ (c : Float). perspective coef c b) a first n us vs → Points kind order count coef x y first j n us vs
   unfolding inverse
   points-perspective h = points-by (λ (c : Float). perspective coef c b) (λ c. rw h)
+
+  pub points-forward :
+      kind ≡ bilinearForwardKind → Stretch (λ (c : Float). bilinearForward coef c b) a first n us vs → Points kind order count coef x y first j n us vs
+  unfolding inverse
+  points-forward h = points-by (λ (c : Float). bilinearForward coef c b) (λ c. rw h)

@@ -6,6 +6,7 @@ ghost use lib.IntN.{natAbs};
 ghost use lib.ListN.{length};
 ghost use lib.Ieee.{Float};
 ghost use Rattle.mappings.specs.Mapping.{barrelKind, barrelInverseKind};
+ghost use Rattle.forward.specs.Forward.{bilinearForward};
 ghost use Rattle.inverse.specs.Affine.{affine};
 ghost use Rattle.inverse.specs.Perspective.{perspective};
 ghost use Rattle.inverse.specs.Inverse.{inverse};
@@ -17,10 +18,12 @@ use crate::pixel::asked;
 use crate::pixel::middle;
 use crate::pixel::offset;
 use crate::sized::sized;
+use forward::forward::bilinear_forward;
 use inverse::source::inverse;
 use mappings::mapping::AFFINE;
 use mappings::mapping::BARREL;
 use mappings::mapping::BARREL_INVERSE;
+use mappings::mapping::BILINEAR_FORWARD;
 use mappings::mapping::PERSPECTIVE;
 
 fn affine_points(
@@ -74,6 +77,25 @@ fn perspective_points(
         let wq = m6 * a + m7 * y + m8;
         us[k] = unless(wq <= 1e-12, (m0 * a + m1 * y + m2) / wq);
         vs[k] = (m3 * a + m4 * y + m5) / wq;
+    }
+}
+
+fn forward_points(
+    coef: &[f64; 256],
+    x: f64,
+    y: f64,
+    first: u32,
+    n: usize,
+    us: &mut [f64; 64],
+    vs: &mut [f64; 64],
+)
+    requires { ⌜ (n ≤ 64) × ((first + n ≤ 4096) × ((length (now us) ≡ 64) × (length (now vs) ≡ 64))) ⌝ }
+    ensures { λ _. ⌜ Stretch (λ (a : Float). bilinearForward (now (coef .entry)) a y) x first n (now (us .exit)) (now (vs .exit)) ⌝ }
+{
+    for k in 0..n {
+        let p = bilinear_forward(coef, middle(first + (k as u32), x), y);
+        us[k] = unless(!p.usable, p.u);
+        vs[k] = p.v;
     }
 }
 
@@ -178,6 +200,10 @@ pub fn points(
     }
     if kind == PERSPECTIVE {
         perspective_points(coef, a, b, start, n, us, vs);
+        return;
+    }
+    if kind == BILINEAR_FORWARD {
+        forward_points(coef, a, b, start, n, us, vs);
         return;
     }
     if kind == BARREL {

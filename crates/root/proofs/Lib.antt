@@ -1,4 +1,4 @@
--- The laws of the square root. Other crates cite `RootLaws`.
+-- The laws of the square root. Other crates cite those that are public.
 mod RootCases
 mod RootDigits
 mod RootNear

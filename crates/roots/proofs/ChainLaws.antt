@@ -1,7 +1,7 @@
 -- The chain of the test's differences, put together: where it passes, x is n 2^52 units of v v, with q its nearest root. Assumes nothing.
 use mathlib.Core.Path.{_≡_, refl, sym, ap, _∙_, subst}
 use mathlib.Core.Bool.{true}
-use Prim.Native.Nat.{ℕ, _+_, _-_, _*_, _/_, _^_, _≤_, _<_, zero-le}
+use Prim.Native.Nat.{ℕ, _+_, _-_, _*_, _/_, _^_, _≤_, _<_}
 use native.Mathlib.Nat.{le-refl, le-trans, le-of-lt, lt-of-not-le, mul-le-mul, mul-le-mul-right, mul-one, zero-add, add-assoc}
 use native.Mathlib.Omega.{arith}
 use lib.Dec.{T, lit≤, lit<}

@@ -1,28 +1,22 @@
 -- The differences of the test, back from the last to the first: each came out small, so that it was, and is exact. So x is known to lie near g g.
 -- Assumes nothing.
-use mathlib.Core.Path.{_≡_, refl, sym, ap, _∙_, subst}
-use mathlib.Core.Bool.{Bool, true, false}
-use Prim.Native.Nat.{ℕ, _+_, _-_, _*_, _/_, _%_, _^_, _≤_, _<_, zero-le}
-use native.Mathlib.Nat.{le-refl, le-trans, le-of-eq, lt-of-lt-of-le, lt-of-le-of-lt, lt-of-not-le, mul-le-mul, mul-le-mul-right, le-of-mul-le-mul-right, mul-assoc}
+use mathlib.Core.Path.{_≡_, sym, ap, _∙_, subst}
+use mathlib.Core.Bool.{true, false}
+use Prim.Native.Nat.{ℕ, _+_, _-_, _*_, _^_, _≤_, _<_}
+use native.Mathlib.Nat.{le-trans, le-of-eq, lt-of-le-of-lt, le-of-mul-le-mul-right, mul-assoc}
 use native.Mathlib.Omega.{arith}
-use lib.Dec.{T, lit≤, lit<}
-use lib.IntN.{ℤ}
+use lib.Dec.{T}
 use lib.Pow.{pow-add, pow-pos, shl-lt}
-use lib.Ieee.{Float, nan, inf, fin, binary64, fits, ofBits, toBits, le, lt}
+use lib.Ieee.{Float, nan, inf, fin, binary64, fits, le}
 use lib.Ieee.Exact.{HasValue}
 use lib.Ieee.Scale.{finite}
-use Rattle.exact.specs.Double.{_⊕_, _⊖_, _⊗_}
 use Rattle.exact.proofs.Naturals.{pow-lt-back}
-use Rattle.exact.proofs.Operations.{sub-rounds, mul-rounds}
-use Rattle.exact.proofs.Scale.{le-at, at-sub}
+use Rattle.exact.proofs.Scale.{le-at}
 use Rattle.exact.proofs.Signed.{le-value}
-use Rattle.exact.proofs.Units.{Units, units}
-use Rattle.root.proofs.RootWhole.{Nearest}
-use Rattle.roots.specs.Range.{Candidate}
-use Rattle.roots.proofs.ExactLaws.{Of, of-has, of-has-neg, some-of, exactly, at-least, at-most, was-below, was-above, times-at, sub-finite}
-use Rattle.roots.proofs.PartsLaws.{Exact, small, q, hi, lo, k, w, w-most, kw, q-range, halves, hi-most, lo-most, own, top, power, last, twice, times}
-use Rattle.roots.proofs.SettledLaws.{product, near-root}
-use Rattle.roots.proofs.TestLaws.{part, zero, r, R-small, room, near, inner-finite, inner}
+use Rattle.exact.proofs.Units.{units}
+use Rattle.roots.proofs.ExactLaws.{of-has, of-has-neg}
+use Rattle.roots.proofs.PartsLaws.{Exact, k, w}
+use Rattle.roots.proofs.TestLaws.{r}
 
 -- ---- x is not below the square of the power of two: it has no sign, and its last digit stands for 2 ^ (52 + w) units or more
 pub record Large (x : Float) (w : ℕ) : Type 0 where

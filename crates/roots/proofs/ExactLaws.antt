@@ -1,27 +1,25 @@
 -- Float operations whose results are whole numbers of one unit, a power of two: a difference that is a whole number of 53 digits of them comes out exact, and
 -- one that comes out small was small. Assumes nothing.
 use mathlib.Core.Path.{_≡_, refl, sym, ap, _∙_, subst}
-use mathlib.Core.Logic.{_⊎_, inl, inr}
+use mathlib.Core.Logic.{inl, inr}
 use mathlib.Core.Bool.{Bool, true, false, cond, false≢true}
 use Prim.Native.Nat.{ℕ, _+_, _-_, _*_, _^_, _≤_, _<_}
 use native.Mathlib.Nat.{lt-of-not-le, mul-pos, lt-of-le-of-lt, mul-le-mul-right}
 use native.Mathlib.Omega.{arith}
 use lib.Dec.{T}
 use lib.Pow.{pow-pos}
-use lib.IntN.{ℤ}
-use lib.Ieee.{Float, nan, inf, fin, binary64, low, fits, round, add, sub, neg, lt}
+use lib.Ieee.{Float, nan, inf, fin, binary64, fits, round, add, sub, neg, lt}
 use lib.Ieee.Exact.{HasValue, round-exact}
 use lib.Ieee.Fits.{round-fits}
-use lib.Ieee.Scale.{finite, grid, overflow}
-use Rattle.exact.specs.Fraction.{Fraction, value, _≤F_, _≈_, _-F_, _*F_}
-use Rattle.exact.specs.Rounds.{signed, Rounds}
+use lib.Ieee.Scale.{finite, grid}
+use Rattle.exact.specs.Fraction.{Fraction, value, _*F_}
+use Rattle.exact.specs.Rounds.{Rounds}
 use Rattle.exact.proofs.Magnitude.{at-same, Sized}
 use Rattle.exact.proofs.Monotone.{rounds-fixed, rounds-at-most, rounds-at-least}
 use Rattle.exact.proofs.Naturals.{lt-or-le}
-use Rattle.exact.proofs.Near.{eq-sym, eq-trans}
-use Rattle.exact.proofs.Operations.{sub-rounds, mul-rounds}
+use Rattle.exact.proofs.Near.{eq-sym}
 use Rattle.exact.proofs.Rounding.{round-sized}
-use Rattle.exact.proofs.Scale.{At, at-le, le-at, at-eq, at-more, at-ratio, at-mul, at-sub}
+use Rattle.exact.proofs.Scale.{At, at-le, le-at, at-eq, at-more, at-ratio, at-mul}
 use Rattle.exact.proofs.Signed.{has-value, has-finite}
 
 -- p - n units of 2 ^ -1074
@@ -127,18 +125,6 @@ module _ {r : Float} {X : Fraction} (R : Rounds binary64 r X) {P N : ℕ} (A : A
         turn n p b g = omega arith
 
         flip : (n p b : ℕ) → p + b ≤ 0 + n → p + b ≤ n
-        flip n p b g = omega arith
-
-    pub at-least-neg : N ≤ P + q * 2 ^ j → n ≤ p + q * 2 ^ j
-    at-least-neg h =
-        flip n p (q * 2 ^ j)
-        (le-at (2 ^ 1074) (pow-pos 1074) minus G
-        (rounds-at-least R (bound true q j Q O) (bound-fits true q j Q O) (bound-finite true q j Q O) t (at-le (2 ^ 1074) (pow-pos 1074) minus A (turn N P (q * 2 ^ j) h))))
-      where
-        turn : (n p b : ℕ) → n ≤ p + b → 0 + n ≤ p + b
-        turn n p b g = omega arith
-
-        flip : (n p b : ℕ) → 0 + n ≤ p + b → n ≤ p + b
         flip n p b g = omega arith
 
     -- and what comes out below one was below it

@@ -1,7 +1,7 @@
 -- The parts of the test as whole numbers of units: g, its leading and last digits and its power of two from the pattern, the products from these. All but
 -- the square of the last digits are exact. Assumes nothing.
 use mathlib.Core.Path.{_≡_, refl, sym, ap, _∙_, subst}
-use mathlib.Core.Bool.{Bool, true, false, cond}
+use mathlib.Core.Bool.{Bool, false, cond}
 use Prim.Native.Nat.{ℕ, _+_, _-_, _*_, _/_, _%_, _^_, _≤_, _<_, zero-le}
 use native.Mathlib.Nat.{le-refl, le-trans, lt-of-lt-of-le, lt-of-le-of-lt, zero-add}
 use native.Mathlib.Omega.{arith}
@@ -13,10 +13,10 @@ use lib.Ieee.Bits.{ofBits-fits}
 use lib.Ieee.Exact.{HasValue}
 use lib.Ieee.Scale.{finite}
 use Rattle.exact.specs.Double.{_⊕_, _⊖_, _⊗_}
-use Rattle.exact.specs.Fraction.{value, _*F_}
+use Rattle.exact.specs.Fraction.{value}
 use Rattle.exact.proofs.Operations.{add-rounds, sub-rounds, mul-rounds}
 use Rattle.exact.proofs.PatternDigits.{digitsOf, placeOf, pattern-units}
-use Rattle.exact.proofs.Scale.{At, at-add, at-sub}
+use Rattle.exact.proofs.Scale.{at-add, at-sub}
 use Rattle.exact.proofs.Signed.{has-finite}
 use Rattle.roots.specs.Range.{Candidate}
 use Rattle.roots.proofs.RangeLaws.{own-bits, bits-least, bits-most}

@@ -1,23 +1,19 @@
 -- What is kept lies between the bounds: a number above the lower bound and below the upper one has no sign, and the order of such floats is that of their
 -- patterns. Assumes nothing.
 use mathlib.Core.Path.{_≡_, refl, sym, ap, _∙_, subst}
-use mathlib.Core.Bool.{Bool, true, false, not, _&&_, _||_, Bool·beq, false≢true}
+use mathlib.Core.Bool.{Bool, true, false, not, _||_, false≢true}
 use mathlib.Core.Logic.{_⊎_, inl, inr}
-use Prim.Native.Nat.{ℕ, _*_, _^_, _≤_, _<_, zero-le}
-use native.Mathlib.Nat.{le-trans, le-refl, le-of-lt, lt-of-le-of-lt, lt-of-lt-of-le, lt-irrefl, zero-add, mul-pos}
-use borrow.Author.Tests.{eqb-true}
-use lib.Dec.{T, eqb, leb→le, ltb→lt, lit≤}
+use Prim.Native.Nat.{ℕ, _^_, _≤_, _<_, zero-le}
+use native.Mathlib.Nat.{le-trans, le-refl, le-of-lt, lt-of-le-of-lt, lt-of-lt-of-le, zero-add}
+use lib.Dec.{T, leb→le, lit≤}
 use lib.IntN.{ℤ}
-use lib.Ieee.{Float, nan, inf, fin, binary64, up, down, lt, le, eq, isNan, fits, toBits, ofBits}
+use lib.Ieee.{Float, nan, inf, fin, binary64, lt, le, eq, isNan, fits, toBits, ofBits}
 use lib.Ieee.Bits.{ofBits-toBits}
 use lib.Ieee.Exact.{HasValue}
-use lib.Ieee.Fits.{up-pos, down-pos}
 use lib.Ieee.Positive.{positive, positive-of-value}
 use Rattle.exact.proofs.FloatPatterns.{finite-bits}
-use Rattle.exact.proofs.Formats.{infinite}
 use Rattle.exact.proofs.Patterns.{worth, pattern-value, pattern-back}
 use Rattle.exact.proofs.PatternOrder.{pattern-order, worth-grows}
-use Rattle.exact.proofs.Value.{unique}
 use Rattle.roots.specs.Range.{Between}
 
 -- ---- a number by its pattern

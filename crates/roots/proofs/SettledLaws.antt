@@ -1,13 +1,12 @@
 -- The numbers of the test in whole units: with g = q v and x = n 2^52 v v, the test says that n 2^52 lies within q of q q, and then q is the nearest root and
 -- g the root. Assumes nothing.
-use mathlib.Core.Path.{_≡_, refl, sym, ap, _∙_, subst}
-use mathlib.Core.Logic.{_⊎_, inl, inr}
-use mathlib.Core.Bool.{Bool, true, false, cond}
-use Prim.Native.Nat.{ℕ, zero, suc, _+_, _-_, _*_, _/_, _%_, _^_, _≤_, _<_}
-use native.Mathlib.Nat.{lt-of-not-le, lt-of-lt-of-le, lt-of-le-of-lt, le-trans, le-of-eq, mul-le-mul, mul-le-mul-right, le-of-mul-le-mul-right, mul-le-mul-left, mul-pos, eq-of-mul-eq-mul-right}
+use mathlib.Core.Path.{_≡_, sym, ap, _∙_}
+use mathlib.Core.Logic.{inl, inr}
+use Prim.Native.Nat.{ℕ, _+_, _-_, _*_, _^_, _≤_, _<_}
+use native.Mathlib.Nat.{lt-of-not-le, mul-le-mul-right, mul-le-mul-left, mul-pos, eq-of-mul-eq-mul-right}
 use native.Mathlib.Omega.{arith}
-use lib.Pow.{pow-add, pow-pos, pow-mono}
-use Rattle.exact.proofs.Naturals.{lt-or-le, pow-lt-back}
+use lib.Pow.{pow-add, pow-pos}
+use Rattle.exact.proofs.Naturals.{lt-or-le}
 use Rattle.root.proofs.RootWhole.{Nearest}
 
 -- ---- powers: v is 2 ^ k units of 2 ^ -1074, and v v is 2 ^ w

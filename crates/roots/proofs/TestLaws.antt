@@ -1,32 +1,27 @@
 -- The test: from the last difference back to the first each was small, so that all were exact, and together they say how far x lies from g g. Assumes nothing.
-use mathlib.Core.Path.{_≡_, refl, sym, ap, _∙_, subst}
-use mathlib.Core.Bool.{Bool, true, false}
-use Prim.Native.Nat.{ℕ, _+_, _-_, _*_, _/_, _%_, _^_, _≤_, _<_, zero-le}
-use native.Mathlib.Nat.{le-refl, le-trans, le-of-eq, le-of-lt, lt-of-lt-of-le, lt-of-le-of-lt, zero-add, mul-le-mul, mul-le-mul-right, mul-pos}
+use mathlib.Core.Path.{_≡_, refl, sym, ap, subst}
+use mathlib.Core.Bool.{true, false}
+use Prim.Native.Nat.{ℕ, _+_, _-_, _*_, _^_, _≤_, _<_}
+use native.Mathlib.Nat.{le-trans, le-of-eq, le-of-lt, mul-le-mul-right, mul-pos}
 use native.Mathlib.Omega.{arith}
-use lib.Dec.{T, lit≤, lit<}
-use lib.IntN.{ℤ}
-use lib.Pow.{pow-add, pow-pos, shl-lt}
-use lib.Ieee.{Float, nan, inf, fin, binary64, fits, neg, ofBits, le, lt}
+use lib.Dec.{T, lit≤}
+use lib.Pow.{pow-add, pow-pos}
+use lib.Ieee.{Float, binary64, neg, ofBits, lt}
 use lib.Ieee.Exact.{HasValue}
 use lib.Ieee.Fits.{neg-fits}
 use lib.Ieee.Scale.{finite}
-use Rattle.exact.specs.Double.{_⊕_, _⊖_, _⊗_}
-use Rattle.exact.specs.Fraction.{value, _≤F_, _≈_, _-F_, _*F_}
+use Rattle.exact.specs.Double.{_⊖_, _⊗_}
+use Rattle.exact.specs.Fraction.{value, _≈_, _*F_}
 use Rattle.exact.specs.Rounds.{Rounds}
 use Rattle.exact.proofs.Magnitude.{at-same, abs-sized}
 use Rattle.exact.proofs.Monotone.{rounds-own, rounds-finite, rounds-at-most, rounds-exact, rounds-fits}
-use Rattle.exact.proofs.Naturals.{pow-lt-back}
 use Rattle.exact.proofs.Near.{eq-sym}
 use Rattle.exact.proofs.Operations.{sub-rounds, mul-rounds}
 use Rattle.exact.proofs.Scale.{At, at-le, le-at, lt-at, at-eq, at-more, at-ratio, at-mul, at-neg, at-sub}
-use Rattle.exact.proofs.Signed.{has-value, has-finite, neg-value, neg-finite, lt-value, le-value}
-use Rattle.exact.proofs.Units.{Units, units}
-use Rattle.root.proofs.RootWhole.{Nearest}
+use Rattle.exact.proofs.Signed.{has-value, has-finite, neg-value, neg-finite, lt-value}
 use Rattle.roots.specs.Range.{Candidate}
-use Rattle.roots.proofs.ExactLaws.{Of, of-has, of-has-neg, bound, bound-fits, bound-has, bound-finite, some-of, exactly, at-least, at-most, at-least-neg, was-below, was-above, shift, times-at, sub-finite, between-finite}
-use Rattle.roots.proofs.PartsLaws.{Exact, small, q, hi, lo, k, w, w-most, kw, q-range, halves, hi-most, lo-most, own, last, twice, times}
-use Rattle.roots.proofs.SettledLaws.{product, near-root}
+use Rattle.roots.proofs.ExactLaws.{Of, of-has, bound, bound-fits, bound-has, bound-finite, some-of, between-finite}
+use Rattle.roots.proofs.PartsLaws.{Exact, small, q, k, w, w-most, q-range}
 
 -- ---- the bound: 2 ^ -52 (1 - 2 ^ -20)
 abbrev pub part : Float

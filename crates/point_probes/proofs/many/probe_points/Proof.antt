@@ -1,7 +1,6 @@
 -- `point_probes::many::probe_points` meets its contract: each way out is the case of the definition that its tests took. Assumes nothing.
 use mathlib.Core.Path.{sym, _∙_}
 use Prim.Native.Nat.{_-_}
-use native.Mathlib.Omega.{arith}
 use Rattle.point_probes.specs.Points.{pointsOf, probePoints}
 use Rattle.point_probes.proofs.PointsLaws.{lengths-fit}
 use borrow.Author.Tests.{eq-eqb, ne-eqb}

@@ -4,7 +4,7 @@ use lib.Ieee.{binary64, ofInt}
 use mir.Syntax.{w64}
 use mir.ValLaws.{toZ-ofZ}
 use Rattle.exact.specs.Sums.{asked}
-use Rattle.points.proofs.PointsLaws.{points-by, points-affine, points-perspective}
+use Rattle.points.proofs.PointsLaws.{points-by, points-affine, points-perspective, points-forward}
 use mathlib.Core.Path.{refl, ap, _∙_}
 use borrow.Author.Needs.{needs}
 use Rattle.points.proofs.points.points.Statement.{statement}
@@ -32,10 +32,10 @@ returns-3 : tie.Need-returns-3
 returns-3 c =
     let e = c .before .before .before .before .before .before in
     let a = e .before .before .before .before .before .before in
-    points-by _ _ _ _ (a .args .x) (a .args .y) _ _ _
+    points-forward _ _ _ _ (a .args .x) (a .args .y) _ _ _
     (e .before .offset .ensures ∙ ap (λ (z : ℤ). ofInt binary64 z) (toZ-ofZ w64 (a .args .x) (a .fits .x)))
     (e .asked .ensures ∙ ap (λ (z : ℤ). asked (a .args .j) z) (toZ-ofZ w64 (a .args .y) (a .fits .y)))
-    _ (λ c. refl) (c .barrel-or-other .ensures)
+    (c .before .before .before .if3 .taken) (c .forward-points .ensures)
 
 returns-4 : tie.Need-returns-4
 returns-4 c =
@@ -44,11 +44,20 @@ returns-4 c =
     points-by _ _ _ _ (a .args .x) (a .args .y) _ _ _
     (e .before .offset .ensures ∙ ap (λ (z : ℤ). ofInt binary64 z) (toZ-ofZ w64 (a .args .x) (a .fits .x)))
     (e .asked .ensures ∙ ap (λ (z : ℤ). asked (a .args .j) z) (toZ-ofZ w64 (a .args .y) (a .fits .y)))
-    _ (λ c. refl) (c .barrel-inverse-or-other .ensures)
+    _ (λ c. refl) (c .barrel-or-other .ensures)
 
 returns-5 : tie.Need-returns-5
 returns-5 c =
-    let e = c .before .before .before .before .before .before .before in
+    let e = c .before .before .before .before .before .before .before .before in
+    let a = e .before .before .before .before .before .before in
+    points-by _ _ _ _ (a .args .x) (a .args .y) _ _ _
+    (e .before .offset .ensures ∙ ap (λ (z : ℤ). ofInt binary64 z) (toZ-ofZ w64 (a .args .x) (a .fits .x)))
+    (e .asked .ensures ∙ ap (λ (z : ℤ). asked (a .args .j) z) (toZ-ofZ w64 (a .args .y) (a .fits .y)))
+    _ (λ c. refl) (c .barrel-inverse-or-other .ensures)
+
+returns-6 : tie.Need-returns-6
+returns-6 c =
+    let e = c .before .before .before .before .before .before .before .before in
     let a = e .before .before .before .before .before .before in
     points-by _ _ _ _ (a .args .x) (a .args .y) _ _ _
     (e .before .offset .ensures ∙ ap (λ (z : ℤ). ofInt binary64 z) (toZ-ofZ w64 (a .args .x) (a .fits .x)))
@@ -73,4 +82,6 @@ points-spec =
     (λ c κs. search needs)
     returns-4
     (λ c κs. search needs)
-    returns-5)
+    returns-5
+    (λ c κs. search needs)
+    returns-6)

@@ -1,4 +1,4 @@
-// The sums of the four taps of a cell that lies inside, read straight from the bytes, no policy asked. Assumes that the bytes are such a picture's.
+// The sums of the four taps of a cell that lies inside, read straight from the bytes, no policy asked. Assumes that the bytes are a picture's.
 ghost use mathlib.Core.Path.{_≡_};
 ghost use Prim.Native.Nat.{_+_, _<_};
 ghost use Rattle.pixels.specs.Pixel.{Picture};

@@ -1,5 +1,5 @@
 // Stretches that lie inside a picture: cells, fractions and weights are worked out first, several pixels at a time, so that the loop over the
-// pixels reads, sums and puts, and decides nothing. Assumes that the bytes are a picture's and that the band has room for the stretch.
+// pixels reads, sums and puts, and asks for nothing but the channels. Assumes that the bytes are a picture's and that the band has room for the stretch.
 ghost use mathlib.Core.Path.{_≡_};
 ghost use mathlib.Core.Logic.{_⊎_};
 ghost use mathlib.Core.List.{_++_};

@@ -1,4 +1,4 @@
--- `corners::four::sums` meets its contract: the four pixels' samples, follow each other in two rows. Assumes nothing.
+-- `corners::four::sums` meets its contract: the four pixels' samples follow each other in two rows. Assumes nothing.
 use Prim.Native.Nat.{_+_, _*_, _≤_}
 use native.Mathlib.Omega.{arith}
 use borrow.Author.Needs.{needs}

@@ -32,7 +32,7 @@ fn blended(a: Rgba, b: Rgba, c: Rgba, d: Rgba, tx: f32, ty: f32) -> Rgba
     mean(added(d, tx * ty, added(c, sx * ty, s)))
 }
 
-// The four taps of a cell that lies inside, which no policy is asked for.
+// The four taps of a cell that lies inside, which no policy is asked for. The channels are literals, so that they are asked once and not at each tap.
 fn inside(
     picture: &[u8],
     width: u64,
@@ -54,6 +54,12 @@ fn inside(
     let b = tx * sy;
     let c = sx * ty;
     let d = tx * ty;
+    if channels == 4 {
+        return mean(sums(picture, width, height, 4, i, j, a, b, c, d));
+    }
+    if channels == 3 {
+        return mean(sums(picture, width, height, 3, i, j, a, b, c, d));
+    }
     mean(sums(picture, width, height, channels, i, j, a, b, c, d))
 }
 

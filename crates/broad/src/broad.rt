@@ -17,7 +17,7 @@ ghost use Rattle.broad.specs.Broad as Broad;
 ghost use Rattle.broad.specs.Broad.{fourSums, Covered, Beside};
 use pixels::colour::Rgba;
 use pixels::colour::grey;
-use pixels::pixel::rgba;
+use pixels::pixel::widened;
 use plain::plain::mixed;
 use plain::plain::weigh;
 use plain::plain::wide;
@@ -55,11 +55,15 @@ fn four(
     let k = (j * width + i) * 3;
     let n = k + width * 3;
     let s = grown(
-        rgba(picture, k + 3),
+        widened(picture, 4, k + 3),
         b,
-        grown(rgba(picture, k), a, grey(0.0, 0.0)),
+        grown(widened(picture, 4, k), a, grey(0.0, 0.0)),
     );
-    grown(rgba(picture, n + 3), d, grown(rgba(picture, n), c, s))
+    grown(
+        widened(picture, 4, n + 3),
+        d,
+        grown(widened(picture, 4, n), c, s),
+    )
 }
 
 // The colour of the cell at column i and row j, by its weights and their sum; and the next cell's red by the same.

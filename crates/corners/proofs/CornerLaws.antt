@@ -1,9 +1,8 @@
 -- The four pixels of a cell inside, by the number of the first one's first sample: the last lies inside, and the others before it.
--- Provides: `corner-room`, `corner-small`, `corner-fits`, `width-small` (their samples); `own-pixel`, `next-pixel`, `under-pixel`, `corner-pixel` (the pixels). Assumes nothing.
+-- Provides: `corner-room`, `corner-small`, `corner-fits` (their samples); `own-pixel`, `next-pixel`, `under-pixel`, `corner-pixel` (the pixels). Assumes nothing.
 use mathlib.Core.Path.{_≡_, refl, ap}
 use mathlib.Core.List.{List}
 use Prim.Native.Nat.{ℕ, _+_, _*_, _≤_, _<_}
-use native.Mathlib.Nat.{mul-le-mul}
 use native.Mathlib.Omega.{arith}
 use lib.ListN.{length}
 use Rattle.pixels.specs.Pixel.{Inside, Picture, widened, pixelAt}

@@ -1,2 +1,2 @@
-// The sums over the four taps of a cell that lies inside a picture, for each number of channels.
+// The sums over the four taps of a cell that lies inside a picture of any number of channels.
 pub mod four;

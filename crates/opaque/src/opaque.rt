@@ -15,11 +15,11 @@ use blend::bilinear::anywhere;
 use cell::cell::below;
 use cell::cell::fraction;
 use cell::cell::rounded;
-use corners::four::sums3;
+use corners::four::sums;
 use endian::pattern::bits_of_i64;
 use pixels::at::at;
 use pixels::colour::Rgba;
-use pixels::pixel::rgb;
+use pixels::pixel::widened;
 use weighted::weighted::Sums;
 use weighted::weighted::divided;
 use weighted::weighted::divides;
@@ -57,7 +57,7 @@ pub fn single3(
     let i = bits_of_i64(column);
     let j = bits_of_i64(row);
     if i < width && j < height {
-        return rgb(picture, (j * width + i) * 3);
+        return widened(picture, 3, (j * width + i) * 3);
     }
     at(picture, width, height, 3, policy, background, column, row)
 }
@@ -71,10 +71,11 @@ fn four(picture: &[u8], width: u64, height: u64, i: u64, j: u64, tx: f32, ty: f3
 {
     let sx = 1.0 - tx;
     let sy = 1.0 - ty;
-    sums3(
+    sums(
         picture,
         width,
         height,
+        3,
         i,
         j,
         sx * sy,

@@ -1,6 +1,6 @@
 -- A pixel inside a picture has its samples inside the bytes, since the rows before it, and the pixels before it in its
 -- row, are whole. Products are bounded one factor at a time. Assumes nothing.
-use mathlib.Core.Path.{_≡_, refl, sym}
+use mathlib.Core.Path.{_≡_, refl}
 use mathlib.Core.Bool.{Bool, true, false, cond}
 use mathlib.Core.List.{List}
 use Prim.Native.Nat.{ℕ, suc, _+_, _*_, _≤_, _<_}
@@ -44,15 +44,7 @@ module _ (bytes : List ℕ) (width channels x y : ℕ) (i : Inside bytes width c
   pub sample-small : (y * width + x) * channels ≤ 0x400_0000
   sample-small = mul-le-mul number-small (i .picture .channels-most)
 
--- ---- a pixel of fewer channels than three
-pub widened-lone : (bytes : List ℕ) (channels k : ℕ) → (channels ≡ 4 → ⊥) → (channels ≡ 3 → ⊥) → widened bytes channels k ≡ widened bytes 1 k
-unfolding widened
-widened-lone bytes channels k four three = rw (ne-eqb channels 4 four, ne-eqb channels 3 three)
-
-pub lone-widened : (bytes : List ℕ) (channels k : ℕ) → channels < 3 → widened bytes 1 k ≡ widened bytes channels k
-lone-widened bytes channels k h = sym (widened-lone bytes channels k (λ e. omega arith) (λ e. omega arith))
-
--- without a fourth its alpha is 1
+-- ---- without a fourth sample alpha is 1
 pub widened-opaque : (bytes : List ℕ) (channels k : ℕ) → (channels ≡ 4 → ⊥) → widened bytes channels k .a ≡ one
 unfolding widened
 widened-opaque bytes channels k four = rw (ne-eqb channels 4 four) (either (eqb channels 3))

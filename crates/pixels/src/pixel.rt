@@ -18,53 +18,28 @@ pub fn sample(picture: &[u8], k: u64) -> f32
     f32_plain_at(picture, 4 * k as usize)
 }
 
-// The pixel of three channels whose first sample is numbered k.
-pub fn rgb(picture: &[u8], k: u64) -> Rgba
-    requires { ⌜ ((k + 3) * 4 ≤ length (now picture)) × Limited (now picture) ⌝ }
-    ensures { λ r. ⌜ r ≡ Pixel.widened (now (picture .entry)) 3 k ⌝ }
-{
-    Rgba {
-        r: sample(picture, k),
-        g: sample(picture, k + 1),
-        b: sample(picture, k + 2),
-        a: 1.0,
-    }
-}
-
-// Of four.
-pub fn rgba(picture: &[u8], k: u64) -> Rgba
-    requires { ⌜ ((k + 4) * 4 ≤ length (now picture)) × Limited (now picture) ⌝ }
-    ensures { λ r. ⌜ r ≡ Pixel.widened (now (picture .entry)) 4 k ⌝ }
-{
-    let c = rgb(picture, k);
-    Rgba {
-        r: c.r,
-        g: c.g,
-        b: c.b,
-        a: sample(picture, k + 3),
-    }
-}
-
-// Of one: there may be no second sample to read.
-pub fn lone(picture: &[u8], k: u64) -> Rgba
-    requires { ⌜ ((k + 1) * 4 ≤ length (now picture)) × Limited (now picture) ⌝ }
-    ensures { λ r. ⌜ r ≡ Pixel.widened (now (picture .entry)) 1 k ⌝ }
-{
-    grey(sample(picture, k), 1.0)
-}
-
-// Of as many as there are.
-fn widened(picture: &[u8], channels: u64, k: u64) -> Rgba
+// The pixel whose first sample is numbered k. A picture of one channel has no second sample to read.
+pub fn widened(picture: &[u8], channels: u64, k: u64) -> Rgba
     requires { ⌜ ((0 < channels) × ((k + channels) * 4 ≤ length (now picture))) × Limited (now picture) ⌝ }
     ensures { λ r. ⌜ r ≡ Pixel.widened (now (picture .entry)) channels k ⌝ }
 {
     if channels == 4 {
-        return rgba(picture, k);
+        return Rgba {
+            r: sample(picture, k),
+            g: sample(picture, k + 1),
+            b: sample(picture, k + 2),
+            a: sample(picture, k + 3),
+        };
     }
     if channels == 3 {
-        return rgb(picture, k);
+        return Rgba {
+            r: sample(picture, k),
+            g: sample(picture, k + 1),
+            b: sample(picture, k + 2),
+            a: 1.0,
+        };
     }
-    lone(picture, k)
+    grey(sample(picture, k), 1.0)
 }
 
 pub fn pixel(picture: &[u8], width: u64, channels: u64, x: u64, y: u64) -> Rgba

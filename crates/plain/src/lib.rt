@@ -1,2 +1,2 @@
-// Stretches inside a picture, by `Bilinear` and by one tap: a loop that decides nothing but by the channels.
+// Stretches inside a picture, by `Bilinear` and by one tap: a loop that asks for nothing but the channels.
 pub mod plain;

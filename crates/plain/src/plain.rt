@@ -1,5 +1,5 @@
 // Stretches that lie inside a picture: cells, fractions and weights are worked out first, several pixels at a time, so that the loop over the
-// pixels reads, sums and puts, and decides nothing. Assumes that the bytes are a picture's and that the band has room for the stretch.
+// pixels reads, sums and puts, and asks for nothing but the channels. Assumes that the bytes are a picture's and that the band has room for the stretch.
 ghost use mathlib.Core.Path.{_≡_};
 ghost use mathlib.Core.Logic.{_⊎_};
 ghost use mathlib.Core.List.{_++_};
@@ -11,9 +11,7 @@ ghost use Rattle.put.specs.Band.{pixelBytes};
 ghost use Rattle.put.specs.Joined.{joined};
 ghost use Rattle.plain.specs.Plain as Plain;
 ghost use Rattle.plain.specs.Plain.{Within, Inside, Fractions, Weights, Mixable, blend};
-use corners::four::sums1;
-use corners::four::sums3;
-use corners::four::sums4;
+use corners::four::sums;
 use pixels::colour::Rgba;
 use pixels::pixel::pixel;
 use stored::store::put_number_pixel;
@@ -81,7 +79,7 @@ fn over(s: Sums, t: f32) -> Rgba
     }
 }
 
-// The colour of the cell at column i and row j, by its weights and their sum.
+// The colour of the cell at column i and row j, by its weights and their sum. The channels are literals, so that they are asked once and not at each tap.
 pub fn mixed(
     picture: &[u8],
     width: u64,
@@ -96,16 +94,17 @@ pub fn mixed(
     s: f32,
 ) -> Rgba
     requires { ⌜ Picture (now picture) width height channels ⌝ }
+    requires { ⌜ (channels ≡ 1) ⊎ ((channels ≡ 3) ⊎ (channels ≡ 4)) ⌝ }
     requires { ⌜ (i + 1 < width) × (j + 1 < height) ⌝ }
     ensures { λ r. ⌜ r ≡ Plain.mixed (now (picture .entry)) width channels i j a b c d s ⌝ }
 {
     if channels == 4 {
-        return mean(sums4(picture, width, height, i, j, a, b, c, d));
+        return mean(sums(picture, width, height, 4, i, j, a, b, c, d));
     }
     if channels == 3 {
-        return over(sums3(picture, width, height, i, j, a, b, c, d), s);
+        return over(sums(picture, width, height, 3, i, j, a, b, c, d), s);
     }
-    over(sums1(picture, width, height, channels, i, j, a, b, c, d), s)
+    over(sums(picture, width, height, 1, i, j, a, b, c, d), s)
 }
 
 // The colours of n cells at their weights, put from the band's pixel numbered `place` on.

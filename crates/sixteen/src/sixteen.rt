@@ -19,64 +19,38 @@ use cubic::cubic::catrom;
 use cubic::cubic::spline;
 use endian::pattern::bits_of_i64;
 use pixels::colour::Rgba;
-use pixels::pixel::lone;
-use pixels::pixel::rgb;
-use pixels::pixel::rgba;
+use pixels::pixel::widened;
 use weighted::weighted::Sums;
 use weighted::weighted::added;
 use weighted::weighted::mean;
 use weighted::weighted::nothing;
 
-// The sums with a row of four taps added, whose samples are numbered from k on: of four channels.
-fn line4(picture: &[u8], k: u64, wx: &[f32; 4], v: f32, s: Sums) -> Sums
-    requires { ⌜ ((k + 16) * 4 ≤ length (now picture)) × Limited (now picture) ⌝ }
-    ensures { λ r. ⌜ r ≡ lineSums (now (picture .entry)) 4 k (now (wx .entry)) v s ⌝ }
-{
-    let last = k + 12;
-    let a = added(rgba(picture, k), wx[0] * v, s);
-    let b = added(rgba(picture, k + 4), wx[1] * v, a);
-    let c = added(rgba(picture, k + 8), wx[2] * v, b);
-    added(rgba(picture, last), wx[3] * v, c)
-}
-
-// Of three.
-fn line3(picture: &[u8], k: u64, wx: &[f32; 4], v: f32, s: Sums) -> Sums
-    requires { ⌜ ((k + 12) * 4 ≤ length (now picture)) × Limited (now picture) ⌝ }
-    ensures { λ r. ⌜ r ≡ lineSums (now (picture .entry)) 3 k (now (wx .entry)) v s ⌝ }
-{
-    let last = k + 9;
-    let a = added(rgb(picture, k), wx[0] * v, s);
-    let b = added(rgb(picture, k + 3), wx[1] * v, a);
-    let c = added(rgb(picture, k + 6), wx[2] * v, b);
-    added(rgb(picture, last), wx[3] * v, c)
-}
-
-// Of fewer: the colour is one sample three times.
-fn line1(picture: &[u8], channels: u64, k: u64, wx: &[f32; 4], v: f32, s: Sums) -> Sums
-    requires { ⌜ (0 < channels) × (channels < 3) ⌝ }
-    requires { ⌜ ((k + 4 * channels) * 4 ≤ length (now picture)) × Limited (now picture) ⌝ }
-    ensures { λ r. ⌜ r ≡ lineSums (now (picture .entry)) channels k (now (wx .entry)) v s ⌝ }
-{
-    let last = k + 3 * channels;
-    let a = added(lone(picture, k), wx[0] * v, s);
-    let b = added(lone(picture, k + channels), wx[1] * v, a);
-    let c = added(lone(picture, k + 2 * channels), wx[2] * v, b);
-    added(lone(picture, last), wx[3] * v, c)
-}
-
-// Of as many as there are.
+// The sums with a row of four taps added, whose samples are numbered from k on.
 fn line(picture: &[u8], channels: u64, k: u64, wx: &[f32; 4], v: f32, s: Sums) -> Sums
     requires { ⌜ (0 < channels) × (channels ≤ 4) ⌝ }
     requires { ⌜ ((k + 4 * channels) * 4 ≤ length (now picture)) × Limited (now picture) ⌝ }
     ensures { λ r. ⌜ r ≡ lineSums (now (picture .entry)) channels k (now (wx .entry)) v s ⌝ }
 {
+    let last = k + 3 * channels;
+    let a = added(widened(picture, channels, k), wx[0] * v, s);
+    let b = added(widened(picture, channels, k + channels), wx[1] * v, a);
+    let c = added(widened(picture, channels, k + 2 * channels), wx[2] * v, b);
+    added(widened(picture, channels, last), wx[3] * v, c)
+}
+
+// The same with the number of channels as a literal, so that it is asked once and not at each tap.
+fn line_of(picture: &[u8], channels: u64, k: u64, wx: &[f32; 4], v: f32, s: Sums) -> Sums
+    requires { ⌜ (0 < channels) × (channels ≤ 4) ⌝ }
+    requires { ⌜ ((k + 4 * channels) * 4 ≤ length (now picture)) × Limited (now picture) ⌝ }
+    ensures { λ r. ⌜ r ≡ lineSums (now (picture .entry)) channels k (now (wx .entry)) v s ⌝ }
+{
     if channels == 4 {
-        return line4(picture, k, wx, v, s);
+        return line(picture, 4, k, wx, v, s);
     }
     if channels == 3 {
-        return line3(picture, k, wx, v, s);
+        return line(picture, 3, k, wx, v, s);
     }
-    line1(picture, channels, k, wx, v, s)
+    line(picture, channels, k, wx, v, s)
 }
 
 // The weighted mean of the sixteen taps from column i, row j on.
@@ -97,7 +71,7 @@ pub fn square(
 {
     let mut s = nothing();
     for m in 0..4 {
-        s = line(
+        s = line_of(
             picture,
             channels,
             ((j + m as u64) * width + i) * channels,

@@ -29,27 +29,27 @@ mul-n c = let q = c .before in omega (arith, room q, small q)
 add-n : tie.Need-add-n
 add-n c = let q = c .before in omega (arith, room q, small q)
 
-add-rgba : tie.Need-add-rgba
-add-rgba c = let q = c .before in omega (arith, room q, small q)
+add-widened : tie.Need-add-widened
+add-widened c = let q = c .before in omega (arith, room q, small q)
 
-rgba-requires : tie.Need-rgba-requires
-rgba-requires c κs = let q = c .before in (omega (arith, room q), q .pre .0 .limited)
+widened-requires : tie.Need-widened-requires
+widened-requires c κs = let q = c .before in (omega (arith, room q), q .pre .0 .limited)
 
-rgba-requires-2 : tie.Need-rgba-requires-2
-rgba-requires-2 c κs = let q = c .before .before in (omega (arith, room q), q .pre .0 .limited)
+widened-requires-2 : tie.Need-widened-requires-2
+widened-requires-2 c κs = let q = c .before .before in (omega (arith, room q), q .pre .0 .limited)
 
-add-rgba-2 : tie.Need-add-rgba-2
-add-rgba-2 c = let q = c .before .before .before .before .before .before in omega (arith, room q, small q)
+add-widened-2 : tie.Need-add-widened-2
+add-widened-2 c = let q = c .before .before .before .before .before .before in omega (arith, room q, small q)
 
-rgba-requires-3 : tie.Need-rgba-requires-3
-rgba-requires-3 c κs = let q = c .before .before .before .before .before .before in (omega (arith, room q), q .pre .0 .limited)
+widened-requires-3 : tie.Need-widened-requires-3
+widened-requires-3 c κs = let q = c .before .before .before .before .before .before in (omega (arith, room q), q .pre .0 .limited)
 
-rgba-requires-4 : tie.Need-rgba-requires-4
-rgba-requires-4 c κs = let q = c .before .before .before .before .before .before .before in (omega (arith, room q), q .pre .0 .limited)
+widened-requires-4 : tie.Need-widened-requires-4
+widened-requires-4 c κs = let q = c .before .before .before .before .before .before .before in (omega (arith, room q), q .pre .0 .limited)
 
 returns : tie.Need-returns
 returns c =
-    rw (c .grown4 .ensures, c .before .grown3 .ensures, c .before .before .before .before .grown2 .ensures, c .before .before .before .before .before .grown .ensures, c .before .before .before .before .before .before .grey .ensures, c .before .before .rgba4 .ensures, c .before .before .before .rgba3 .ensures, c .before .before .before .before .before .before .before .rgba2 .ensures, c .before .before .before .before .before .before .before .before .rgba .ensures)
+    rw (c .grown4 .ensures, c .before .grown3 .ensures, c .before .before .before .before .grown2 .ensures, c .before .before .before .before .before .grown .ensures, c .before .before .before .before .before .before .grey .ensures, c .before .before .widened4 .ensures, c .before .before .before .widened3 .ensures, c .before .before .before .before .before .before .before .widened2 .ensures, c .before .before .before .before .before .before .before .before .widened .ensures)
 
 pub four-spec : {M : Type 1} → statement M
 four-spec =
@@ -60,15 +60,15 @@ four-spec =
     mul-k-2
     mul-n
     add-n
-    add-rgba
-    rgba-requires
-    rgba-requires-2
+    add-widened
+    widened-requires
+    widened-requires-2
     (λ c κs. search needs)
     (λ c κs. search needs)
     (λ c κs. search needs)
-    add-rgba-2
-    rgba-requires-3
-    rgba-requires-4
+    add-widened-2
+    widened-requires-3
+    widened-requires-4
     (λ c κs. search needs)
     (λ c κs. search needs)
     returns)

@@ -12,8 +12,8 @@ use Rattle.corners.specs.Square.{squareSums}
 use Rattle.opaque.proofs.opaque.four.Statement.{statement}
 use Rattle.opaque.proofs.opaque.four.Tie as tie
 
-sums3-requires : tie.Need-sums3-requires
-sums3-requires c κs = search needs
+sums-requires : tie.Need-sums-requires
+sums-requires c κs = search needs
 
 returns : tie.Need-returns
 unfolding weighted squareSums
@@ -22,8 +22,8 @@ returns c =
     let b = now (q .args .picture) in
     let w = q .args .width in
     ap mean
-    (c .sums3 .ensures
+    (c .sums .ensures
     ∙ sym (summed-four (pixelAt b w 3 (q .args .i) (q .args .j) ∷ pixelAt b w 3 (q .args .i + 1) (q .args .j) ∷ pixelAt b w 3 (q .args .i) (q .args .j + 1) ∷ pixelAt b w 3 (q .args .i + 1) (q .args .j + 1) ∷ []) (corners (q .args .tx) (q .args .ty))))
 
 pub four-spec : {M : Type 1} → statement M
-four-spec = tie.close (tie.spec sums3-requires returns)
+four-spec = tie.close (tie.spec sums-requires returns)

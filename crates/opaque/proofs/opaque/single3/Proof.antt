@@ -25,17 +25,17 @@ bits-of-i64-requires c κs = search needs
 bits-of-i64-requires-2 : tie.Need-bits-of-i64-requires-2
 bits-of-i64-requires-2 c κs = search needs
 
-mul-rgb : tie.Need-mul-rgb
-mul-rgb c = let q = c .before .before .before .before .before .before .before in omega (arith, small3 _ _ _ _ _ (q .pre .0) (c .before .if1 .taken) (ltb-true (c .before .before .bits-of-i642 .result) (q .args .height) (c .if2 .taken)))
+mul-widened : tie.Need-mul-widened
+mul-widened c = let q = c .before .before .before .before .before .before .before in omega (arith, small3 _ _ _ _ _ (q .pre .0) (c .before .if1 .taken) (ltb-true (c .before .before .bits-of-i642 .result) (q .args .height) (c .if2 .taken)))
 
-add-rgb : tie.Need-add-rgb
-add-rgb c = let q = c .before .before .before .before .before .before .before in omega (arith, small3 _ _ _ _ _ (q .pre .0) (c .before .if1 .taken) (ltb-true (c .before .before .bits-of-i642 .result) (q .args .height) (c .if2 .taken)))
+add-widened : tie.Need-add-widened
+add-widened c = let q = c .before .before .before .before .before .before .before in omega (arith, small3 _ _ _ _ _ (q .pre .0) (c .before .if1 .taken) (ltb-true (c .before .before .bits-of-i642 .result) (q .args .height) (c .if2 .taken)))
 
-mul-rgb-2 : tie.Need-mul-rgb-2
-mul-rgb-2 c = let q = c .before .before .before .before .before .before .before in omega (arith, small3 _ _ _ _ _ (q .pre .0) (c .before .if1 .taken) (ltb-true (c .before .before .bits-of-i642 .result) (q .args .height) (c .if2 .taken)))
+mul-widened-2 : tie.Need-mul-widened-2
+mul-widened-2 c = let q = c .before .before .before .before .before .before .before in omega (arith, small3 _ _ _ _ _ (q .pre .0) (c .before .if1 .taken) (ltb-true (c .before .before .bits-of-i642 .result) (q .args .height) (c .if2 .taken)))
 
-rgb-requires : tie.Need-rgb-requires
-rgb-requires c κs = let q = c .before .before .before .before .before .before .before in (room3 _ _ _ _ _ (q .pre .0) (c .before .if1 .taken) (ltb-true _ _ (c .if2 .taken)), q .pre .0 .limited)
+widened-requires : tie.Need-widened-requires
+widened-requires c κs = let q = c .before .before .before .before .before .before .before in ((search needs, room3 _ _ _ _ _ (q .pre .0) (c .before .if1 .taken) (ltb-true _ _ (c .if2 .taken))), q .pre .0 .limited)
 
 returns : tie.Need-returns
 returns c =
@@ -47,7 +47,7 @@ returns c =
     single-inside _ _ _ 3 (a .args .policy) (a .args .background) _ _ (a .args .code) (a .pre .1 .1) _ _ hx hy
     (sym (bits-inside (argument {v = p .result} (record { sfits = p .ok }) (c .before .before .before .before .bits-of-i64 .ensures)) hx (a .pre .0 .sizes .width-most)) ∙ p .ensures)
     (sym (bits-inside (argument {v = q .result} (record { sfits = q .ok }) (c .before .before .before .bits-of-i642 .ensures)) hy (a .pre .0 .sizes .height-most)) ∙ q .ensures)
-    (unfold pixelAt in c .rgb .ensures)
+    (unfold pixelAt in c .widened .ensures)
 
 at-requires : tie.Need-at-requires
 at-requires c κs = search needs
@@ -67,10 +67,10 @@ single3-spec =
     place-requires-2
     bits-of-i64-requires
     bits-of-i64-requires-2
-    mul-rgb
-    add-rgb
-    mul-rgb-2
-    rgb-requires
+    mul-widened
+    add-widened
+    mul-widened-2
+    widened-requires
     returns
     at-requires
     returns-2)

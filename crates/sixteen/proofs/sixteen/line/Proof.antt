@@ -1,16 +1,37 @@
--- `sixteen::sixteen::line` meets its contract: by the test of the channels. Assumes nothing.
+-- `sixteen::sixteen::line` meets its contract: four pixels that follow each other. Assumes nothing.
+use native.Mathlib.Omega.{arith}
 use borrow.Author.Needs.{needs}
+use Rattle.sixteen.specs.Sixteen.{lineSums}
 use Rattle.sixteen.proofs.sixteen.line.Statement.{statement}
 use Rattle.sixteen.proofs.sixteen.line.Tie as tie
 
+widened-requires-4 : tie.Need-widened-requires-4
+widened-requires-4 c κs = let q = c .before .before .before .before .before .before .before .before .before .before in ((q .pre .0 .0, omega (arith, q .pre .0 .0, q .pre .1 .0)), q .pre .1 .1)
+
 returns : tie.Need-returns
-returns c = rw (c .before .if1 .taken) (c .line4 .ensures)
-
-returns-2 : tie.Need-returns-2
-returns-2 c = rw (c .before .if2 .taken) (c .line3 .ensures)
-
-returns-3 : tie.Need-returns-3
-returns-3 c = c .line1 .ensures
+unfolding lineSums
+returns c =
+    rw (c .added4 .ensures, c .before .before .before .added3 .ensures, c .before .before .before .before .before .before .added2 .ensures, c .before .before .before .before .before .before .before .before .before .added .ensures, c .before .before .widened4 .ensures, c .before .before .before .before .before .widened3 .ensures, c .before .before .before .before .before .before .before .before .widened2 .ensures, c .before .before .before .before .before .before .before .before .before .before .before .widened .ensures)
 
 pub line-spec : {M : Type 1} → statement M
-line-spec = tie.close (tie.spec (λ c κs. search needs) returns (λ c κs. search needs) returns-2 (λ c κs. search needs) returns-3)
+line-spec =
+    tie.close
+    (tie.spec
+    (λ c. search needs)
+    (λ c. search needs)
+    (λ c κs. search needs)
+    (λ c. search needs)
+    (λ c κs. search needs)
+    (λ c. search needs)
+    (λ c κs. search needs)
+    (λ c. search needs)
+    (λ c κs. search needs)
+    (λ c. search needs)
+    (λ c. search needs)
+    (λ c κs. search needs)
+    (λ c. search needs)
+    (λ c κs. search needs)
+    widened-requires-4
+    (λ c. search needs)
+    (λ c κs. search needs)
+    returns)

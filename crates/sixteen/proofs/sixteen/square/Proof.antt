@@ -25,26 +25,26 @@ nothing-requires c κs = search needs
 loop-holds : tie.Need-loop-holds Inv-loop μ-loop
 loop-holds c = let a = c .before .before in (c .nothing .ensures ∙ none-lined (own (a .args .picture .now) (a .args .width) (a .args .channels)) _ 4 (products (a .args .wx .now) (a .args .wy .now)), search needs)
 
-add-line : tie.Need-add-line Inv-loop μ-loop
-add-line c = let a = c .before .before .before .before in omega (arith, row-small _ _ (c .before .loop .m) (a .pre .0) (a .pre .1 .0) (a .pre .1 .1) (c .loop-test .taken), a .pre .0 .sizes .height-most, a .pre .1 .1, c .loop-test .taken)
+add-line-of : tie.Need-add-line-of Inv-loop μ-loop
+add-line-of c = let a = c .before .before .before .before in omega (arith, row-small _ _ (c .before .loop .m) (a .pre .0) (a .pre .1 .0) (a .pre .1 .1) (c .loop-test .taken), a .pre .0 .sizes .height-most, a .pre .1 .1, c .loop-test .taken)
 
-mul-line : tie.Need-mul-line Inv-loop μ-loop
-mul-line c = let a = c .before .before .before .before in omega (arith, row-small _ _ (c .before .loop .m) (a .pre .0) (a .pre .1 .0) (a .pre .1 .1) (c .loop-test .taken), a .pre .0 .sizes .height-most, a .pre .1 .1, c .loop-test .taken)
+mul-line-of : tie.Need-mul-line-of Inv-loop μ-loop
+mul-line-of c = let a = c .before .before .before .before in omega (arith, row-small _ _ (c .before .loop .m) (a .pre .0) (a .pre .1 .0) (a .pre .1 .1) (c .loop-test .taken), a .pre .0 .sizes .height-most, a .pre .1 .1, c .loop-test .taken)
 
-add-line-2 : tie.Need-add-line-2 Inv-loop μ-loop
-add-line-2 c = let a = c .before .before .before .before in omega (arith, row-small _ _ (c .before .loop .m) (a .pre .0) (a .pre .1 .0) (a .pre .1 .1) (c .loop-test .taken), a .pre .0 .sizes .height-most, a .pre .1 .1, c .loop-test .taken)
+add-line-of-2 : tie.Need-add-line-of-2 Inv-loop μ-loop
+add-line-of-2 c = let a = c .before .before .before .before in omega (arith, row-small _ _ (c .before .loop .m) (a .pre .0) (a .pre .1 .0) (a .pre .1 .1) (c .loop-test .taken), a .pre .0 .sizes .height-most, a .pre .1 .1, c .loop-test .taken)
 
-mul-line-2 : tie.Need-mul-line-2 Inv-loop μ-loop
-mul-line-2 c = let a = c .before .before .before .before in omega (arith, row-fits _ _ (c .before .loop .m) (a .pre .0) (a .pre .1 .0) (a .pre .1 .1) (c .loop-test .taken), a .pre .0 .sizes .height-most, a .pre .1 .1, c .loop-test .taken)
+mul-line-of-2 : tie.Need-mul-line-of-2 Inv-loop μ-loop
+mul-line-of-2 c = let a = c .before .before .before .before in omega (arith, row-fits _ _ (c .before .loop .m) (a .pre .0) (a .pre .1 .0) (a .pre .1 .1) (c .loop-test .taken), a .pre .0 .sizes .height-most, a .pre .1 .1, c .loop-test .taken)
 
-mul-line-3 : tie.Need-mul-line-3 Inv-loop μ-loop
-mul-line-3 c = let a = c .before .before .before .before in omega (arith, row-fits _ _ (c .before .loop .m) (a .pre .0) (a .pre .1 .0) (a .pre .1 .1) (c .loop-test .taken), a .pre .0 .sizes .height-most, a .pre .1 .1, c .loop-test .taken)
+mul-line-of-3 : tie.Need-mul-line-of-3 Inv-loop μ-loop
+mul-line-of-3 c = let a = c .before .before .before .before in omega (arith, row-fits _ _ (c .before .loop .m) (a .pre .0) (a .pre .1 .0) (a .pre .1 .1) (c .loop-test .taken), a .pre .0 .sizes .height-most, a .pre .1 .1, c .loop-test .taken)
 
-element-copy-out-line : tie.Need-element-copy-out-line Inv-loop μ-loop
-element-copy-out-line c = search needs
+element-copy-out-line-of : tie.Need-element-copy-out-line-of Inv-loop μ-loop
+element-copy-out-line-of c = search needs
 
-line-requires : tie.Need-line-requires Inv-loop μ-loop
-line-requires c κs = let a = c .before .before .before .before .before in ((a .pre .0 .channels-least, a .pre .0 .channels-most), (row-room _ _ (c .before .before .loop .m) (a .pre .0) (a .pre .1 .0) (a .pre .1 .1) (c .before .loop-test .taken), a .pre .0 .limited))
+line-of-requires : tie.Need-line-of-requires Inv-loop μ-loop
+line-of-requires c κs = let a = c .before .before .before .before .before in ((a .pre .0 .channels-least, a .pre .0 .channels-most), (row-room _ _ (c .before .before .loop .m) (a .pre .0) (a .pre .1 .0) (a .pre .1 .1) (c .before .loop-test .taken), a .pre .0 .limited))
 
 add-m : tie.Need-add-m Inv-loop μ-loop
 add-m c = search needs
@@ -56,8 +56,8 @@ loop-again : tie.Need-loop-again Inv-loop μ-loop
 loop-again c =
     let a = c .before .before .before .before .before .before in
     let l = c .before .before .before .loop in (
-      lined-next (own (a .args .picture .now) (a .args .width) (a .args .channels)) _ 4 (products (a .args .wx .now) (a .args .wy .now)) (l .m) (l .s) (c .line .result) (l .inv .0)
-          (line-lined (a .args .picture .now) (a .args .width) (a .args .channels) (a .args .i) (a .args .j) (a .args .wx .now) (a .args .wy .now) (l .m) (c .before .before .loop-test .taken) _ _ (l .s) (c .line .result) refl refl (c .line .ensures)),
+      lined-next (own (a .args .picture .now) (a .args .width) (a .args .channels)) _ 4 (products (a .args .wx .now) (a .args .wy .now)) (l .m) (l .s) (c .line-of .result) (l .inv .0)
+          (line-lined (a .args .picture .now) (a .args .width) (a .args .channels) (a .args .i) (a .args .j) (a .args .wx .now) (a .args .wy .now) (l .m) (c .before .before .loop-test .taken) _ _ (l .s) (c .line-of .result) refl refl (c .line-of .ensures)),
       search needs,
     )
 
@@ -78,13 +78,13 @@ square-spec =
     μ-loop
     nothing-requires
     loop-holds
-    add-line
-    mul-line
-    add-line-2
-    mul-line-2
-    mul-line-3
-    element-copy-out-line
-    line-requires
+    add-line-of
+    mul-line-of
+    add-line-of-2
+    mul-line-of-2
+    mul-line-of-3
+    element-copy-out-line-of
+    line-of-requires
     add-m
     loop-less
     loop-again

@@ -48,7 +48,7 @@ pub struct Effort {
 pub struct Times {
     pub whole: f64,
     pub banded: f64,
-    /// As many tests of all samples as there are bands.
+    /// As many tests of all samples as there are bands, in turns with them.
     pub tests: f64,
     pub reference: f64,
     pub rounds: u32,
@@ -136,8 +136,10 @@ pub fn row(r: Reference, row: &Row, source: &mut Source, effort: Effort) -> Time
     let start = Instant::now();
     while rounds < effort.least || start.elapsed().as_secs_f64() < effort.seconds {
         whole = whole.min(time(|| own(&job, &mut source.whole)));
-        banded = banded.min(time(|| in_bands(job, &mut source.bands)));
-        tests = tests.min(time(|| in_no_rows(job, row.shape.height.div_ceil(BAND))));
+        let (bands, alone) = in_bands(job, &mut source.bands);
+        if bands < banded {
+            (banded, tests) = (bands, alone);
+        }
         drop(output);
         let original = || black_box(&prepared).distort().expect("the job is fit");
         let (nanoseconds, made) = timed(original);
@@ -165,21 +167,19 @@ pub fn own(job: &Job, band: &mut [u8]) {
     black_box(band);
 }
 
-fn in_bands(mut job: Job, picture: &mut [u8]) {
+/// Nanoseconds of all bands, and of as many tests of all samples alone, which are calls for no rows. They take turns, so that a machine that
+/// grows slower does so for both.
+fn in_bands(mut job: Job, picture: &mut [u8]) -> (f64, f64) {
     let row = (job.view_width * job.channels * 4) as usize;
+    let (mut bands, mut tests) = (0.0, 0.0);
     for (k, band) in picture.chunks_mut(row * BAND as usize).enumerate() {
         job.first_row = k as u64 * BAND;
         job.rows = (band.len() / row) as u64;
-        own(&job, band);
+        bands += time(|| own(&job, band));
+        job.rows = 0;
+        tests += time(|| own(&job, &mut []));
     }
-}
-
-/// The test of all samples alone, as often as is said: calls for no rows.
-fn in_no_rows(mut job: Job, calls: u64) {
-    job.rows = 0;
-    for _ in 0..calls {
-        own(&job, &mut []);
-    }
+    (bands, tests)
 }
 
 fn timed<T>(round: impl FnOnce() -> T) -> (f64, T) {

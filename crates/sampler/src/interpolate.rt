@@ -7,6 +7,7 @@ ghost use Rattle.cell.specs.Cell.{Reached, cell};
 ghost use Rattle.blend.specs.Interpolate as Interpolate;
 ghost use Rattle.cell.specs.Interpolation.{interpolation};
 ghost use Rattle.pixels.specs.Pixel.{Picture};
+use crate::apart::apart;
 use blend::bilinear::bilinear;
 use blend::square::several;
 use cell::cell::first;
@@ -70,7 +71,7 @@ pub fn interpolate(
             x,
             y,
         ),
-        6 | 7 => cubic(
+        6 | 7 => apart(cubic(
             picture,
             width,
             height,
@@ -80,8 +81,8 @@ pub fn interpolate(
             background,
             x,
             y,
-        ),
-        2 | 3 | 4 => several(
+        )),
+        2 | 3 | 4 => apart(several(
             picture,
             width,
             height,
@@ -91,8 +92,8 @@ pub fn interpolate(
             background,
             x,
             y,
-        ),
-        5 => bilinear(picture, width, height, channels, policy, background, x, y),
+        )),
+        5 => apart(bilinear(picture, width, height, channels, policy, background, x, y)),
         _ => background,
     }
 }

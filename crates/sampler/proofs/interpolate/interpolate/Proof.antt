@@ -33,7 +33,7 @@ cubic-requires c κs = (search needs, (search needs, (six _ (c .before .if2 .lef
 
 returns : tie.Need-returns
 unfolding interpolate interpolation
-returns c = c .bilinear .ensures ∙ rw (c .before .match .keys1)
+returns c = c .apart .ensures ∙ c .before .bilinear .ensures ∙ rw (c .before .before .match .keys1)
 
 returns-2 : tie.Need-returns-2
 unfolding interpolate
@@ -41,10 +41,10 @@ returns-2 c = c .single .ensures ∙ sym (single-code _ _ _ _ _ (c .before .if1 
 
 returns-3 : tie.Need-returns-3
 unfolding interpolate
-returns-3 c = c .several .ensures ∙ sym (several-code _ _ _ _ _ (c .before .before .if1 .left) (below _ (c .before .if2 .taken)))
+returns-3 c = c .apart2 .ensures ∙ c .before .several .ensures ∙ sym (several-code _ _ _ _ _ (c .before .before .before .if1 .left) (below _ (c .before .before .if2 .taken)))
 
 returns-4 : tie.Need-returns-4
-returns-4 c = c .cubic .ensures
+returns-4 c = c .apart3 .ensures ∙ c .before .cubic .ensures
 
 returns-5 : tie.Need-returns-5
 unfolding interpolate
@@ -55,9 +55,12 @@ interpolate-spec =
     tie.close
     (tie.spec
     bilinear-requires
+    (λ c κs. search needs)
     single-requires
     several-requires
+    (λ c κs. search needs)
     cubic-requires
+    (λ c κs. search needs)
     returns
     returns-2
     returns-3

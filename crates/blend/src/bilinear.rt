@@ -8,13 +8,15 @@ ghost use Rattle.pixels.specs.At.{at};
 ghost use Rattle.cell.specs.Cell.{Reached};
 ghost use Rattle.blend.specs.Interpolate as Interpolate;
 ghost use Rattle.cell.specs.Interpolation.{Bilinear};
-ghost use Rattle.pixels.specs.Pixel.{Picture, pixelAt};
+ghost use Rattle.corners.specs.Square.{blend};
+ghost use Rattle.exact.specs.Weighted.{Unit32};
+ghost use Rattle.pixels.specs.Pixel.{Picture};
 ghost use Rattle.taps.specs.Taps.{taps};
 ghost use Rattle.weighted.specs.Weighted.{weighted};
 ghost use Rattle.taps.specs.Weights.{corners, weights};
 use cell::cell::below;
 use cell::cell::fraction;
-use corners::four::sums;
+use corners::four::mixed;
 use endian::pattern::bits_of_i64;
 use pixels::colour::Rgba;
 use taps::taps::tap;
@@ -32,7 +34,7 @@ fn blended(a: Rgba, b: Rgba, c: Rgba, d: Rgba, tx: f32, ty: f32) -> Rgba
     mean(added(d, tx * ty, added(c, sx * ty, s)))
 }
 
-// The four taps of a cell that lies inside, which no policy is asked for. The channels are literals, so that they are asked once and not at each tap.
+// The four taps of a cell that lies inside, which no policy is asked for.
 fn inside(
     picture: &[u8],
     width: u64,
@@ -45,8 +47,8 @@ fn inside(
 ) -> Rgba
     requires { ⌜ Picture (now picture) width height channels ⌝ }
     requires { ⌜ (i + 1 < width) × (j + 1 < height) ⌝ }
-    ensures { λ r.
-        ⌜ r ≡ weighted (pixelAt (now (picture .entry)) width channels i j ∷ pixelAt (now (picture .entry)) width channels (i + 1) j ∷ pixelAt (now (picture .entry)) width channels i (j + 1) ∷ pixelAt (now (picture .entry)) width channels (i + 1) (j + 1) ∷ []) (corners tx ty) 4 ⌝ }
+    requires { ⌜ Unit32 tx × Unit32 ty ⌝ }
+    ensures { λ r. ⌜ r ≡ blend (now (picture .entry)) width channels i j tx ty ⌝ }
 {
     let sx = 1.0 - tx;
     let sy = 1.0 - ty;
@@ -54,13 +56,19 @@ fn inside(
     let b = tx * sy;
     let c = sx * ty;
     let d = tx * ty;
-    if channels == 4 {
-        return mean(sums(picture, width, height, 4, i, j, a, b, c, d));
-    }
-    if channels == 3 {
-        return mean(sums(picture, width, height, 3, i, j, a, b, c, d));
-    }
-    mean(sums(picture, width, height, channels, i, j, a, b, c, d))
+    mixed(
+        picture,
+        width,
+        height,
+        channels,
+        i,
+        j,
+        a,
+        b,
+        c,
+        d,
+        0.0 + a + b + c + d,
+    )
 }
 
 // Those of any cell.
@@ -150,6 +158,7 @@ fn around(
 ) -> Rgba
     requires { ⌜ Picture (now picture) width height channels ⌝ }
     requires { ⌜ (mag column ≤ 2147483649) × (mag row ≤ 2147483649) ⌝ }
+    requires { ⌜ Unit32 tx × Unit32 ty ⌝ }
     ensures { λ r.
         ⌜ r ≡ weighted (taps (at (now (picture .entry)) width height channels policy background) (record { column = column; row = row }) 2) (weights Bilinear tx ty) 4 ⌝ }
 {

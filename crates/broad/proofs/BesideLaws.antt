@@ -9,9 +9,10 @@ use Rattle.exact.specs.Weighted.{Unit32}
 use Rattle.matrix.specs.Matrix.{at}
 use Rattle.pixels.specs.Pixel.{Picture}
 use Rattle.stored.specs.Store.{Numbers}
-use Rattle.plain.specs.Plain.{Inside, Fractions, Weighed, Weights, mixed}
+use Rattle.plain.specs.Plain.{Inside, Fractions, Weights}
 use Rattle.plain.proofs.NumberLaws.{blend-numbers}
-use Rattle.plain.proofs.PlainLaws.{mixed-blend}
+use Rattle.corners.specs.Square.{Weighed, mixed}
+use Rattle.corners.proofs.MixedLaws.{mixed-blend}
 use Rattle.broad.specs.Broad.{broad, Beside}
 
 module _ {bytes : List ℕ} {w h : ℕ} (P : Picture bytes w h 3) where

@@ -10,8 +10,7 @@ use Rattle.pixels.specs.Colour.{zero, one}
 use Rattle.pixels.specs.Pixel.{widened, pixelAt}
 use Rattle.pixels.specs.declared.colour.Rgba.{Rgba}
 use Rattle.weighted.specs.Weighted.{added}
-use Rattle.corners.specs.Square.{squareSums}
-use Rattle.plain.specs.Plain.{mixed}
+use Rattle.corners.specs.Square.{squareSums, mixed}
 use Rattle.broad.specs.Broad.{fourSums, broad}
 
 -- the quotients

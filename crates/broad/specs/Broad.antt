@@ -10,7 +10,7 @@ use Rattle.pixels.specs.Colour.{zero, one, grey}
 use Rattle.pixels.specs.Pixel.{widened}
 use Rattle.pixels.specs.declared.colour.Rgba.{Rgba}
 use Rattle.stored.specs.Store.{putSample, Numbers}
-use Rattle.plain.specs.Plain.{mixed}
+use Rattle.corners.specs.Square.{mixed}
 
 -- `added` of opaque taps, sample by sample
 abbrev pub grown : Rgba → Float → Rgba → Rgba

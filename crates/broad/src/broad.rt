@@ -11,14 +11,14 @@ ghost use Rattle.matrix.specs.Matrix as Vectors;
 ghost use Rattle.pixels.specs.Pixel.{Picture};
 ghost use Rattle.put.specs.Band.{pixelBytes};
 ghost use Rattle.put.specs.Joined.{joined};
-ghost use Rattle.plain.specs.Plain as Plain;
-ghost use Rattle.plain.specs.Plain.{Inside, Fractions, Mixable, blend};
+ghost use Rattle.corners.specs.Square.{blend, mixed};
+ghost use Rattle.plain.specs.Plain.{Inside, Fractions, Mixable};
 ghost use Rattle.broad.specs.Broad as Broad;
 ghost use Rattle.broad.specs.Broad.{fourSums, Covered, Beside};
+use corners::four::mixed;
 use pixels::colour::Rgba;
 use pixels::colour::grey;
 use pixels::pixel::widened;
-use plain::plain::mixed;
 use plain::plain::weigh;
 use plain::plain::wide;
 use stored::store::put_four;
@@ -113,7 +113,7 @@ fn put_first(
     requires { ⌜ Beside (now picture) width height m (now columns) (now rows) (now w00) (now w10) (now w01) (now w11) (now ws) ⌝ }
     requires { ⌜ (place + m) * 3 * 4 + 4 ≤ length (now band) ⌝ }
     ensures { λ _.
-        ⌜ Covered (now (band .exit)) (take (place * 3 * 4) (now (band .entry)) ++ joined (λ (k : ℕ). pixelBytes 3 (Plain.mixed (now (picture .entry)) width 3 (getD (now (columns .entry)) k 0) (getD (now (rows .entry)) k 0) (Vectors.at (now (w00 .entry)) k) (Vectors.at (now (w10 .entry)) k) (Vectors.at (now (w01 .entry)) k) (Vectors.at (now (w11 .entry)) k) (Vectors.at (now (ws .entry)) k))) m ++ drop ((place + m) * 3 * 4) (now (band .entry))) ((place + m) * 3) ⌝ }
+        ⌜ Covered (now (band .exit)) (take (place * 3 * 4) (now (band .entry)) ++ joined (λ (k : ℕ). pixelBytes 3 (mixed (now (picture .entry)) width 3 (getD (now (columns .entry)) k 0) (getD (now (rows .entry)) k 0) (Vectors.at (now (w00 .entry)) k) (Vectors.at (now (w10 .entry)) k) (Vectors.at (now (w01 .entry)) k) (Vectors.at (now (w11 .entry)) k) (Vectors.at (now (ws .entry)) k))) m ++ drop ((place + m) * 3 * 4) (now (band .entry))) ((place + m) * 3) ⌝ }
 {
     for k in 0..m {
         put_four(
@@ -157,7 +157,7 @@ fn put_broad(
     requires { ⌜ Mixable (now picture) width 3 (m + 1) (now columns) (now rows) (now w00) (now w10) (now w01) (now w11) (now ws) ⌝ }
     requires { ⌜ (place + (m + 1)) * 3 * 4 ≤ length (now band) ⌝ }
     ensures { λ _.
-        ⌜ now (band .exit) ≡ take (place * 3 * 4) (now (band .entry)) ++ joined (λ (k : ℕ). pixelBytes 3 (Plain.mixed (now (picture .entry)) width 3 (getD (now (columns .entry)) k 0) (getD (now (rows .entry)) k 0) (Vectors.at (now (w00 .entry)) k) (Vectors.at (now (w10 .entry)) k) (Vectors.at (now (w01 .entry)) k) (Vectors.at (now (w11 .entry)) k) (Vectors.at (now (ws .entry)) k))) (m + 1) ++ drop ((place + (m + 1)) * 3 * 4) (now (band .entry)) ⌝ }
+        ⌜ now (band .exit) ≡ take (place * 3 * 4) (now (band .entry)) ++ joined (λ (k : ℕ). pixelBytes 3 (mixed (now (picture .entry)) width 3 (getD (now (columns .entry)) k 0) (getD (now (rows .entry)) k 0) (Vectors.at (now (w00 .entry)) k) (Vectors.at (now (w10 .entry)) k) (Vectors.at (now (w01 .entry)) k) (Vectors.at (now (w11 .entry)) k) (Vectors.at (now (ws .entry)) k))) (m + 1) ++ drop ((place + (m + 1)) * 3 * 4) (now (band .entry)) ⌝ }
 {
     put_first(
         picture,

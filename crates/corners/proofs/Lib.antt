@@ -1,2 +1,3 @@
 -- The laws of four taps inside.
 pub mod CornerLaws
+pub mod MixedLaws

@@ -1,2 +1,2 @@
--- The definition of the sums over four taps.
+-- The definition of the mean of four taps.
 pub mod Square

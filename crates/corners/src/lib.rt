@@ -1,2 +1,2 @@
-// The sums over the four taps of a cell that lies inside a picture of any number of channels.
+// The four taps of a cell that lies inside a picture of any number of channels: their sums and their weighted mean.
 pub mod four;

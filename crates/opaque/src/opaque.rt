@@ -71,6 +71,10 @@ fn four(picture: &[u8], width: u64, height: u64, i: u64, j: u64, tx: f32, ty: f3
 {
     let sx = 1.0 - tx;
     let sy = 1.0 - ty;
+    let a = sx * sy;
+    let b = tx * sy;
+    let c = sx * ty;
+    let d = tx * ty;
     sums(
         picture,
         width,
@@ -78,10 +82,11 @@ fn four(picture: &[u8], width: u64, height: u64, i: u64, j: u64, tx: f32, ty: f3
         3,
         i,
         j,
-        sx * sy,
-        tx * sy,
-        sx * ty,
-        tx * ty,
+        a,
+        b,
+        c,
+        d,
+        0.0 + a + b + c + d,
     )
 }
 

@@ -26,7 +26,7 @@ use Rattle.weighted.proofs.WeightedWeights.{bilinear-bounded}
 use Rattle.sampler.specs.Finite.{BoundedPicture}
 use Rattle.sampler.proofs.AtFinite.{within-bounded, bounded-more, pixel-bounded}
 use Rattle.stored.specs.Store.{Numbers}
-use Rattle.plain.specs.Plain.{blend}
+use Rattle.corners.specs.Square.{blend}
 
 -- ---- samples
 limited-bounded : (bytes : List ℕ) → Limited bytes → (k : ℕ) → (k + 1) * 4 ≤ length bytes → Bounded (frac 65536 1) (sampleAt bytes k)

@@ -1,6 +1,5 @@
--- A stretch inside. With f32 fractions from 0 to 1 the weights' sum is a number to divide by, and the taps' alphas are 1, so that the quotients by it are the weighted mean; and the mean in a
--- point's own cell is what `interpolate` shows there.
--- Provides: `Weighing`, `weigh-none`, `weigh-more`, `weigh-last` (the loop over weights); `mixed-blend`, `blend-all`, `mixable` (the colours of cells); `cells-inside`, `cells-units`, `cells-mattes`, `cells-colours`, `places-within`, `places-mattes`,
+-- A stretch inside: the mean in a point's own cell is what `interpolate` shows there.
+-- Provides: `Weighing`, `weigh-none`, `weigh-more`, `weigh-last` (the loop over weights); `blend-all`, `mixable` (the colours of cells); `cells-inside`, `cells-units`, `cells-mattes`, `cells-colours`, `places-within`, `places-mattes`,
 -- `places-colours` (from cells and places to the band's definition), `marked`, `no-matte`, `no-mattes` (points that can be used). Assumes nothing.
 use mathlib.Core.Path.{_≡_, refl, sym, ap, _∙_}
 use mathlib.Core.Logic.{_≢_}
@@ -15,29 +14,22 @@ use lib.ListN.{length, getD, set, length-set}
 use lib.Seq.{getD-set-same, getD-set-other}
 use lib.Ieee.{Float, nan}
 use Rattle.exact.specs.Double.{_⊖_}
-use Rattle.exact.specs.Single.{_⊗_, _⊘_}
 use Rattle.exact.specs.Warp.{half}
 use Rattle.exact.specs.Weighted.{w00, w10, w01, w11, fourSum, weightSum, Unit32}
-use Rattle.exact.proofs.Weighted.{alpha-sum, alpha-one}
 use Rattle.matrix.specs.Matrix.{at}
 use Rattle.number.specs.Magnitude.{within}
-use Rattle.pixels.specs.Colour.{one}
 use Rattle.pixels.specs.Pixel.{Picture, pixelAt}
-use Rattle.pixels.proofs.PixelCode.{widened-opaque}
 use Rattle.pixels.specs.declared.colour.Rgba.{Rgba}
 use Rattle.point.specs.Point.{limit, usable}
 use Rattle.cell.specs.Interpolation.{interpolation}
-use Rattle.weighted.specs.Weighted.{added, weighted, mean}
-use Rattle.taps.specs.Weights.{corners}
 use Rattle.cell.proofs.CellFloor.{cell-law}
-use Rattle.weighted.proofs.WeightedOpaque.{summed-four, opaque-four}
 use Rattle.cells.specs.Cells.{Cell, Cells, Place, Places}
-use Rattle.weighted.specs.declared.weighted.Sums.{Sums}
-use Rattle.corners.specs.Square.{squareSums}
+use Rattle.corners.specs.Square.{Weighed, blend, mixed}
+use Rattle.corners.proofs.MixedLaws.{mixed-blend}
 use Rattle.opaque.proofs.OpaqueCode.{bilinear-inside, single-inside}
 use Rattle.put.specs.Band.{Source, shown, keptColour, keptMatte, pixelBytes}
 use Rattle.put.specs.Joined.{joined, totalled}
-use Rattle.plain.specs.Plain.{Within, Inside, Fractions, Weighed, Weights, Mixable, blend, over, mixed}
+use Rattle.plain.specs.Plain.{Within, Inside, Fractions, Weights, Mixable}
 use Rattle.put.proofs.JoinedLaws.{joined-same, totalled-same, totalled-most}
 use Rattle.plain.proofs.NumberLaws.{blend-numbers}
 
@@ -78,52 +70,6 @@ module _ {xs ys w₁ w₂ w₃ w₄ sums : List Float} where
 
   pub weigh-last : (k n : ℕ) → n ≤ k → Weighing k xs ys w₁ w₂ w₃ w₄ sums → Weights n xs ys w₁ w₂ w₃ w₄ sums
   weigh-last k n a s = record { weighed = λ i h. s .done .weighed i (omega arith) }
-
--- ---- one cell
-module _ (bytes : List ℕ) (w n i j : ℕ) (tx ty : Float) where
-  abbrev p : Rgba
-  p = pixelAt bytes w n i j
-
-  abbrev q : Rgba
-  q = pixelAt bytes w n (i + 1) j
-
-  abbrev r : Rgba
-  r = pixelAt bytes w n i (j + 1)
-
-  abbrev s : Rgba
-  s = pixelAt bytes w n (i + 1) (j + 1)
-
-  abbrev sums : Sums
-  sums = squareSums bytes w n i j (w00 tx ty) (w10 tx ty) (w01 tx ty) (w11 tx ty)
-
-  own-mean : mean sums ≡ blend bytes w n i j tx ty
-  unfolding blend weighted squareSums
-  own-mean = sym (ap mean (summed-four (p ∷ q ∷ r ∷ s ∷ []) (corners tx ty)))
-
-  -- with every alpha 1, the sum of alphas is that of the weights
-  own-over : (n ≡ 4 → ⊥) → Unit32 tx → Unit32 ty → over sums (weightSum tx ty) ≡ mean sums
-  unfolding squareSums added pixelAt
-  own-over fewer x y =
-      let P : p .a ≡ one = widened-opaque bytes n _ fewer in
-      let Q : q .a ≡ one = widened-opaque bytes n _ fewer in
-      let R : r .a ≡ one = widened-opaque bytes n _ fewer in
-      let S : s .a ≡ one = widened-opaque bytes n _ fewer in
-      (λ t. record {
-        r = fourSum (w00 tx ty ⊗ p .r ⊗ P t) (w10 tx ty ⊗ q .r ⊗ Q t) (w01 tx ty ⊗ r .r ⊗ R t) (w11 tx ty ⊗ s .r ⊗ S t) ⊘ sym (alpha-sum tx ty x y) t;
-        g = fourSum (w00 tx ty ⊗ p .g ⊗ P t) (w10 tx ty ⊗ q .g ⊗ Q t) (w01 tx ty ⊗ r .g ⊗ R t) (w11 tx ty ⊗ s .g ⊗ S t) ⊘ sym (alpha-sum tx ty x y) t;
-        b = fourSum (w00 tx ty ⊗ p .b ⊗ P t) (w10 tx ty ⊗ q .b ⊗ Q t) (w01 tx ty ⊗ r .b ⊗ R t) (w11 tx ty ⊗ s .b ⊗ S t) ⊘ sym (alpha-sum tx ty x y) t;
-        a = sym (alpha-one tx ty x y) t;
-      })
-      ∙ sym (opaque-four tx ty x y p q r s P Q R S)
-
-  pub mixed-blend : {a b c d t : Float} → Unit32 tx → Unit32 ty → Weighed tx ty a b c d t → mixed bytes w n i j a b c d t ≡ blend bytes w n i j tx ty
-  unfolding mixed
-  mixed-blend {a} {b} {c} {d} {t} x y W =
-      (λ z. mixed bytes w n i j (W .at-00 z) (W .at-10 z) (W .at-01 z) (W .at-11 z) (W .total z)) ∙ either (eqb n 4) refl ∙ own-mean
-    where
-      either : (four : Bool) → eqb n 4 ≡ four → cond four (mean sums) (over sums (weightSum tx ty)) ≡ mean sums
-      either true e = refl
-      either false e = own-over (λ m. false≢true (sym e ∙ rw m)) x y
 
 -- ---- a point's own cell
 both : (a b : Bool) → T a → T b → a && b ≡ true

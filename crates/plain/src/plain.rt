@@ -6,17 +6,14 @@ ghost use mathlib.Core.List.{_++_};
 ghost use Prim.Native.Nat.{ℕ, _+_, _*_, _≤_, _<_};
 ghost use lib.ListN.{length, take, drop, getD};
 ghost use Rattle.matrix.specs.Matrix as Vectors;
+ghost use Rattle.corners.specs.Square.{blend, mixed};
 ghost use Rattle.pixels.specs.Pixel.{Picture, pixelAt};
 ghost use Rattle.put.specs.Band.{pixelBytes};
 ghost use Rattle.put.specs.Joined.{joined};
-ghost use Rattle.plain.specs.Plain as Plain;
-ghost use Rattle.plain.specs.Plain.{Within, Inside, Fractions, Weights, Mixable, blend};
-use corners::four::sums;
-use pixels::colour::Rgba;
+ghost use Rattle.plain.specs.Plain.{Within, Inside, Fractions, Weights, Mixable};
+use corners::four::mixed;
 use pixels::pixel::pixel;
 use stored::store::put_number_pixel;
-use weighted::weighted::Sums;
-use weighted::weighted::mean;
 
 // An array has as many elements as its type says: a function is told so of one that it takes by value.
 pub fn sized(a: [f32; 64])
@@ -67,46 +64,6 @@ pub fn weigh(
     }
 }
 
-// The quotients of sums of colours by the sum of weights, opaque.
-fn over(s: Sums, t: f32) -> Rgba
-    ensures { λ r. ⌜ r ≡ Plain.over s t ⌝ }
-{
-    Rgba {
-        r: s.r / t,
-        g: s.g / t,
-        b: s.b / t,
-        a: 1.0,
-    }
-}
-
-// The colour of the cell at column i and row j, by its weights and their sum. The channels are literals, so that they are asked once and not at each tap.
-pub fn mixed(
-    picture: &[u8],
-    width: u64,
-    height: u64,
-    channels: u64,
-    i: u64,
-    j: u64,
-    a: f32,
-    b: f32,
-    c: f32,
-    d: f32,
-    s: f32,
-) -> Rgba
-    requires { ⌜ Picture (now picture) width height channels ⌝ }
-    requires { ⌜ (channels ≡ 1) ⊎ ((channels ≡ 3) ⊎ (channels ≡ 4)) ⌝ }
-    requires { ⌜ (i + 1 < width) × (j + 1 < height) ⌝ }
-    ensures { λ r. ⌜ r ≡ Plain.mixed (now (picture .entry)) width channels i j a b c d s ⌝ }
-{
-    if channels == 4 {
-        return mean(sums(picture, width, height, 4, i, j, a, b, c, d));
-    }
-    if channels == 3 {
-        return over(sums(picture, width, height, 3, i, j, a, b, c, d), s);
-    }
-    over(sums(picture, width, height, 1, i, j, a, b, c, d), s)
-}
-
 // The colours of n cells at their weights, put from the band's pixel numbered `place` on.
 fn put_plain(
     picture: &[u8],
@@ -131,7 +88,7 @@ fn put_plain(
     requires { ⌜ Mixable (now picture) width channels n (now columns) (now rows) (now w00) (now w10) (now w01) (now w11) (now ws) ⌝ }
     requires { ⌜ (place + n) * channels * 4 ≤ length (now band) ⌝ }
     ensures { λ _.
-        ⌜ now (band .exit) ≡ take (place * channels * 4) (now (band .entry)) ++ joined (λ (k : ℕ). pixelBytes channels (Plain.mixed (now (picture .entry)) width channels (getD (now (columns .entry)) k 0) (getD (now (rows .entry)) k 0) (Vectors.at (now (w00 .entry)) k) (Vectors.at (now (w10 .entry)) k) (Vectors.at (now (w01 .entry)) k) (Vectors.at (now (w11 .entry)) k) (Vectors.at (now (ws .entry)) k))) n ++ drop ((place + n) * channels * 4) (now (band .entry)) ⌝ }
+        ⌜ now (band .exit) ≡ take (place * channels * 4) (now (band .entry)) ++ joined (λ (k : ℕ). pixelBytes channels (mixed (now (picture .entry)) width channels (getD (now (columns .entry)) k 0) (getD (now (rows .entry)) k 0) (Vectors.at (now (w00 .entry)) k) (Vectors.at (now (w10 .entry)) k) (Vectors.at (now (w01 .entry)) k) (Vectors.at (now (w11 .entry)) k) (Vectors.at (now (ws .entry)) k))) n ++ drop ((place + n) * channels * 4) (now (band .entry)) ⌝ }
 {
     for k in 0..n {
         put_number_pixel(

@@ -82,7 +82,7 @@ fn narrowed(band: &mut [u8], channels: u64, k: u64, c: Rgba)
     ensures { λ _. ⌜ now (band .exit) ≡ Store.narrowed (now (band .entry)) channels k c ⌝ }
 {
     if channels == 4 {
-        put_rgb(band, k, c);
+        put_tested(band, k, c);
         put_sample(band, k + 3, c.a);
         return;
     }

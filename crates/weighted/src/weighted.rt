@@ -43,10 +43,12 @@ pub fn added(p: Rgba, w: f32, s: Sums) -> Sums
     }
 }
 
+// The division comes before the test, which then is a choice and no branch: so four quotients are worked out side by side.
 fn quotient(x: f32, y: f32) -> f32
     ensures { λ r. ⌜ r ≡ Weighted.quotient x y ⌝ }
 {
-    if abs_f32(y) > 1e-9 { x / y } else { 0.0 }
+    let q = x / y;
+    if abs_f32(y) > 1e-9 { q } else { 0.0 }
 }
 
 // Whether the sum of alphas is one to divide by.
@@ -72,13 +74,10 @@ pub fn divided(s: Sums) -> Rgba
 pub fn mean(s: Sums) -> Rgba
     ensures { λ r. ⌜ r ≡ Weighted.mean s ⌝ }
 {
-    if divides(s) {
-        return divided(s);
-    }
     Rgba {
-        r: 0.0,
-        g: 0.0,
-        b: 0.0,
+        r: quotient(s.r, s.a),
+        g: quotient(s.g, s.a),
+        b: quotient(s.b, s.a),
         a: quotient(s.a, s.weight),
     }
 }

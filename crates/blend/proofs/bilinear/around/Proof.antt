@@ -6,6 +6,7 @@ use borrow.Author.Tests.{ltb-true}
 use Prim.Native.Nat.{ℕ, _+_, _-_, _<_}
 use Rattle.policies.proofs.IndexCode.{argument, bits-before}
 use Rattle.cell.proofs.SignedCode.{small}
+use Rattle.corners.specs.Square.{blend}
 use Rattle.taps.proofs.TapsLaws.{inside-corners}
 use borrow.Author.Needs.{needs}
 use Rattle.blend.proofs.bilinear.around.Statement.{statement}
@@ -27,9 +28,10 @@ sub-if2 : tie.Need-sub-if2
 sub-if2 c = search needs
 
 inside-requires : tie.Need-inside-requires
-inside-requires c κs = (search needs, (next _ _ (c .before .if1 .taken), next _ _ (ltb-true _ _ (c .if2 .taken))))
+inside-requires c κs = (search needs, ((next _ _ (c .before .if1 .taken), next _ _ (ltb-true _ _ (c .if2 .taken))), search needs))
 
 returns : tie.Need-returns
+unfolding blend
 returns c =
     let a = c .before .before .before .before .before .before in
     let i = c .before .before .before .before .bits-of-i64 in

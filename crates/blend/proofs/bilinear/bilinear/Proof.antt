@@ -1,6 +1,7 @@
 -- `blend::bilinear::bilinear` meets its contract: the cell and the fractions of the point. Assumes nothing.
 use mathlib.Core.Path.{_∙_}
 use Rattle.cell.specs.Interpolation.{Bilinear}
+use Rattle.cell.proofs.CellFloor.{cell-law}
 use Rattle.cell.proofs.CellLaws.{first-small}
 use Rattle.cell.proofs.SignedCode.{again, asked}
 use borrow.Author.Needs.{needs}
@@ -24,7 +25,7 @@ around-requires c κs =
     let a = c .before .before .before .before .before in
     let i = c .before .before .before .below in
     let j = c .before .below2 in
-    (search needs, (asked 2147483649 (i .result) (i .ok) (i .ensures) (first-small Bilinear (a .args .x) (search needs)), asked 2147483649 (j .result) (j .ok) (j .ensures) (first-small Bilinear (a .args .y) (search needs))))
+    (search needs, ((asked 2147483649 (i .result) (i .ok) (i .ensures) (first-small Bilinear (a .args .x) (search needs)), asked 2147483649 (j .result) (j .ok) (j .ensures) (first-small Bilinear (a .args .y) (search needs))), (rw (c .before .before .fraction .ensures) (cell-law (a .args .x) (search needs) .fraction), rw (c .fraction2 .ensures) (cell-law (a .args .y) (search needs) .fraction))))
 
 returns : tie.Need-returns
 returns c =

@@ -1,6 +1,5 @@
 -- `broad::broad::put_broad` meets its contract: the last pixel puts over what the ones before it left open. Assumes nothing.
-use mathlib.Core.Path.{refl, _∙_}
-use mathlib.Core.Logic.{inl, inr}
+use mathlib.Core.Path.{_∙_}
 use Prim.Native.Nat.{ℕ, _+_, _*_, _≤_, _<_}
 use native.Mathlib.Omega.{arith}
 use borrow.Author.Needs.{needs}
@@ -9,7 +8,7 @@ use lib.Ieee.{Float}
 use lib.ListN.{getD}
 use denote.Ref.{now}
 use Rattle.matrix.specs.Matrix.{at}
-use Rattle.plain.specs.Plain.{mixed}
+use Rattle.corners.specs.Square.{mixed}
 use Rattle.broad.specs.Broad.{Beside}
 use Rattle.broad.proofs.CoverLaws.{covered-done}
 use Rattle.broad.proofs.broad.put_broad.Statement.{statement}
@@ -25,7 +24,7 @@ mixed-requires : tie.Need-mixed-requires
 mixed-requires c κs =
     let q = c .before .before .before .before .before .before .before .before .before .before .before .before .before .before .before .before in
     let S = q .pre .1 .1 .0 in
-    (q .pre .0, (inr (inl refl), (omega (arith, S .column (q .args .m) (omega arith), c .before .before .before .before .before .before .before .wide .ensures), omega (arith, S .row (q .args .m) (omega arith), c .before .before .before .before .before .wide2 .ensures))))
+    (q .pre .0, (omega (arith, S .column (q .args .m) (omega arith), c .before .before .before .before .before .before .before .wide .ensures), omega (arith, S .row (q .args .m) (omega arith), c .before .before .before .before .before .wide2 .ensures)))
 
 put-number-pixel-requires : tie.Need-put-number-pixel-requires
 put-number-pixel-requires c κs =

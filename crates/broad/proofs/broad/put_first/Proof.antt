@@ -7,7 +7,7 @@ use borrow.Author.Needs.{needs}
 use lib.ListN.{length, getD}
 use denote.Ref.{now}
 use Rattle.matrix.specs.Matrix.{at}
-use Rattle.plain.specs.Plain.{mixed}
+use Rattle.corners.specs.Square.{mixed}
 use Rattle.broad.proofs.CoverLaws.{Overlaid, covered-start, covered-next, covered-last}
 use Rattle.broad.proofs.broad.put_first.Statement.{statement}
 use Rattle.broad.proofs.broad.put_first.Tie as tie

@@ -5,7 +5,7 @@ use Prim.Native.Nat.{_+_}
 use borrow.Author.Needs.{needs}
 use denote.Ref.{now}
 use Rattle.pixels.specs.Pixel.{pixelAt}
-use Rattle.weighted.specs.Weighted.{mean, weighted}
+use Rattle.weighted.specs.Weighted.{added, mean, weighted}
 use Rattle.taps.specs.Weights.{corners}
 use Rattle.weighted.proofs.WeightedOpaque.{summed-four}
 use Rattle.corners.specs.Square.{squareSums}
@@ -16,7 +16,7 @@ sums-requires : tie.Need-sums-requires
 sums-requires c κs = search needs
 
 returns : tie.Need-returns
-unfolding weighted squareSums
+unfolding weighted squareSums added
 returns c =
     let q = c .before .before in
     let b = now (q .args .picture) in

@@ -6,7 +6,7 @@ use native.Mathlib.Omega.{arith}
 use borrow.Author.Needs.{needs}
 use lib.ListN.{getD}
 use Rattle.matrix.specs.Matrix.{at}
-use Rattle.plain.specs.Plain.{mixed}
+use Rattle.corners.specs.Square.{mixed}
 use Rattle.put.proofs.PixelLaws.{channels-pos}
 use Rattle.put.proofs.RowLaws.{RowHolds, row-start, row-room, row-next, row-done, row-same, place-small}
 use Rattle.plain.proofs.plain.put_plain.Statement.{statement}
@@ -30,7 +30,7 @@ add-put-number-pixel c =
 mixed-requires : tie.Need-mixed-requires Inv-loop μ-loop
 mixed-requires c κs =
     let e = c .before .before .before .before .before .before .before .before .before .before .before .before .before .before in
-    (e .pre .0, (e .pre .1 .0, (rw (c .before .before .before .before .before .before .before .wide .ensures) (e .pre .1 .1 .1 .0 .column _ (search needs)), rw (c .before .before .before .before .before .wide2 .ensures) (e .pre .1 .1 .1 .0 .row _ (search needs)))))
+    (e .pre .0, (rw (c .before .before .before .before .before .before .before .wide .ensures) (e .pre .1 .1 .1 .0 .column _ (search needs)), rw (c .before .before .before .before .before .wide2 .ensures) (e .pre .1 .1 .1 .0 .row _ (search needs))))
 
 put-number-pixel-requires : tie.Need-put-number-pixel-requires Inv-loop μ-loop
 put-number-pixel-requires c κs =

@@ -6,8 +6,8 @@ use borrow.Author.Needs.{needs}
 use Rattle.stored.proofs.store.narrowed.Statement.{statement}
 use Rattle.stored.proofs.store.narrowed.Tie as tie
 
-put-rgb-requires : tie.Need-put-rgb-requires
-put-rgb-requires c κs = search needs
+put-tested-requires : tie.Need-put-tested-requires
+put-tested-requires c κs = search needs
 
 add-put-sample : tie.Need-add-put-sample
 add-put-sample c = search needs
@@ -20,17 +20,17 @@ same-length c = search needs
 
 returns : tie.Need-returns
 unfolding narrowed
-returns c = c .before .before .put-sample .ensures ∙ rw (c .before .before .before .before .before .before .put-rgb .ensures, c .before .before .before .before .before .before .before .before .if1 .taken)
+returns c = c .before .before .put-sample .ensures ∙ rw (c .before .before .before .before .before .before .put-tested .ensures, c .before .before .before .before .before .before .before .before .if1 .taken)
 
-put-rgb-requires-2 : tie.Need-put-rgb-requires-2
-put-rgb-requires-2 c κs = search needs
+put-rgb-requires : tie.Need-put-rgb-requires
+put-rgb-requires c κs = search needs
 
 same-length-2 : tie.Need-same-length-2
 same-length-2 c = search needs
 
 returns-2 : tie.Need-returns-2
 unfolding narrowed
-returns-2 c = c .before .before .put-rgb2 .ensures ∙ rw (c .before .before .before .before .if2 .taken)
+returns-2 c = c .before .before .put-rgb .ensures ∙ rw (c .before .before .before .before .if2 .taken)
 
 luma-requires : tie.Need-luma-requires
 luma-requires c κs = search needs
@@ -49,12 +49,12 @@ pub narrowed-spec : {M : Type 1} → statement M
 narrowed-spec =
     tie.close
     (tie.spec
-    put-rgb-requires
+    put-tested-requires
     add-put-sample
     put-sample-requires
     same-length
     returns
-    put-rgb-requires-2
+    put-rgb-requires
     same-length-2
     returns-2
     luma-requires

@@ -93,28 +93,7 @@ part-room place i n span depth l h r = le-trans (mul-le-mul-right 4 (mul-le-mul-
     less : (p i n s : ℕ) → i + n ≤ s → p + i + n ≤ p + s
     less p i n s h = omega arith
 
--- ---- the loops for three channels
--- what a loop over a stretch leaves, and how many pixels it counts
-abbrev pub Left : Source → ℕ → List Float → List Float → ℕ → ℕ → List ℕ → List ℕ → ℕ → Type 0
-Left s depth us vs n place b after r =
-    (r ≡ totalled (λ (k : ℕ). keptMatte (at us k) (at vs k)) n)
-    × (after ≡ take (place * depth * 4) b ++ joined (λ (k : ℕ). pixelBytes depth (keptColour s (at us k) (at vs k))) n ++ drop ((place + n) * depth * 4) b)
-
-pub three-left : (bytes : List ℕ) (width height policy : ℕ) (background matte : Rgba) (us vs : List Float) (n place : ℕ) (b : List ℕ) {channels interpolation code depth r : ℕ} {after : List ℕ}
-    → channels ≡ 3 → depth ≡ 3 → interpolation ≡ code
-    → Left (record { image = record { bytes = bytes; width = width; height = height; channels = 3 }; policy = policy; interpolation = code; background = background; matte = matte }) 3 us vs n place b after r
-    → Left (record { image = record { bytes = bytes; width = width; height = height; channels = channels }; policy = policy; interpolation = interpolation; background = background; matte = matte }) depth us vs n place b after r
-three-left bytes width height policy background matte us vs n place b {channels} {interpolation} {code} {depth} {r} {after} e f g p =
-    subst⁻¹ (λ (z : ℕ). Left (of z interpolation) depth us vs n place b after r) e
-    (subst⁻¹ (λ (z : ℕ). Left (of 3 interpolation) z us vs n place b after r) f
-    (subst⁻¹ (λ (z : ℕ). Left (of 3 z) 3 us vs n place b after r) g p))
-  where
-    of : ℕ → ℕ → Source
-    of c i = record { image = record { bytes = bytes; width = width; height = height; channels = c }; policy = policy; interpolation = i; background = background; matte = matte }
-
-pub three-room : (place n : ℕ) {depth l : ℕ} → depth ≡ 3 → (place + n) * depth * 4 ≤ l → (place + n) * 3 * 4 ≤ l
-three-room place n {depth} {l} e r = subst (λ (z : ℕ). (place + n) * z * 4 ≤ l) e r
-
+-- ---- two ways to put a stretch
 -- a band that is as it was has the same room, and what is put into it is the same
 pub same-room : {a b : List ℕ} {m : ℕ} → a ≡ b → m ≤ length b → m ≤ length a
 same-room p h = rw p h

@@ -2,4 +2,3 @@
 pub mod inside;
 pub mod rows;
 pub mod stretch;
-pub mod three;

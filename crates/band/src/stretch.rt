@@ -12,87 +12,9 @@ ghost use Rattle.pixels.specs.Pixel.{Picture};
 ghost use Rattle.put.specs.Band.{colourAt, matteAt, keptMatte, pixelBytes, stretchBytes, Inner};
 ghost use Rattle.put.specs.Joined.{joined, totalled};
 use crate::inside::put_inside;
-use crate::three::put_bilinear_each;
-use crate::three::put_single_each;
 use pixels::colour::Rgba;
 use points::points::points;
 use put::any::put_any;
-
-// The colours of n pixels wherever they lie, one pixel after another: put `depth` samples a pixel from the band's pixel numbered `place` on; and how many are matte. Each loop has
-// one caller, so that it becomes a part of it.
-fn put_each(
-    picture: &[u8],
-    width: u64,
-    height: u64,
-    channels: u64,
-    policy: u64,
-    interpolation: u64,
-    background: Rgba,
-    matte: Rgba,
-    depth: u64,
-    us: &[f64; 64],
-    vs: &[f64; 64],
-    n: usize,
-    place: u64,
-    band: &mut [u8],
-) -> u64
-    requires { ⌜ Picture (now picture) width height channels ⌝ }
-    requires { ⌜ (depth ≡ 1) ⊎ ((depth ≡ 3) ⊎ (depth ≡ 4)) ⌝ }
-    requires { ⌜ n ≤ 64 ⌝ }
-    requires { ⌜ (place + n) * depth * 4 ≤ length (now band) ⌝ }
-    ensures { λ r.
-        ⌜ (r ≡ totalled (λ (k : ℕ). keptMatte (Vectors.at (now (us .entry)) k) (Vectors.at (now (vs .entry)) k)) n) × (now (band .exit) ≡ stretchBytes (record { image = record { bytes = now (picture .entry); width = width; height = height; channels = channels }; policy = policy; interpolation = interpolation; background = background; matte = matte }) depth (now (us .entry)) (now (vs .entry)) n place (now (band .entry))) ⌝ }
-{
-    if channels == 3 && depth == 3 {
-        if interpolation == 5 {
-            return put_bilinear_each(
-                picture,
-                width,
-                height,
-                policy,
-                background,
-                matte,
-                us,
-                vs,
-                n,
-                place,
-                band,
-            );
-        }
-        if interpolation < 2 {
-            return put_single_each(
-                picture,
-                width,
-                height,
-                policy,
-                interpolation,
-                background,
-                matte,
-                us,
-                vs,
-                n,
-                place,
-                band,
-            );
-        }
-    }
-    put_any(
-        picture,
-        width,
-        height,
-        channels,
-        policy,
-        interpolation,
-        background,
-        matte,
-        depth,
-        us,
-        vs,
-        n,
-        place,
-        band,
-    )
-}
 
 // The colours of n pixels that all lie inside and are put with the picture's channels, by what is worked out first. False: nothing was put.
 fn put_alike(
@@ -171,7 +93,7 @@ fn put_colours(
     ) {
         return 0;
     }
-    put_each(
+    put_any(
         picture,
         width,
         height,

@@ -26,7 +26,7 @@ use Rattle.cell.proofs.CellFloor.{cell-law}
 use Rattle.cells.specs.Cells.{Cell, Cells, Place, Places}
 use Rattle.corners.specs.Square.{Weighed, blend, mixed}
 use Rattle.corners.proofs.MixedLaws.{mixed-blend}
-use Rattle.opaque.proofs.OpaqueCode.{bilinear-inside, single-inside}
+use Rattle.blend.proofs.InsideLaws.{bilinear-inside, single-inside}
 use Rattle.put.specs.Band.{Source, shown, keptColour, keptMatte, pixelBytes}
 use Rattle.put.specs.Joined.{joined, totalled}
 use Rattle.plain.specs.Plain.{Within, Inside, Fractions, Weights, Mixable}

@@ -1,12 +1,8 @@
 // The weighted mean of taps, colours weighted by alpha, so that clear taps leave no dark fringes. Sums that grow by one tap at a
 // time, and their quotients; a caller with few taps needs no array of them. Assumes that at most sixteen taps are counted.
 ghost use mathlib.Core.Path.{_≡_};
-ghost use mathlib.Core.Bool.{true};
 ghost use Prim.Native.Nat.{_≤_};
-ghost use lib.Ieee.{lt};
-ghost use Rattle.number.specs.Magnitude.{abs};
 ghost use Rattle.weighted.specs.Weighted as Weighted;
-ghost use Rattle.weighted.specs.Weighted.{least};
 use number::magnitude::abs_f32;
 use pixels::colour::Rgba;
 
@@ -49,26 +45,6 @@ fn quotient(x: f32, y: f32) -> f32
 {
     let q = x / y;
     if abs_f32(y) > 1e-9 { q } else { 0.0 }
-}
-
-// Whether the sum of alphas is one to divide by.
-pub fn divides(s: Sums) -> bool
-    ensures { λ r. ⌜ r ≡ lt least (abs (s .a)) ⌝ }
-{
-    abs_f32(s.a) > 1e-9
-}
-
-// The mean where it is: three quotients with one test.
-pub fn divided(s: Sums) -> Rgba
-    requires { ⌜ lt least (abs (s .a)) ≡ true ⌝ }
-    ensures { λ r. ⌜ r ≡ Weighted.mean s ⌝ }
-{
-    Rgba {
-        r: s.r / s.a,
-        g: s.g / s.a,
-        b: s.b / s.a,
-        a: quotient(s.a, s.weight),
-    }
 }
 
 pub fn mean(s: Sums) -> Rgba

@@ -1,43 +1,29 @@
--- Three channels: where the samples of pixels inside lie. Any channels: one pixel, or four, are what the definition takes at a point whose cell lies inside.
--- Provides: `room3`, `small3` (a pixel's samples); `single-inside`, `single-anywhere`, `bilinear-inside`,
--- `bilinear-anywhere` (each way's answer). Assumes nothing.
+-- One pixel, or four, are what the definition takes at a point whose cell lies inside. Provides: `single-inside`, `bilinear-inside`. Assumes nothing.
 use mathlib.Core.Path.{_≡_, refl, sym, ap, _∙_}
 use mathlib.Core.List.{List, [], _∷_}
-use Prim.Native.Nat.{ℕ, _+_, _*_, _≤_, _<_}
-use native.Mathlib.Omega.{arith}
+use Prim.Native.Nat.{ℕ, _+_, _<_}
 use lib.IntN.{ℤ, pos}
-use lib.ListN.{length}
 use lib.Ieee.{Float}
 use Rattle.number.specs.Floor.{floorI64}
 use Rattle.pixels.specs.At.{at}
-use Rattle.pixels.specs.Pixel.{Picture, widened, pixelAt}
+use Rattle.pixels.specs.Pixel.{pixelAt}
 use Rattle.pixels.specs.declared.colour.Rgba.{Rgba}
 use Rattle.pixels.proofs.AtLaws.{at-inside}
-use Rattle.pixels.proofs.PixelCode.{room, number-small}
 use Rattle.cell.specs.Cell.{cell, first, fraction}
 use Rattle.cell.specs.Interpolation.{interpolation, Bilinear}
 use Rattle.taps.specs.Taps.{taps}
 use Rattle.weighted.specs.Weighted.{weighted}
 use Rattle.taps.specs.Weights.{corners, weights}
 use Rattle.taps.proofs.TapsLaws.{inside-corners}
 use Rattle.blend.specs.Interpolate.{interpolate}
 use Rattle.blend.proofs.InterpolateCode.{single-code}
 
--- ---- a pixel's samples
-module _ (bytes : List ℕ) (w h x y : ℕ) (P : Picture bytes w h 3) (hx : x < w) (hy : y < h) where
-  pub room3 : ((y * w + x) * 3 + 3) * 4 ≤ length bytes
-  room3 = room bytes w 3 x y (record { height = h; picture = P; column = hx; row = hy })
-
-  pub small3 : y * w + x ≤ 0x100_0000
-  small3 = number-small bytes w 3 x y (record { height = h; picture = P; column = hx; row = hy })
-
--- ---- the answers
 module _ (bytes : List ℕ) (w h channels policy : ℕ) (background : Rgba) (x y : Float) where
   abbrev plane : ℤ → ℤ → Rgba
   plane = at bytes w h channels policy background
 
   module _ (code : ℕ) (small : code < 2) where
-    pub single-anywhere : {r : Rgba} {column row : ℤ} → column ≡ first (interpolation code) x → row ≡ first (interpolation code) y → r ≡ plane column row
+    single-anywhere : {r : Rgba} {column row : ℤ} → column ≡ first (interpolation code) x → row ≡ first (interpolation code) y → r ≡ plane column row
         → r ≡ interpolate bytes w h channels policy code background x y
     unfolding interpolate
     single-anywhere ex ey e = e ∙ (λ t. plane (ex t) (ey t)) ∙ sym (single-code plane background x y code small)
@@ -46,7 +32,7 @@ module _ (bytes : List ℕ) (w h channels policy : ℕ) (background : Rgba) (x y
         → r ≡ interpolate bytes w h channels policy code background x y
     single-inside i j hi hj ex ey e = single-anywhere ex ey (e ∙ sym (at-inside bytes w h channels policy background i j hi hj))
 
-  pub bilinear-anywhere : {r : Rgba} {column row : ℤ} {tx ty : Float} → column ≡ floorI64 x → row ≡ floorI64 y → tx ≡ fraction x → ty ≡ fraction y
+  bilinear-anywhere : {r : Rgba} {column row : ℤ} {tx ty : Float} → column ≡ floorI64 x → row ≡ floorI64 y → tx ≡ fraction x → ty ≡ fraction y
       → r ≡ weighted (taps plane (record { column = column; row = row }) 2) (weights Bilinear tx ty) 4 → r ≡ interpolate bytes w h channels policy 5 background x y
   unfolding interpolate interpolation
   bilinear-anywhere ex ey fx fy e = e ∙ (λ t. weighted (taps plane (record { column = ex t; row = ey t }) 2) (weights Bilinear (fx t) (fy t)) 4)

@@ -1,2 +1,0 @@
--- The laws of the ways of three channels.
-pub mod OpaqueCode

@@ -12,6 +12,7 @@ ghost use Rattle.put.specs.Band.{pixelBytes};
 ghost use Rattle.put.specs.Joined.{joined};
 ghost use Rattle.plain.specs.Plain.{Within, Inside, Fractions, Weights, Mixable};
 use corners::four::mixed;
+use pixels::colour::Rgba;
 use pixels::pixel::pixel;
 use stored::store::put_number_pixel;
 
@@ -64,6 +65,34 @@ pub fn weigh(
     }
 }
 
+// `mixed` with the channels as literals, so that the compiler makes a part of the loop of it.
+fn coloured(
+    picture: &[u8],
+    width: u64,
+    height: u64,
+    channels: u64,
+    i: u64,
+    j: u64,
+    a: f32,
+    b: f32,
+    c: f32,
+    d: f32,
+    t: f32,
+) -> Rgba
+    requires { ⌜ Picture (now picture) width height channels ⌝ }
+    requires { ⌜ (channels ≡ 1) ⊎ ((channels ≡ 3) ⊎ (channels ≡ 4)) ⌝ }
+    requires { ⌜ (i + 1 < width) × (j + 1 < height) ⌝ }
+    ensures { λ r. ⌜ r ≡ mixed (now (picture .entry)) width channels i j a b c d t ⌝ }
+{
+    if channels == 4 {
+        return mixed(picture, width, height, 4, i, j, a, b, c, d, t);
+    }
+    if channels == 3 {
+        return mixed(picture, width, height, 3, i, j, a, b, c, d, t);
+    }
+    mixed(picture, width, height, 1, i, j, a, b, c, d, t)
+}
+
 // The colours of n cells at their weights, put from the band's pixel numbered `place` on.
 fn put_plain(
     picture: &[u8],
@@ -95,7 +124,7 @@ fn put_plain(
             band,
             channels,
             place + k as u64,
-            mixed(
+            coloured(
                 picture,
                 width,
                 height,

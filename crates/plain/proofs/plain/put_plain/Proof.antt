@@ -27,20 +27,20 @@ add-put-number-pixel c =
     let e = c .before .before .before .before .before in
     record { fits = omega (arith, place-small (e .args .place) (e .args .n) (e .args .channels) _ (channels-pos _ (e .pre .1 .0)) (e .pre .1 .1 .1 .1 .1), c .before .before .loop .inv .most, e .good .1 .1 .1 .1 .1 .1 .1 .1 .1 .1 .1 .1 .1 .0 .0) }
 
-mixed-requires : tie.Need-mixed-requires Inv-loop μ-loop
-mixed-requires c κs =
+coloured-requires : tie.Need-coloured-requires Inv-loop μ-loop
+coloured-requires c κs =
     let e = c .before .before .before .before .before .before .before .before .before .before .before .before .before .before in
-    (e .pre .0, (rw (c .before .before .before .before .before .before .before .wide .ensures) (e .pre .1 .1 .1 .0 .column _ (search needs)), rw (c .before .before .before .before .before .wide2 .ensures) (e .pre .1 .1 .1 .0 .row _ (search needs))))
+    (e .pre .0, (e .pre .1 .0, (rw (c .before .before .before .before .before .before .before .wide .ensures) (e .pre .1 .1 .1 .0 .column _ (search needs)), rw (c .before .before .before .before .before .wide2 .ensures) (e .pre .1 .1 .1 .0 .row _ (search needs)))))
 
 put-number-pixel-requires : tie.Need-put-number-pixel-requires Inv-loop μ-loop
 put-number-pixel-requires c κs =
     let e = c .before .before .before .before .before .before .before .before .before .before .before .before .before .before .before in
-    ((channels-pos _ (e .pre .1 .0), row-room (e .pre .1 .1 .1 .1 .1) (c .before .before .before .before .before .before .before .before .before .before .before .before .loop .inv) (search needs)), rw (c .mixed .ensures, c .before .before .before .before .before .before .before .before .wide .ensures, c .before .before .before .before .before .before .wide2 .ensures) (e .pre .1 .1 .1 .1 .0 .numbers _ (search needs)))
+    ((channels-pos _ (e .pre .1 .0), row-room (e .pre .1 .1 .1 .1 .1) (c .before .before .before .before .before .before .before .before .before .before .before .before .loop .inv) (search needs)), rw (c .coloured .ensures, c .before .before .before .before .before .before .before .before .wide .ensures, c .before .before .before .before .before .before .wide2 .ensures) (e .pre .1 .1 .1 .1 .0 .numbers _ (search needs)))
 
 loop-again : tie.Need-loop-again Inv-loop μ-loop
 loop-again c =
     row-next (c .before .before .before .before .before .before .before .before .before .before .before .before .before .before .before .before .before .before .pre .1 .1 .1 .1 .1) (c .before .before .before .before .before .before .before .before .before .before .before .before .before .before .before .loop .inv) (c .before .before .before .before .before .before .before .before .before .before .before .before .before .before .before .before .before .before .pre .1 .0) (search needs) refl
-    (c .before .before .put-number-pixel .ensures ∙ rw (c .before .before .before .mixed .ensures, c .before .before .before .before .before .before .before .before .before .before .before .wide .ensures, c .before .before .before .before .before .before .before .before .before .wide2 .ensures))
+    (c .before .before .put-number-pixel .ensures ∙ rw (c .before .before .before .coloured .ensures, c .before .before .before .before .before .before .before .before .before .before .before .wide .ensures, c .before .before .before .before .before .before .before .before .before .wide2 .ensures))
 
 same-length : tie.Need-same-length Inv-loop μ-loop
 same-length c = row-same (c .before .before .before .before .pre .1 .1 .1 .1 .1) (c .before .loop .inv)
@@ -74,7 +74,7 @@ put-plain-spec =
     (λ c. search needs)
     (λ c. search needs)
     (λ c. search needs)
-    mixed-requires
+    coloured-requires
     put-number-pixel-requires
     (λ c. search needs)
     (λ c. search needs)

@@ -12,7 +12,7 @@ use Rattle.number.specs.Floor.{floorI64}
 use Rattle.pixels.specs.At.{at}
 use Rattle.pixels.specs.Pixel.{Picture, widened, pixelAt}
 use Rattle.pixels.specs.declared.colour.Rgba.{Rgba}
-use Rattle.pixels.proofs.AtLaws.{at-inside}
+use Rattle.indexed.proofs.AtLaws.{at-inside}
 use Rattle.pixels.proofs.PixelCode.{room, number-small}
 use Rattle.cell.specs.Cell.{cell, first, fraction}
 use Rattle.cell.specs.Interpolation.{interpolation, Bilinear}

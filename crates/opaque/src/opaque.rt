@@ -17,7 +17,7 @@ use cell::cell::fraction;
 use cell::cell::rounded;
 use corners::four::sums;
 use endian::pattern::bits_of_i64;
-use pixels::at::at;
+use indexed::at::at;
 use pixels::colour::Rgba;
 use pixels::pixel::widened;
 use weighted::weighted::Sums;

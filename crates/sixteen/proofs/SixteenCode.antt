@@ -16,7 +16,7 @@ use Rattle.number.specs.Floor.{floorI64}
 use Rattle.pixels.specs.At.{at}
 use Rattle.pixels.specs.Pixel.{Inside, Picture, widened, pixelAt}
 use Rattle.pixels.specs.declared.colour.Rgba.{Rgba}
-use Rattle.pixels.proofs.AtLaws.{at-inside}
+use Rattle.indexed.proofs.AtLaws.{at-inside}
 use Rattle.pixels.proofs.PixelCode as PixelCode
 use Rattle.pixels.proofs.PixelCode.{room}
 use Rattle.cell.specs.Cell.{Cell, fraction}

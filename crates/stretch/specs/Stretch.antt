@@ -7,7 +7,7 @@ use Prim.Native.Nat.{ℕ, _+_, _<_}
 use lib.IntN.{pos}
 use lib.Ieee.{Float, nan, binary64, ofBits, ofInt}
 use Rattle.exact.specs.Double.{_⊕_}
-use Rattle.matrix.specs.Matrix.{Vector, at}
+use Rattle.matrix.specs.Matrix.{at}
 use Rattle.point.specs.declared.point.Point.{Point}
 use Rattle.point.specs.Point.{usable}
 

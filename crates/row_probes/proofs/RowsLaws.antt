@@ -19,8 +19,8 @@ use Rattle.point.specs.Point.{point, none}
 use Rattle.inverse.specs.Inverse.{inverse}
 use Rattle.window.specs.Span.{goodOffset}
 use Rattle.points.specs.Points.{Kept, Points}
 use Rattle.point_probes.specs.Pointed.{putPoint}
-use Rattle.point_probes.specs.Rows.{shown, putKept, putColumn, wrongRows}
+use Rattle.row_probes.specs.Rows.{shown, putKept, putColumn, wrongRows}
 
 or-false : (a b : Bool) → (a || b) ≡ false → (a ≡ false) × (b ≡ false)
 or-false true b h = absurd (true≢false h)

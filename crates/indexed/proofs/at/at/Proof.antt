@@ -1,14 +1,14 @@
--- `pixels::at::at` meets its contract: where the bits of both indexes are below the sizes, the pixel is the picture's own; elsewhere what is named lies
+-- `indexed::at::at` meets its contract: where the bits of both indexes are below the sizes, the pixel is the picture's own; elsewhere what is named lies
 -- inside, and its samples are the answer. Assumes nothing.
 use mathlib.Core.Path.{sym, _∙_}
 use mir.Facts.{toZ-ofZ}
 use borrow.Author.Tests.{ltb-true}
 use Rattle.pixels.specs.At.{at}
-use Rattle.pixels.proofs.AtLaws.{at-inside, named-held}
+use Rattle.indexed.proofs.AtLaws.{at-inside, named-held}
 use Rattle.policies.proofs.IndexCode.{argument, bits-inside}
 use borrow.Author.Needs.{needs}
-use Rattle.pixels.proofs.at.at.Statement.{statement}
-use Rattle.pixels.proofs.at.at.Tie as tie
+use Rattle.indexed.proofs.at.at.Statement.{statement}
+use Rattle.indexed.proofs.at.at.Tie as tie
 
 bits-of-i64-requires : tie.Need-bits-of-i64-requires
 bits-of-i64-requires c κs = search needs

@@ -6,12 +6,12 @@ ghost use lib.IntN.{natAbs};
 ghost use lib.ListN.{length};
 ghost use Rattle.exact.specs.Loop.{upTo};
 ghost use Rattle.point.specs.Point as Points;
 ghost use Rattle.point_probes.specs.Pointed.{putPoint};
-ghost use Rattle.point_probes.specs.Rows.{shown, putKept, putColumn, putRow, wrongRows, probeRows};
-use crate::pointed::put_point;
+ghost use Rattle.row_probes.specs.Rows.{shown, putKept, putColumn, putRow, wrongRows, probeRows};
 use fit_probes::sized::sized_fit;
 use point::usable::none;
 use point::usable::point;
+use point_probes::pointed::put_point;
 use points::points::points;
 use window::span::good_offset;
 

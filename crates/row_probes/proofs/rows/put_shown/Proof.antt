@@ -1,10 +1,10 @@
--- `point_probes::rows::put_shown` meets its contract, by its one test. Assumes nothing.
+-- `row_probes::rows::put_shown` meets its contract, by its one test. Assumes nothing.
 use mathlib.Core.Path.{ap, _∙_}
 use borrow.Author.Needs.{needs}
 use Rattle.point_probes.specs.Pointed.{putPoint}
-use Rattle.point_probes.proofs.RowsLaws.{shown-in, shown-out}
-use Rattle.point_probes.proofs.rows.put_shown.Statement.{statement}
-use Rattle.point_probes.proofs.rows.put_shown.Tie as tie
+use Rattle.row_probes.proofs.RowsLaws.{shown-in, shown-out}
+use Rattle.row_probes.proofs.rows.put_shown.Statement.{statement}
+use Rattle.row_probes.proofs.rows.put_shown.Tie as tie
 
 returns : tie.Need-returns
 returns c = c .before .before .put-point .ensures ∙ ap (putPoint _ _) (shown-in (c .before .before .before .before .before .point .ensures) (c .before .before .before .before .if1 .taken))

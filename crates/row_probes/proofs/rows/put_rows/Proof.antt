@@ -1,4 +1,4 @@
--- `point_probes::rows::put_rows` meets its contract. The loop's invariant: r rows are written, and the bytes are as many as before. Assumes nothing.
+-- `row_probes::rows::put_rows` meets its contract. The loop's invariant: r rows are written, and the bytes are as many as before. Assumes nothing.
 use mathlib.Core.Path.{_≡_, _∙_}
 use Prim.Native.Nat.{ℕ, _+_, _-_, _*_, _≤_, _<_}
 use native.Mathlib.Nat.{mul-le-mul-right, lt-of-le-of-lt}
@@ -11,10 +11,10 @@ use mir.ValLaws.{toZ-ofZ}
 use borrow.Author.Needs.{needs}
 use Rattle.exact.proofs.Loop.{upTo-none, upTo-next, upTo-last}
 use Rattle.exact.specs.Loop.{upTo}
-use Rattle.point_probes.specs.Rows.{putRow}
-use Rattle.point_probes.proofs.RowsLaws.{product}
-use Rattle.point_probes.proofs.rows.put_rows.Statement.{statement}
-use Rattle.point_probes.proofs.rows.put_rows.Tie as tie
+use Rattle.row_probes.specs.Rows.{putRow}
+use Rattle.row_probes.proofs.RowsLaws.{product}
+use Rattle.row_probes.proofs.rows.put_rows.Statement.{statement}
+use Rattle.row_probes.proofs.rows.put_rows.Tie as tie
 
 abbrev Inv-loop : tie.InvT-loop
 Inv-loop out₀ kind order count coef x y width first rows r₀ out r =

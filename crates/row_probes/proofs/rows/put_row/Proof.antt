@@ -1,4 +1,4 @@
--- `point_probes::rows::put_row` meets its contract. The loop's invariant: the columns before i are written, and the bytes are as many as before.
+-- `row_probes::rows::put_row` meets its contract. The loop's invariant: the columns before i are written, and the bytes are as many as before.
 -- Assumes nothing.
 use mathlib.Core.Path.{_≡_, _∙_}
 use Prim.Native.Nat.{ℕ, _+_, _-_, _*_, _≤_}
@@ -11,10 +11,10 @@ use mir.ValLaws.{toZ-ofZ}
 use borrow.Author.Needs.{needs}
 use Rattle.exact.proofs.Loop.{upTo-none, upTo-last}
 use Rattle.exact.specs.Loop.{upTo}
-use Rattle.point_probes.specs.Rows.{putColumn}
-use Rattle.point_probes.proofs.RowsLaws.{row-more}
-use Rattle.point_probes.proofs.rows.put_row.Statement.{statement}
-use Rattle.point_probes.proofs.rows.put_row.Tie as tie
+use Rattle.row_probes.specs.Rows.{putColumn}
+use Rattle.row_probes.proofs.RowsLaws.{row-more}
+use Rattle.row_probes.proofs.rows.put_row.Statement.{statement}
+use Rattle.row_probes.proofs.rows.put_row.Tie as tie
 
 abbrev Inv-loop : tie.InvT-loop
 Inv-loop out₀ kind order count coef x y width j place i₀ out i =

@@ -1,7 +1,7 @@
--- `pixels::at::samples` meets its contract: each arm knows which constructor was named. Assumes nothing.
+-- `indexed::at::samples` meets its contract: each arm knows which constructor was named. Assumes nothing.
 use borrow.Author.Needs.{needs}
-use Rattle.pixels.proofs.at.samples.Statement.{statement}
-use Rattle.pixels.proofs.at.samples.Tie as tie
+use Rattle.indexed.proofs.at.samples.Statement.{statement}
+use Rattle.indexed.proofs.at.samples.Tie as tie
 
 enum-known-t : tie.Need-enum-known-t
 enum-known-t c = search needs

@@ -1,4 +1,4 @@
--- `point_probes::rows::probe_rows` meets its contract: each way out is the case of the definition that its tests took. Assumes nothing.
+-- `row_probes::rows::probe_rows` meets its contract: each way out is the case of the definition that its tests took. Assumes nothing.
 use mathlib.Core.Path.{_≡_, sym, _∙_}
 use mathlib.Core.Bool.{Bool}
 use Prim.Native.Nat.{ℕ}
@@ -7,10 +7,10 @@ use mir.Syntax.{w64}
 use mir.ValLaws.{toZ-ofZ}
 use borrow.Author.Tests.{eq-eqb, ne-eqb}
 use borrow.Author.Needs.{needs}
-use Rattle.point_probes.specs.Rows.{wrongRows, rowsOf, probeRows}
-use Rattle.point_probes.proofs.RowsLaws.{right}
-use Rattle.point_probes.proofs.rows.probe_rows.Statement.{statement}
-use Rattle.point_probes.proofs.rows.probe_rows.Tie as tie
+use Rattle.row_probes.specs.Rows.{wrongRows, rowsOf, probeRows}
+use Rattle.row_probes.proofs.RowsLaws.{right}
+use Rattle.row_probes.proofs.rows.probe_rows.Statement.{statement}
+use Rattle.row_probes.proofs.rows.probe_rows.Tie as tie
 
 -- the answer of `wrong_rows`, of the numbers themselves
 read : {b t : Bool} (width first rows out : ℕ) {x y : ℤ} (z w : ℤ) → b ≡ wrongRows width z w first rows out → z ≡ x → w ≡ y → b ≡ t → wrongRows width x y first rows out ≡ t

@@ -1,4 +1,4 @@
--- `point_probes::rows::wrong_rows` meets its contract: each way out is the definition's first test that holds, or its last (`RowsLaws.antt`). Assumes nothing.
+-- `row_probes::rows::wrong_rows` meets its contract: each way out is the definition's first test that holds, or its last (`RowsLaws.antt`). Assumes nothing.
 use mathlib.Core.Path.{_≡_, sym, ap, _∙_}
 use mathlib.Core.Bool.{Bool}
 use Prim.Native.Nat.{_≤_}
@@ -9,9 +9,9 @@ use mir.ValLaws.{toZ-ofZ}
 use borrow.Author.Needs.{needs}
 use borrow.Author.Tests.{not-true, not-false}
 use Rattle.window.specs.Span.{goodOffset}
-use Rattle.point_probes.proofs.RowsLaws.{sized, product, wrong-sides, wrong-across, wrong-down, wrong-ends}
-use Rattle.point_probes.proofs.rows.wrong_rows.Statement.{statement}
-use Rattle.point_probes.proofs.rows.wrong_rows.Tie as tie
+use Rattle.row_probes.proofs.RowsLaws.{sized, product, wrong-sides, wrong-across, wrong-down, wrong-ends}
+use Rattle.row_probes.proofs.rows.wrong_rows.Statement.{statement}
+use Rattle.row_probes.proofs.rows.wrong_rows.Tie as tie
 
 -- the answer of `good_offset`, of the number itself
 across : {b t : Bool} (z w : ℤ) → b ≡ goodOffset z → z ≡ w → b ≡ t → goodOffset w ≡ t

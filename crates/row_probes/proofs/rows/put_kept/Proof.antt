@@ -1,4 +1,4 @@
--- `point_probes::rows::put_kept` meets its contract. The loop's invariant: the columns before i are written, and the bytes are as many as before.
+-- `row_probes::rows::put_kept` meets its contract. The loop's invariant: the columns before i are written, and the bytes are as many as before.
 -- Assumes nothing.
 use mathlib.Core.Path.{_≡_, _∙_}
 use Prim.Native.Nat.{_+_, _-_, _≤_}
@@ -6,9 +6,9 @@ use lib.ListN.{length}
 use borrow.Author.Needs.{needs}
 use Rattle.exact.proofs.Loop.{upTo-none, upTo-next, upTo-last}
 use Rattle.exact.specs.Loop.{upTo}
-use Rattle.point_probes.specs.Rows.{putKept}
-use Rattle.point_probes.proofs.rows.put_kept.Statement.{statement}
-use Rattle.point_probes.proofs.rows.put_kept.Tie as tie
+use Rattle.row_probes.specs.Rows.{putKept}
+use Rattle.row_probes.proofs.rows.put_kept.Statement.{statement}
+use Rattle.row_probes.proofs.rows.put_kept.Tie as tie
 
 abbrev Inv-loop : tie.InvT-loop
 Inv-loop us vs first n place out₀ i₀ i-end out i = (out ≡ upTo (putKept us vs first place) first i out₀) × ((length out ≡ length out₀) × ((first ≤ i) × (i ≤ first + n)))

@@ -1,11 +1,11 @@
--- `point_probes::rows::put_stretch` meets its contract: what is kept of the points is written as they are (`RowsLaws.antt`). Assumes nothing.
+-- `row_probes::rows::put_stretch` meets its contract: what is kept of the points is written as they are (`RowsLaws.antt`). Assumes nothing.
 use mathlib.Core.Path.{_∙_}
 use mir.Syntax.{w64}
 use mir.ValLaws.{toZ-ofZ}
 use borrow.Author.Needs.{needs}
-use Rattle.point_probes.proofs.RowsLaws.{points-at, stretch-is}
-use Rattle.point_probes.proofs.rows.put_stretch.Statement.{statement}
-use Rattle.point_probes.proofs.rows.put_stretch.Tie as tie
+use Rattle.row_probes.proofs.RowsLaws.{points-at, stretch-is}
+use Rattle.row_probes.proofs.rows.put_stretch.Statement.{statement}
+use Rattle.row_probes.proofs.rows.put_stretch.Tie as tie
 
 returns : tie.Need-returns
 returns c =

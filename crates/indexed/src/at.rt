@@ -1,12 +1,12 @@
 // The pixel at an integer index, virtual outside. Assumes that the bytes are a picture's.
 ghost use mathlib.Core.Path.{_≡_};
 ghost use Rattle.pixels.specs.At as At;
 ghost use Rattle.pixels.specs.At.{Held};
 ghost use Rattle.pixels.specs.Pixel.{Picture};
-use crate::colour::Rgba;
-use crate::colour::grey;
-use crate::pixel::pixel;
 use endian::pattern::bits_of_i64;
+use pixels::colour::Rgba;
+use pixels::colour::grey;
+use pixels::pixel::pixel;
 use policies::named::Tap;
 use policies::named::named;
 

@@ -12,7 +12,7 @@ use Rattle.point.specs.declared.point.Point.{Point}
 use Rattle.mappings.specs.Mapping.{affineKind, perspectiveKind, bilinearForwardKind, barrelKind, barrelInverseKind}
 use Rattle.forward.specs.Forward.{bilinearForward}
 use Rattle.inverse.specs.Affine.{affine}
-use Rattle.inverse.specs.Perspective.{wq, perspective}
+use Rattle.perspective.specs.Perspective.{wq, perspective}
 use Rattle.inverse.specs.Barrel.{barrel, barrelInverse}
 use Rattle.inverse.specs.Inverse.{inverse}
 use Rattle.stretch.specs.Stretch.{Kept, middle, unless, Stretch}

@@ -8,7 +8,7 @@ ghost use lib.Ieee.{Float};
 ghost use Rattle.mappings.specs.Mapping.{barrelKind, barrelInverseKind};
 ghost use Rattle.forward.specs.Forward.{bilinearForward};
 ghost use Rattle.inverse.specs.Affine.{affine};
-ghost use Rattle.inverse.specs.Perspective.{perspective};
+ghost use Rattle.perspective.specs.Perspective.{perspective};
 ghost use Rattle.inverse.specs.Inverse.{inverse};
 ghost use Rattle.stretch.specs.Stretch.{Stretch};
 ghost use Rattle.points.specs.Points.{Points};

@@ -1,6 +1,6 @@
 -- `points::points::perspective_points` meets its contract. The loop's invariant: the first k points are kept. Assumes nothing.
 use lib.Ieee.{Float}
-use Rattle.inverse.specs.Perspective.{perspective}
+use Rattle.perspective.specs.Perspective.{perspective}
 use Rattle.stretch.proofs.KeptLaws.{Filling, fill-none, fill-more, fill-last}
 use Rattle.points.proofs.PointsLaws.{kept-perspective}
 use Prim.Native.Nat.{_-_, _≤_}

@@ -86,7 +86,7 @@ fn clear_column(a: &mut [[f64; 21]; 21], b: &mut [f64; 21], col: usize, n: usize
 }
 
 // Every column in turn; false at the first whose pivot is too small, with the equations left as they are there.
-pub(crate) fn eliminate(a: &mut [[f64; 21]; 21], b: &mut [f64; 21], n: usize) -> bool
+pub fn eliminate(a: &mut [[f64; 21]; 21], b: &mut [f64; 21], n: usize) -> bool
     requires { ⌜ n ≤ 21 ⌝ }
     ensures { λ r. ⌜ outcome r (now (a .exit), now (b .exit)) ≡ eliminated n (now (a .entry), now (b .entry)) ⌝ }
 {

@@ -3,11 +3,12 @@
 use std::env;
 use std::path::PathBuf;
 
-const ARCHIVES: [&str; 7] = [
+const ARCHIVES: [&str; 8] = [
     "number_probes",
     "fit_probes",
     "window_probes",
     "point_probes",
+    "row_probes",
     "cubic_probes",
     "probes",
     "sample_probes",

@@ -8,7 +8,7 @@ use Rattle.number.specs.Floor.{floorI64}
 use Rattle.pixels.specs.At.{at}
 use Rattle.pixels.specs.Pixel.{pixelAt}
 use Rattle.pixels.specs.declared.colour.Rgba.{Rgba}
-use Rattle.pixels.proofs.AtLaws.{at-inside}
+use Rattle.indexed.proofs.AtLaws.{at-inside}
 use Rattle.cell.specs.Cell.{cell, first, fraction}
 use Rattle.cell.specs.Interpolation.{interpolation, Bilinear}
 use Rattle.taps.specs.Taps.{taps}

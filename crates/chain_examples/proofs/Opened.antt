@@ -11,7 +11,7 @@ use Rattle.arguments.specs.Refusal as Arguments
 use Rattle.arguments.specs.Store as Store
 use Rattle.fit.specs.Affine as Affine
 use Rattle.build.specs.Build as Build
-use Rattle.solve.specs.Eliminate as Eliminate
+use Rattle.eliminate.specs.Eliminate as Eliminate
 use Rattle.fit.specs.Fit as Fit
 use Rattle.matrix.specs.Invert as Invert
 use Rattle.mappings.specs.Mapping as Mappings
@@ -22,7 +22,7 @@ use Rattle.fit.specs.Perspective as Perspective
 use Rattle.fit.specs.Polynomial as Polynomial
 use Rattle.solve.specs.Solve as Solve
 use Rattle.inverse.specs.Inverse as Inverse
-use Rattle.inverse.specs.Perspective as Perspectives
+use Rattle.perspective.specs.Perspective as Perspectives
 use Rattle.point.specs.Point as Point
 use Rattle.inverse.specs.Polynomial as Polynomials
 use Rattle.window.specs.Span as Span

@@ -1,4 +1,3 @@
 -- The laws of the source points, a file for each subject. Other crates cite those of MarkLaws.
-pub mod ShepardsLaws
 pub mod PolynomialLaws
 pub mod BarrelExample

@@ -8,11 +8,11 @@ use Rattle.mappings.specs.Mapping.{affineKind, perspectiveKind, polyKind, bilin
 use Rattle.point.specs.declared.point.Point.{Point}
 use Rattle.point.specs.Point.{none}
 use Rattle.inverse.specs.Affine.{affine}
-use Rattle.inverse.specs.Perspective.{perspective}
+use Rattle.perspective.specs.Perspective.{perspective}
 use Rattle.inverse.specs.Polynomial.{polynomial}
 use Rattle.forward.specs.Forward.{bilinearForward}
 use Rattle.inverse.specs.Barrel.{barrel, barrelInverse}
-use Rattle.inverse.specs.Shepards.{shepards}
+use Rattle.shepards.specs.Shepards.{shepards}
 
 unfoldable pub inverse : ℕ → ℕ → ℕ → Vector → Float → Float → Point
 inverse kind order count coef x y =

@@ -1,7 +1,5 @@
 -- The definitions of the source points, each method's.
 pub mod Affine
-pub mod Perspective
 pub mod Polynomial
 pub mod Barrel
-pub mod Shepards
 pub mod Inverse

@@ -2,7 +2,5 @@
 // of its types, NaN and infinities included.
 pub mod affine;
 pub mod barrel;
-pub mod perspective;
 pub mod polynomial;
-pub mod shepards;
 pub mod source;

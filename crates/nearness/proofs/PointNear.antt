@@ -23,7 +23,7 @@ use Rattle.equations.specs.Monomials.{monomials}
 use Rattle.point.specs.declared.point.Point.{Point}
 use Rattle.point.specs.Point.{point, none}
 use Rattle.inverse.specs.Affine.{affine}
-use Rattle.inverse.specs.Perspective.{perspective}
+use Rattle.perspective.specs.Perspective.{perspective}
 use Rattle.inverse.specs.Polynomial.{dot, dots, ofU, ofV, polynomial}
 use Rattle.inverse.specs.Inverse.{inverse}
 use Rattle.nearness.specs.ExactPoint.{sumU, sumV, denominator, monomialsF, powerAt, many, polyF, exactPoint}

@@ -1,4 +1,3 @@
 -- The laws of pixels, a file for each subject.
-pub mod AtLaws
 pub mod LimitedLaws
 pub mod PixelCode

@@ -1,5 +1,3 @@
-// Pixels in bytes: the colour at an index, virtual outside. Pictures are lent bytes, little-endian f32 samples row by
-// row, and nothing is converted up front.
-pub mod at;
+// Pixels in bytes. Pictures are lent bytes, little-endian f32 samples row by row, and nothing is converted up front.
 pub mod colour;
 pub mod pixel;

@@ -1,3 +1,2 @@
 -- The laws of the probes.
 pub mod PointsLaws
-pub mod RowsLaws

@@ -1,4 +1,3 @@
 -- What the probes answer.
 pub mod Pointed
 pub mod Points
-pub mod Rows

@@ -2,4 +2,3 @@
 // bits; a NaN comes out as 0x7ff8000000000000. No product links it.
 pub mod many;
 pub mod pointed;
-pub mod rows;

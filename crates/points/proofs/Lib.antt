@@ -1,4 +1,3 @@
 -- The laws of the points of a stretch, a file for each subject.
-pub mod BarrelLaws
 pub mod MarkLaws
 pub mod PointsLaws

@@ -15,16 +15,14 @@ use Rattle.mappings.specs.Mapping.{affineKind, perspectiveKind, polyKind, bilin
 use Rattle.point.specs.declared.point.Point.{Point}
 use Rattle.point.specs.Point.{usable, point, none}
 use Rattle.inverse.specs.Affine.{affine}
-use Rattle.inverse.specs.Perspective.{wq, perspective}
+use Rattle.perspective.specs.Perspective.{wq, perspective}
 use Rattle.inverse.specs.Polynomial.{polynomial}
 use Rattle.point.specs.Course.{Course, on, out, turn, ended}
 use Rattle.forward.specs.Forward.{det, du, dv, newton, newtonTurn, bilinearForward}
 use Rattle.inverse.specs.Barrel.{across, down, factor, scaled, barrelInverse}
-use Rattle.inverse.specs.Shepards.{Sums, d2, addPair, pairTurn, zeroSums, shift, ofPairs, pairsOf}
+use Rattle.shepards.specs.Shepards.{Sums, d2, addPair, pairTurn, zeroSums, shift, ofPairs, pairsOf}
 use Rattle.inverse.specs.Inverse.{inverse}
-
-pub record Marked (p : Point) : Type 0 where
-  pub means : p .usable ≡ true → usable (p .u) (p .v) ≡ true
+use Rattle.stretch.proofs.KeptLaws.{Marked}
 
 either : {A : Type 0} (P : A → Type 0) (t : Bool) {x y : A} → P x → P y → P (cond t x y)
 either P true p q = p

@@ -1,3 +1,2 @@
--- The definitions of the points of a stretch (Points), and of the steps to those of the barrels (Barrels).
-pub mod Barrels
+-- The definition of the points of a stretch.
 pub mod Points

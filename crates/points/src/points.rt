@@ -8,16 +8,12 @@ ghost use lib.Ieee.{Float};
 ghost use Rattle.mappings.specs.Mapping.{barrelKind, barrelInverseKind};
 ghost use Rattle.forward.specs.Forward.{bilinearForward};
 ghost use Rattle.inverse.specs.Affine.{affine};
-ghost use Rattle.inverse.specs.Perspective.{perspective};
+ghost use Rattle.perspective.specs.Perspective.{perspective};
 ghost use Rattle.inverse.specs.Inverse.{inverse};
-ghost use Rattle.points.specs.Points.{Stretch, Points};
-use crate::barrels::barrel_inverse_points;
-use crate::barrels::barrel_points;
-use crate::mark::unless;
-use crate::pixel::asked;
-use crate::pixel::middle;
-use crate::pixel::offset;
-use crate::sized::sized;
+ghost use Rattle.stretch.specs.Stretch.{Stretch};
+ghost use Rattle.points.specs.Points.{Points};
+use barrels::barrels::barrel_inverse_points;
+use barrels::barrels::barrel_points;
 use forward::forward::bilinear_forward;
 use inverse::source::inverse;
 use mappings::mapping::AFFINE;
@@ -25,6 +21,11 @@ use mappings::mapping::BARREL;
 use mappings::mapping::BARREL_INVERSE;
 use mappings::mapping::BILINEAR_FORWARD;
 use mappings::mapping::PERSPECTIVE;
+use stretch::mark::unless;
+use stretch::pixel::asked;
+use stretch::pixel::middle;
+use stretch::pixel::offset;
+use stretch::sized::sized;
 
 fn affine_points(
     coef: &[f64; 256],

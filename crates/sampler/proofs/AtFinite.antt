@@ -26,7 +26,7 @@ use Rattle.sampler.specs.Finite.{BoundedPicture, FitsBy}
 use Rattle.pixels.specs.Pixel.{Picture, widened, pixelAt}
 use Rattle.weighted.specs.Weighted.{Bounded, BoundedBy}
 use Rattle.pixels.specs.declared.colour.Rgba.{Rgba}
-use Rattle.pixels.proofs.AtLaws.{at-keep}
+use Rattle.indexed.proofs.AtLaws.{at-keep}
 use Rattle.pixels.proofs.PixelCode.{number-lt}
 use Rattle.cubic.proofs.Sizes.{abs-magnitude}
 

@@ -24,7 +24,7 @@ use Rattle.weighted.specs.Weighted.{Opaque}
 use Rattle.pixels.specs.declared.colour.Rgba.{Rgba}
 use Rattle.policies.specs.declared.named.Tap.{Tap}
 use Rattle.policies.specs.declared.named.Tap.the-variants as Tap
-use Rattle.pixels.proofs.AtLaws.{Solid, at-keep}
+use Rattle.indexed.proofs.AtLaws.{Solid, at-keep}
 use Rattle.pixels.proofs.PixelCode.{number-lt}
 
 -- ---- what is named is not the clear colour

@@ -11,7 +11,7 @@ use crate::apart::apart;
 use blend::bilinear::bilinear;
 use blend::square::several;
 use cell::cell::first;
-use pixels::at::at;
+use indexed::at::at;
 use pixels::colour::Rgba;
 use sixteen::sixteen::cubic;
 

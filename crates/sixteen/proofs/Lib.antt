@@ -1,2 +1,2 @@
--- The laws of the sums over sixteen taps.
+-- The laws of `Catrom` and `Spline`.
 pub mod SixteenCode

@@ -1,29 +1,11 @@
--- What `Catrom` and `Spline` weigh along one side, the pixels of a picture by index, and the sums over a row of four of them. Assumes nothing.
-use Prim.Native.Nat.{ℕ, _+_, _*_}
+-- What `Catrom` and `Spline` weigh along one side. Assumes nothing.
+use Prim.Native.Nat.{ℕ}
 use mathlib.Core.Bool.{cond}
 use mathlib.Core.List.{List}
 use lib.Dec.{eqb}
-use lib.Signed.{mag}
 use lib.Ieee.{Float}
 use Rattle.cubic.specs.Cubic.{catrom, spline}
-use Rattle.exact.specs.Single.{_⊗_}
-use Rattle.pixels.specs.Pixel.{widened, pixelAt}
-use Rattle.taps.specs.Taps.{Plane}
-use Rattle.weighted.specs.Weighted.{added, weightAt}
-use Rattle.weighted.specs.declared.weighted.Sums.{Sums}
 
 -- by the interpolation's code: 6 is `Catrom`, 7 is `Spline`
 unfoldable pub kernel : ℕ → Float → List Float
 kernel code t = cond (eqb code 6) (catrom t) (spline t)
-
--- the picture's own pixels, for indexes inside
-abbrev pub own : List ℕ → ℕ → ℕ → Plane
-own bytes width channels x y = pixelAt bytes width channels (mag x) (mag y)
-
--- the sums with a row of four taps added, whose samples are numbered from k on
-unfoldable pub lineSums : List ℕ → ℕ → ℕ → List Float → Float → Sums → Sums
-lineSums bytes channels k wx v s =
-    added (widened bytes channels (k + 3 * channels)) (weightAt wx 3 ⊗ v)
-    (added (widened bytes channels (k + 2 * channels)) (weightAt wx 2 ⊗ v)
-    (added (widened bytes channels (k + channels)) (weightAt wx 1 ⊗ v)
-    (added (widened bytes channels k) (weightAt wx 0 ⊗ v) s)))

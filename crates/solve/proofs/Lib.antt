@@ -1,5 +1,4 @@
 -- The laws of the definitions, each file under its subject.
-pub mod EliminateLaws
 pub mod SolveLaws
 pub mod NormalLaws
 pub mod ShapeLaws

@@ -13,7 +13,7 @@ use lib.Ieee.{Float, nan}
 use borrow.Author.Tests.{eqb-true, eqb-false}
 use Rattle.exact.proofs.Loop.{upTo-keep, downTo-keep}
 use Rattle.matrix.specs.Matrix.{Vector, Matrix, System, at, rowAt, put, nought, zeros, zeroMatrix}
-use Rattle.solve.specs.Eliminate.{eliminated}
+use Rattle.eliminate.specs.Eliminate.{eliminated}
 use Rattle.solve.specs.Solve.{substitute, substituted, answer, solved}
 use Rattle.solve.specs.Normal.{addProduct, addTerm, addRow, normal}
 

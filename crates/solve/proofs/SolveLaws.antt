@@ -4,7 +4,7 @@ use mathlib.Core.Bool.{Bool, true, false}
 use Prim.Native.Nat.{ℕ}
 use Rattle.solve.specs.declared.solve.Solution.{Solution}
 use Rattle.matrix.specs.Matrix.{Vector, System, zeros}
-use Rattle.solve.specs.Eliminate.{outcome, eliminated}
+use Rattle.eliminate.specs.Eliminate.{outcome, eliminated}
 use Rattle.solve.specs.Solve.{substituted, answer, solved}
 
 pub solved-none : (n : ℕ) (r : Bool) (s t : System) → r ≡ false → outcome r t ≡ eliminated n s → _≡_ {A = Solution} (record { found = false; x = zeros }) (solved n s)

@@ -8,7 +8,7 @@ use Rattle.exact.specs.Double.{_⊕_, _⊖_, _⊗_, _⊘_}
 use Rattle.exact.specs.Loop.{upTo, downTo}
 use Rattle.solve.specs.declared.solve.Solution.{Solution}
 use Rattle.matrix.specs.Matrix.{Vector, Matrix, System, at, entry, nought, zeros}
-use Rattle.solve.specs.Eliminate.{eliminated}
+use Rattle.eliminate.specs.Eliminate.{eliminated}
 
 -- ---- substitution: x[i] = (b[i] - sum of a[i][k] * x[k] for k above i) / a[i][i]
 

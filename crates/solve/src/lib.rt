@@ -1,4 +1,3 @@
-// Linear equations: the normal equations of rows, elimination, the solution.
-pub mod eliminate;
+// Linear equations: the normal equations of rows, and their solution.
 pub mod normal;
 pub mod solve;

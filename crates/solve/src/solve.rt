@@ -2,7 +2,7 @@
 ghost use mathlib.Core.Path.{_≡_};
 ghost use Prim.Native.Nat.{_<_, _≤_};
 ghost use Rattle.solve.specs.Solve.{known, substituted, solved};
-use crate::eliminate::eliminate;
+use eliminate::eliminate::eliminate;
 
 pub struct Solution {
     pub found: bool,

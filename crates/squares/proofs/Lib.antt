@@ -1,2 +1,2 @@
 -- The laws of the weights of a stretch.
-pub mod KernelLaws
+pub mod SquareLaws

@@ -1,2 +1,2 @@
--- The definitions of the weights of a stretch.
-pub mod Kernels
+-- The definitions of the squares of a stretch.
+pub mod Squares

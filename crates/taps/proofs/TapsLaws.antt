@@ -23,7 +23,7 @@ use Rattle.weighted.specs.Weighted.{nothing, added, mean, tapAt, weightAt, summ
 use Rattle.taps.specs.Weights.{corners, weights}
 use Rattle.pixels.specs.declared.colour.Rgba.{Rgba}
 use Rattle.weighted.specs.declared.weighted.Sums.{Sums}
-use Rattle.pixels.proofs.AtLaws.{at-inside}
+use Rattle.indexed.proofs.AtLaws.{at-inside}
 use Rattle.weighted.proofs.WeightedOpaque.{summed-four}
 
 pub sixteen-at : {A : Type 0} (f : ℕ → A) (d : A) (k : ℕ) → k < 16 → getD (sixteen f) k d ≡ f k

@@ -9,7 +9,7 @@ ghost use Rattle.cell.specs.Interpolation.{interpolation};
 ghost use Rattle.pixels.specs.Pixel.{Picture};
 ghost use Rattle.taps.specs.Taps.{side};
 use endian::pattern::bits_of_i64;
-use pixels::at::samples;
+use indexed::at::samples;
 use pixels::colour::Rgba;
 use pixels::pixel::pixel;
 use policies::named::named;

@@ -1,7 +1,7 @@
 -- `points::points::affine_points` meets its contract. The loop's invariant: the first k points are kept. Assumes nothing.
 use lib.Ieee.{Float}
 use Rattle.inverse.specs.Affine.{affine}
-use Rattle.points.proofs.PointsLaws.{kept-point, Filling, fill-none, fill-more, fill-last}
+use Rattle.stretch.proofs.KeptLaws.{kept-point, Filling, fill-none, fill-more, fill-last}
 use Prim.Native.Nat.{_-_, _≤_}
 use borrow.Author.Needs.{needs}
 use Rattle.points.proofs.points.affine_points.Statement.{statement}

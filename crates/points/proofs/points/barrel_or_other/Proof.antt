@@ -1,6 +1,6 @@
 -- `points::points::barrel_or_other` meets its contract: either way out is a stretch of the kind's points. Assumes nothing.
 use borrow.Author.Needs.{needs}
-use Rattle.points.proofs.BarrelLaws.{of-barrel}
+use Rattle.points.proofs.PointsLaws.{of-barrel}
 use Rattle.points.proofs.points.barrel_or_other.Statement.{statement}
 use Rattle.points.proofs.points.barrel_or_other.Tie as tie
 

@@ -1,7 +1,8 @@
 -- `points::points::other_points` meets its contract. The loop's invariant: the first k points are kept. Assumes nothing.
 use lib.Ieee.{Float}
 use Rattle.inverse.specs.Inverse.{inverse}
-use Rattle.points.proofs.PointsLaws.{kept-marked, Filling, fill-none, fill-more, fill-last}
+use Rattle.stretch.proofs.KeptLaws.{Filling, fill-none, fill-more, fill-last}
+use Rattle.points.proofs.PointsLaws.{kept-marked}
 use Prim.Native.Nat.{_-_, _≤_}
 use borrow.Author.Needs.{needs}
 use Rattle.points.proofs.points.other_points.Statement.{statement}

@@ -1,7 +1,7 @@
 -- `put::pixel::put_one` meets its contract: one call after the other, and the mark of the source point is its test. Assumes nothing.
 use mathlib.Core.Path.{_∙_, subst⁻¹}
 use borrow.Author.Needs.{needs}
-use Rattle.points.proofs.MarkLaws.{Marked}
+use Rattle.stretch.proofs.KeptLaws.{Marked}
 use Rattle.put.proofs.pixel.put_one.Statement.{statement}
 use Rattle.put.proofs.pixel.put_one.Tie as tie
 

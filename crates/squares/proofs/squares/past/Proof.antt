@@ -3,8 +3,8 @@ use mathlib.Core.Path.{_≡_}
 use mathlib.Core.Bool.{true}
 use Prim.Native.Nat.{_-_, _≤_}
 use borrow.Author.Needs.{needs}
-use Rattle.squares.specs.Kernels.{Past}
-use Rattle.squares.proofs.KernelLaws.{past-none, past-more, past-last}
+use Rattle.squares.specs.Squares.{Past}
+use Rattle.squares.proofs.SquareLaws.{past-none, past-more, past-last}
 use Rattle.squares.proofs.squares.past.Statement.{statement}
 use Rattle.squares.proofs.squares.past.Tie as tie
 

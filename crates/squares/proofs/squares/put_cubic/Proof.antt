@@ -6,7 +6,7 @@ use Prim.Native.Nat.{ℕ, _+_, _*_}
 use borrow.Author.Needs.{needs}
 use lib.ListN.{take, drop}
 use denote.Ref.{now}
-use Rattle.squares.proofs.KernelLaws.{cubic-squares, cubic-mattes, cubic-colours}
+use Rattle.squares.proofs.SquareLaws.{cubic-squares, cubic-mattes, cubic-colours}
 use Rattle.squares.proofs.squares.put_cubic.Statement.{statement}
 use Rattle.squares.proofs.squares.put_cubic.Tie as tie
 

@@ -5,7 +5,8 @@ use native.Mathlib.Nat.{le-antisymm}
 use native.Mathlib.Omega.{arith}
 use borrow.Author.Needs.{needs}
 use lib.ListN.{getD}
-use Rattle.squares.specs.Kernels.{ofFour, squared}
+use Rattle.kernels.specs.Kernels.{ofFour}
+use Rattle.squares.specs.Squares.{squared}
 use Rattle.put.proofs.PixelLaws.{channels-pos}
 use Rattle.put.proofs.RowLaws.{RowHolds, row-start, row-room, row-next, row-done, row-same, place-small}
 use Rattle.squares.proofs.squares.put_squares.Statement.{statement}

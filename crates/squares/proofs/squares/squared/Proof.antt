@@ -2,7 +2,7 @@
 use Prim.Native.Nat.{ℕ, _+_, _-_, _<_}
 use native.Mathlib.Omega.{arith}
 use borrow.Author.Needs.{needs}
-use Rattle.squares.specs.Kernels.{squared}
+use Rattle.squares.specs.Squares.{squared}
 use Rattle.squares.proofs.squares.squared.Statement.{statement}
 use Rattle.squares.proofs.squares.squared.Tie as tie
 

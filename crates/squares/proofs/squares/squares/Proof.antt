@@ -1,7 +1,7 @@
 -- `squares::squares::squares` meets its contract: both lists of cells, and none in the first column or row. Assumes nothing.
 use mathlib.Core.Bool.{false≢true}
 use borrow.Author.Needs.{needs}
-use Rattle.squares.proofs.KernelLaws.{standing}
+use Rattle.squares.proofs.SquareLaws.{standing}
 use Rattle.squares.proofs.squares.squares.Statement.{statement}
 use Rattle.squares.proofs.squares.squares.Tie as tie
 

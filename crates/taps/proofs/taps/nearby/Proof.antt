@@ -2,7 +2,7 @@
 use mathlib.Core.Path.{sym, _∙_}
 use borrow.Author.Tests.{ltb-true}
 use Rattle.pixels.specs.At.{at}
-use Rattle.pixels.proofs.AtLaws.{at-inside, named-held}
+use Rattle.indexed.proofs.AtLaws.{at-inside, named-held}
 use Rattle.policies.proofs.IndexCode.{moved-bits, bits-inside}
 use Rattle.cell.proofs.SignedCode.{small, moved-on}
 use borrow.Author.Needs.{needs}

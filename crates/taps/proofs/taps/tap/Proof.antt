@@ -1,7 +1,7 @@
 -- `taps::taps::tap` meets its contract: both indexes are moved on, and what is named there lies inside. Assumes nothing.
 use mathlib.Core.Path.{_∙_}
 use Rattle.pixels.specs.At.{at}
-use Rattle.pixels.proofs.AtLaws.{named-held}
+use Rattle.indexed.proofs.AtLaws.{named-held}
 use Rattle.cell.proofs.SignedCode.{small, moved-on}
 use borrow.Author.Needs.{needs}
 use Rattle.taps.proofs.taps.tap.Statement.{statement}

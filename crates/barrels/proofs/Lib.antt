@@ -1,0 +1,2 @@
+-- The laws of the barrels' arrays.
+pub mod BarrelLaws

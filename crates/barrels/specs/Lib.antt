@@ -1,0 +1,2 @@
+-- The definitions of the steps to the points of the barrels.
+pub mod Barrels

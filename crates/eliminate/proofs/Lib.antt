@@ -1,0 +1,2 @@
+-- The laws of elimination.
+pub mod EliminateLaws

@@ -1,0 +1,2 @@
+-- The definition of elimination.
+pub mod Eliminate

@@ -1,0 +1,2 @@
+// Elimination, in place.
+pub mod eliminate;

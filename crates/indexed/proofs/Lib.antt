@@ -1,0 +1,2 @@
+-- The laws of the pixel at an index.
+pub mod AtLaws

@@ -1,0 +1,2 @@
+// The pixel at an integer index, virtual outside.
+pub mod at;

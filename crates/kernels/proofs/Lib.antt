@@ -1,0 +1,2 @@
+-- The laws of the weights of a stretch.
+pub mod KernelLaws

@@ -1,0 +1,2 @@
+-- The definition of the weights of a stretch.
+pub mod Kernels

@@ -1,0 +1,2 @@
+// The weights of a stretch's taps by `Catrom` and `Spline`.
+pub mod kernels;

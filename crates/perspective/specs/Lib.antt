@@ -1,0 +1,2 @@
+-- The definition of Perspective's source point.
+pub mod Perspective

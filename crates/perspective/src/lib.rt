@@ -1,0 +1,2 @@
+// The source point of Perspective.
+pub mod perspective;

@@ -1,0 +1,2 @@
+-- The laws of the probe.
+pub mod RowsLaws

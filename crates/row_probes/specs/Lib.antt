@@ -1,0 +1,2 @@
+-- What the probe answers.
+pub mod Rows

@@ -1,0 +1,53 @@
+-- Whole rows of source points handed out by one fit: the refusal's number, or 0 with each point as `Pointed` writes one, row by row. A point that cannot be
+-- used is written as none. A refusal writes nothing. Assumes nothing.
+use Prim.Native.Nat.{ℕ, _+_, _-_, _*_}
+use mathlib.Core.Bool.{Bool, cond, not, _||_}
+use mathlib.Core.List.{List}
+use lib.Dec.{eqb, ltb}
+use lib.IntN.{ℤ}
+use lib.ListN.{length}
+use lib.Ieee.{Float}
+use Rattle.exact.specs.Loop.{upTo}
+use Rattle.exact.specs.Sums.{asked}
+use Rattle.matrix.specs.Matrix.{Vector, at}
+use Rattle.mappings.specs.declared.mapping.Fitted.{Fitted}
+use Rattle.mappings.specs.declared.mapping.Mapping.{Mapping}
+use Rattle.point.specs.declared.point.Point.{Point}
+use Rattle.point.specs.Point.{point, none}
+use Rattle.inverse.specs.Inverse.{inverse}
+use Rattle.window.specs.Span.{goodOffset}
+use Rattle.point_probes.specs.Pointed.{putPoint}
+use Rattle.fit_probes.specs.Sized.{sizedFit}
+
+-- a point, or none where it cannot be used
+abbrev pub shown : Point → Point
+shown p = cond (p .usable) p none
+
+-- column i, by lists of coordinates that start with column `first`; the row's first point is the one numbered `place`
+unfoldable pub putKept : List Float → List Float → ℕ → ℕ → ℕ → List ℕ → List ℕ
+putKept us vs first place i out = putPoint out ((place + i) * 24) (shown (point (at us (i - first)) (at vs (i - first))))
+
+-- column i of row j, of a window at x, y
+unfoldable pub putColumn : ℕ → ℕ → ℕ → Vector → ℤ → ℤ → ℕ → ℕ → ℕ → List ℕ → List ℕ
+putColumn kind order count coef x y j place i out = putPoint out ((place + i) * 24) (shown (inverse kind order count coef (asked i x) (asked j y)))
+
+-- the row numbered r of those from `first` on
+unfoldable pub putRow : ℕ → ℕ → ℕ → Vector → ℤ → ℤ → ℕ → ℕ → ℕ → List ℕ → List ℕ
+putRow kind order count coef x y width first r out = upTo (putColumn kind order count coef x y (first + r) (r * width)) 0 width out
+
+-- beyond the limits of a window, or not 24 bytes for each point
+unfoldable pub wrongRows : ℕ → ℤ → ℤ → ℕ → ℕ → ℕ → Bool
+wrongRows width x y first rows out =
+    (ltb 4096 width || (ltb 4096 first || ltb 4096 rows)) || (not (goodOffset x) || (not (goodOffset y) || (ltb 4096 (first + rows) || not (eqb out (rows * width * 24)))))
+
+abbrev pub putRows : Mapping → ℤ → ℤ → ℕ → ℕ → ℕ → List ℕ → List ℕ
+putRows m x y width first rows out = upTo (putRow (m .kind) (m .order) (m .count) (m .coef) x y width first) 0 rows out
+
+unfoldable pub rowsOf : Fitted → ℕ → ℤ → ℤ → ℕ → ℕ → List ℕ → ℕ × List ℕ
+rowsOf f width x y first rows out =
+    cond (eqb (f .refusal) 0)
+    (cond (wrongRows width x y first rows (length out)) (12, out) (0, putRows (f .mapping) x y width first rows out))
+    (f .refusal, out)
+
+unfoldable pub probeRows : ℕ → List ℕ → ℕ → ℕ → ℤ → ℤ → ℕ → ℕ → List ℕ → ℕ × List ℕ
+probeRows method bytes width height x y first rows out = rowsOf (sizedFit method bytes width height) width x y first rows out

@@ -1,0 +1,201 @@
+// Source points in bytes, whole rows of a window by one fit and worked as the call works them, in stretches: so that what is measured is what the product
+// does. Assumes nothing.
+ghost use mathlib.Core.Path.{_≡_};
+ghost use Prim.Native.Nat.{_+_, _*_, _≤_, _<_};
+ghost use lib.IntN.{natAbs};
+ghost use lib.ListN.{length};
+ghost use Rattle.exact.specs.Loop.{upTo};
+ghost use Rattle.point.specs.Point as Points;
+ghost use Rattle.point_probes.specs.Pointed.{putPoint};
+ghost use Rattle.row_probes.specs.Rows.{shown, putKept, putColumn, putRow, wrongRows, probeRows};
+use fit_probes::sized::sized_fit;
+use point::usable::none;
+use point::usable::point;
+use point_probes::pointed::put_point;
+use points::points::points;
+use window::span::good_offset;
+
+// A point, or none where it cannot be used.
+fn put_shown(out: &mut [u8], at: usize, u: f64, v: f64)
+    requires { ⌜ at + 24 ≤ length (now out) ⌝ }
+    ensures { λ _. ⌜ now (out .exit) ≡ putPoint (now (out .entry)) at (shown (Points.point u v)) ⌝ }
+{
+    let p = point(u, v);
+    if p.usable {
+        put_point(out, at, p);
+        return;
+    }
+    put_point(out, at, none());
+}
+
+// The points of a stretch from column `first` on, `place` points into the bytes.
+fn put_kept(us: &[f64; 64], vs: &[f64; 64], first: usize, n: usize, place: usize, out: &mut [u8])
+    requires { ⌜ (n ≤ 64) × ((place + (first + n)) * 24 ≤ length (now out)) ⌝ }
+    ensures { λ _. ⌜ now (out .exit) ≡ upTo (putKept (now (us .entry)) (now (vs .entry)) first place) first (first + n) (now (out .entry)) ⌝ }
+{
+    for i in first..first + n {
+        let k = i - first;
+        put_shown(out, (place + i) * 24, us[k], vs[k]);
+    }
+}
+
+fn put_stretch(
+    out: &mut [u8],
+    kind: u64,
+    order: u64,
+    count: u64,
+    coef: &[f64; 256],
+    x: i64,
+    y: i64,
+    first: u64,
+    j: u64,
+    n: usize,
+    place: usize,
+)
+    requires { ⌜ (n ≤ 64) × ((first + n ≤ 4096) × (j ≤ 4096)) ⌝ }
+    requires { ⌜ (natAbs x ≤ 1048576) × (natAbs y ≤ 1048576) ⌝ }
+    requires { ⌜ (place + (first + n)) * 24 ≤ length (now out) ⌝ }
+    ensures { λ _. ⌜ now (out .exit) ≡ upTo (putColumn kind order count (now (coef .entry)) x y j place) first (first + n) (now (out .entry)) ⌝ }
+{
+    let mut us = [0.0; 64];
+    let mut vs = [0.0; 64];
+    points(
+        kind,
+        order,
+        count,
+        coef,
+        x,
+        y,
+        first,
+        j,
+        n,
+        &mut us,
+        &mut vs,
+    );
+    put_kept(&us, &vs, first as usize, n, place, out);
+}
+
+// How many of the columns that are left make the next stretch.
+fn stretch(left: u64) -> usize
+    requires { ⌜ 0 < left ⌝ }
+    ensures { λ r. ⌜ (0 < r) × ((r ≤ left) × (r ≤ 64)) ⌝ }
+{
+    if left < 64 { left as usize } else { 64 }
+}
+
+// Row j of a window of this width.
+fn put_row(
+    out: &mut [u8],
+    kind: u64,
+    order: u64,
+    count: u64,
+    coef: &[f64; 256],
+    x: i64,
+    y: i64,
+    width: u64,
+    j: u64,
+    place: usize,
+)
+    requires { ⌜ (width ≤ 4096) × (j ≤ 4096) ⌝ }
+    requires { ⌜ (natAbs x ≤ 1048576) × (natAbs y ≤ 1048576) ⌝ }
+    requires { ⌜ (place + width) * 24 ≤ length (now out) ⌝ }
+    ensures { λ _. ⌜ now (out .exit) ≡ upTo (putColumn kind order count (now (coef .entry)) x y j place) 0 width (now (out .entry)) ⌝ }
+{
+    let mut i = 0;
+    while i < width {
+        let n = stretch(width - i);
+        put_stretch(out, kind, order, count, coef, x, y, i, j, n, place);
+        i = i + n as u64;
+    }
+}
+
+// Rows from `first` on.
+fn put_rows(
+    out: &mut [u8],
+    kind: u64,
+    order: u64,
+    count: u64,
+    coef: &[f64; 256],
+    x: i64,
+    y: i64,
+    width: u64,
+    first: u64,
+    rows: u64,
+)
+    requires { ⌜ (width ≤ 4096) × (first + rows ≤ 4096) ⌝ }
+    requires { ⌜ (natAbs x ≤ 1048576) × (natAbs y ≤ 1048576) ⌝ }
+    requires { ⌜ length (now out) ≡ rows * width * 24 ⌝ }
+    ensures { λ _. ⌜ now (out .exit) ≡ upTo (putRow kind order count (now (coef .entry)) x y width first) 0 rows (now (out .entry)) ⌝ }
+{
+    for r in 0..rows {
+        let place = r * width;
+        put_row(
+            out,
+            kind,
+            order,
+            count,
+            coef,
+            x,
+            y,
+            width,
+            first + r,
+            place as usize,
+        );
+    }
+}
+
+// The limits of a window, and 24 bytes for each of its points. The fit has refused a larger width.
+fn wrong_rows(width: u64, x: i64, y: i64, first: u64, rows: u64, out: usize) -> bool
+    ensures { λ r. ⌜ r ≡ wrongRows width x y first rows out ⌝ }
+{
+    if (width > 4096) | ((first > 4096) | (rows > 4096)) {
+        return true;
+    }
+    if !good_offset(x) {
+        return true;
+    }
+    if !good_offset(y) {
+        return true;
+    }
+    (first + rows > 4096) | (out as u64 != rows * width * 24)
+}
+
+// The fit is refused as `probe_fit` refuses it, and then rows beyond the limits of a window, or lengths that do not fit, by 12.
+#[no_mangle]
+pub extern "C" fn probe_rows(
+    method: u64,
+    arguments: &[u8],
+    width: u64,
+    height: u64,
+    x: i64,
+    y: i64,
+    first: u64,
+    rows: u64,
+    out: &mut [u8],
+) -> u64
+    ensures { λ r. ⌜ (r, now (out .exit)) ≡ probeRows method (now (arguments .entry)) width height x y first rows (now (out .entry)) ⌝ }
+{
+    let fitted = sized_fit(method, arguments, width, height);
+    let refusal = fitted.refusal;
+    if refusal != 0 {
+        return refusal;
+    }
+    if wrong_rows(width, x, y, first, rows, out.len()) {
+        return 12;
+    }
+    let mapping = fitted.mapping;
+    let coef = mapping.coef;
+    put_rows(
+        out,
+        mapping.kind,
+        mapping.order,
+        mapping.count,
+        &coef,
+        x,
+        y,
+        width,
+        first,
+        rows,
+    );
+    0
+}

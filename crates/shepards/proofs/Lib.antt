@@ -1,0 +1,2 @@
+-- The laws of Shepards' loop.
+pub mod ShepardsLaws

@@ -1,0 +1,2 @@
+-- The definition of Shepards' source point.
+pub mod Shepards

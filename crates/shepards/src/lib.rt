@@ -1,0 +1,2 @@
+// The source point of Shepards.
+pub mod shepards;

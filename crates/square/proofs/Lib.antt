@@ -1,0 +1,2 @@
+-- The laws of the sums over sixteen taps.
+pub mod SquareCode

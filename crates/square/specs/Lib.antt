@@ -1,0 +1,2 @@
+-- The definition of the sums over sixteen taps.
+pub mod Square

@@ -1,0 +1,2 @@
+// Sixteen taps inside a picture, of any number of channels.
+pub mod square;

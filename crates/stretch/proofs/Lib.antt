@@ -1,0 +1,2 @@
+-- The laws of kept points.
+pub mod KeptLaws

@@ -1,0 +1,2 @@
+-- The definition of a stretch of source points, kept as numbers.
+pub mod Stretch

@@ -1,3 +1,2 @@
-// The general ways of an interpolation: four taps, nine and sixteen, of any picture under any policy.
-pub mod bilinear;
+// The nine interpolations' definition, and the way of any square of taps: four, nine or sixteen, of any picture under any policy.
 pub mod square;

@@ -8,7 +8,7 @@ ghost use Rattle.blend.specs.Interpolate as Interpolate;
 ghost use Rattle.cell.specs.Interpolation.{interpolation};
 ghost use Rattle.pixels.specs.Pixel.{Picture};
 use crate::apart::apart;
-use blend::bilinear::bilinear;
+use bilinear::bilinear::bilinear;
 use blend::square::several;
 use cell::cell::first;
 use indexed::at::at;

@@ -1,4 +1,4 @@
--- `blend::bilinear::around` meets its contract: where the bits of both indexes are below the sizes less one, the cell lies inside. Assumes nothing.
+-- `bilinear::bilinear::around` meets its contract: where the bits of both indexes are below the sizes less one, the cell lies inside. Assumes nothing.
 use mathlib.Core.Path.{_∙_}
 use native.Mathlib.Omega.{arith}
 use mir.Facts.{toZ-ofZ}
@@ -9,8 +9,8 @@ use Rattle.cell.proofs.SignedCode.{small}
 use Rattle.corners.specs.Square.{blend}
 use Rattle.taps.proofs.TapsLaws.{inside-corners}
 use borrow.Author.Needs.{needs}
-use Rattle.blend.proofs.bilinear.around.Statement.{statement}
-use Rattle.blend.proofs.bilinear.around.Tie as tie
+use Rattle.bilinear.proofs.bilinear.around.Statement.{statement}
+use Rattle.bilinear.proofs.bilinear.around.Tie as tie
 
 next : (i n : ℕ) → i < n - 1 → i + 1 < n
 next i n h = omega arith

@@ -1,9 +1,9 @@
--- `blend::bilinear::inside` meets its contract: the weights are those of the fractions. Assumes nothing.
+-- `bilinear::bilinear::inside` meets its contract: the weights are those of the fractions. Assumes nothing.
 use mathlib.Core.Path.{refl, _∙_}
 use borrow.Author.Needs.{needs}
 use Rattle.corners.proofs.MixedLaws.{mixed-blend}
-use Rattle.blend.proofs.bilinear.inside.Statement.{statement}
-use Rattle.blend.proofs.bilinear.inside.Tie as tie
+use Rattle.bilinear.proofs.bilinear.inside.Statement.{statement}
+use Rattle.bilinear.proofs.bilinear.inside.Tie as tie
 
 returns : tie.Need-returns
 returns c =

@@ -1,12 +1,12 @@
--- `blend::bilinear::bilinear` meets its contract: the cell and the fractions of the point. Assumes nothing.
+-- `bilinear::bilinear::bilinear` meets its contract: the cell and the fractions of the point. Assumes nothing.
 use mathlib.Core.Path.{_∙_}
 use Rattle.cell.specs.Interpolation.{Bilinear}
 use Rattle.cell.proofs.CellFloor.{cell-law}
 use Rattle.cell.proofs.CellLaws.{first-small}
 use Rattle.cell.proofs.SignedCode.{again, asked}
 use borrow.Author.Needs.{needs}
-use Rattle.blend.proofs.bilinear.bilinear.Statement.{statement}
-use Rattle.blend.proofs.bilinear.bilinear.Tie as tie
+use Rattle.bilinear.proofs.bilinear.bilinear.Statement.{statement}
+use Rattle.bilinear.proofs.bilinear.bilinear.Tie as tie
 
 below-requires : tie.Need-below-requires
 below-requires c κs = search needs

@@ -1,12 +1,12 @@
--- `blend::bilinear::blended` meets its contract: a loop over four taps is the sums written out. Assumes nothing.
+-- `bilinear::bilinear::blended` meets its contract: a loop over four taps is the sums written out. Assumes nothing.
 use mathlib.Core.Path.{sym, ap, _∙_}
 use mathlib.Core.List.{[], _∷_}
 use Rattle.weighted.specs.Weighted.{mean, weighted}
 use Rattle.taps.specs.Weights.{corners}
 use Rattle.weighted.proofs.WeightedOpaque.{summed-four}
 use borrow.Author.Needs.{needs}
-use Rattle.blend.proofs.bilinear.blended.Statement.{statement}
-use Rattle.blend.proofs.bilinear.blended.Tie as tie
+use Rattle.bilinear.proofs.bilinear.blended.Statement.{statement}
+use Rattle.bilinear.proofs.bilinear.blended.Tie as tie
 
 nothing-requires : tie.Need-nothing-requires
 nothing-requires c κs = search needs

@@ -1,10 +1,10 @@
--- `blend::bilinear::anywhere` meets its contract: the four taps are those of the list. Assumes nothing.
+-- `bilinear::bilinear::anywhere` meets its contract: the four taps are those of the list. Assumes nothing.
 use mir.Facts.{toZ-ofZ}
 use Rattle.cell.proofs.SignedCode.{small}
 use Rattle.taps.proofs.TapsLaws.{four-corners}
 use borrow.Author.Needs.{needs}
-use Rattle.blend.proofs.bilinear.anywhere.Statement.{statement}
-use Rattle.blend.proofs.bilinear.anywhere.Tie as tie
+use Rattle.bilinear.proofs.bilinear.anywhere.Statement.{statement}
+use Rattle.bilinear.proofs.bilinear.anywhere.Tie as tie
 
 tap-requires : tie.Need-tap-requires
 tap-requires c κs = let a = c .before in (search needs, ((small 2147483649 _ (a .fits .column) (search needs), small 2147483649 _ (a .fits .row) (search needs)), search needs))

@@ -1,0 +1,2 @@
+// `Bilinear` at a point: four taps of any picture under any policy.
+pub mod bilinear;

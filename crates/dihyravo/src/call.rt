@@ -1,5 +1,5 @@
 // The distort call over bytes, for every argument. What a caller owes is what the types say: each pointer is to as many bytes as it is said to be, and band and answer overlap nothing
-// else that is lent. Picture and arguments stay as they are, since they are lent shared.
+// else that is lent. What is lent shared stays as it is: its types see to that, and the second clause says so.
 ghost use mathlib.Core.Path.{_≡_};
 ghost use Rattle.distort.specs.Job.{callOf};
 ghost use Rattle.dihyravo.specs.Called.{called};
@@ -33,6 +33,8 @@ pub extern "C" fn dihyravo_distort(
 ) -> u64
     ensures { λ r.
         ⌜ (r, (now (band .exit), now (answer .exit))) ≡ called (callOf (now (picture .entry)) width height channels method (now (arguments .entry)) policy interpolation (now (background .entry)) (now (matte .entry)) bestfit viewport «view_width» «view_height» «view_x» «view_y» «first_row» rows (now (band .entry))) (now (answer .entry)) ⌝ }
+    ensures { λ _.
+        ⌜ (now (picture .exit) ≡ now (picture .entry)) × ((now (arguments .exit) ≡ now (arguments .entry)) × ((now (background .exit) ≡ now (background .entry)) × (now (matte .exit) ≡ now (matte .entry)))) ⌝ }
 {
     let answered = distort(
         picture,

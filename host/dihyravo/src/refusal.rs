@@ -114,8 +114,8 @@ impl Refusal {
                 "no mapping fits; pick points that are apart and not on one line, give coefficients that can be inverted"
             }
             Self::Window => {
-                "the output's sides must be 1 to 4,096 and its offset within 1,048,576 of 0; give another viewport or \
-                 leave best fit off"
+                "the output's sides must be 1 to 4,096 and its offset within 1,048,576 of 0; give another size or \
+                 viewport, or leave best fit off"
             }
             Self::Rows => {
                 "first row plus row count is above the output's height; ask for the size first and stay below it"

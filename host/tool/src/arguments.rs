@@ -23,9 +23,11 @@ pub enum Command {
 }
 
 const FILES: &str = "\
-Files: PNG, TIFF and PNM of 8 and 16 bits, JPEG of 8, PFM and TIFF of 32-bit floats. What IN is, its first bytes say;
-what OUT is, its ending says. Samples are taken as they are stored: no colour profile, no gamma, and NO EXIF ORIENTATION
-is applied, and none is carried over; corners count on the picture as it is stored.
+Files: PNG, TIFF and PNM of 8 and 16 bits, JPEG of 8, PFM and TIFF of 32-bit floats, of 1 to 4,096 pixels a side. What IN
+is, its first bytes say; what OUT is, its ending says. Of several pictures in a file the first is read. 8 and 16 bits hold
+samples from 0 to 1: what is beyond is cut off. A grey picture stays grey, background and matte too. Samples are taken as
+they are stored: no colour profile, no gamma, and NO EXIF ORIENTATION is applied, and none is carried over; corners count
+on the picture as it is stored.
 
 Exit status: 0 done; 1 refused, with the number, the word and what to mend; 2 bad usage, or a file that can't be read or
 written. Where a run fails, OUT is as it was before; only where the picture is made and standard output can't be written
@@ -36,7 +38,7 @@ A corner u,v is a point of the photograph in pixels from its top-left corner, u 
 corner of the first pixel and 0.5,0.5 that pixel's middle; fractions are welcome. The four corners go to the four corners
 of OUT. EXIF orientation is not applied: corners count on the picture as it is stored.
 
-A colour is a name such as white or none, #rgb, #rrggbb, #rrggbbaa, rgb(r,g,b), rgba(r,g,b,a) or four numbers from 0 to 1.
+A colour is a name such as white or none, #rgb, #rrggbb, #rrggbbaa, rgb(r,g,b), rgba(r,g,b,a) or r,g,b,a with 1 as full.
 
 Example: dihyravo square photograph.jpg card.png --corners \"212,148 1011,95 1090,741 131,803\" --size 800x600";
 
@@ -46,7 +48,7 @@ and the place x,y where it belongs. Names ignore case; 'dihyravo names' lists th
 ImageMagick's 'convert -filter point -interpolate bilinear -distort'; elliptical averaging, its default, is not here.
 EXIF orientation is not applied.
 
-A colour is a name such as white or none, #rgb, #rrggbb, #rrggbbaa, rgb(r,g,b), rgba(r,g,b,a) or four numbers from 0 to 1.
+A colour is a name such as white or none, #rgb, #rrggbb, #rrggbbaa, rgb(r,g,b), rgba(r,g,b,a) or r,g,b,a with 1 as full.
 
 Example: dihyravo distort in.png out.png --method Affine --args \"0,0 5,5\" --viewport 800x600-10+20";
 
@@ -62,7 +64,7 @@ pub struct Square {
     #[arg(long, allow_hyphen_values = true, value_name = "u,v u,v u,v u,v")]
     pub corners: String,
     /// How large the squared picture is to be, in pixels
-    #[arg(long, value_name = "WxH")]
+    #[arg(long, allow_hyphen_values = true, value_name = "WxH")]
     pub size: String,
     #[command(flatten)]
     pub options: Options,
@@ -83,7 +85,7 @@ pub struct Distort {
     #[arg(long, allow_hyphen_values = true, value_name = "NUMBERS")]
     pub args: String,
     /// The part of the warped plane to make [default: 0,0 and the size of IN]
-    #[arg(long, value_name = "WxH+X+Y")]
+    #[arg(long, allow_hyphen_values = true, value_name = "WxH+X+Y")]
     pub viewport: Option<String>,
     /// Make OUT as large as the warped picture, by the affine and perspective methods; a viewport wins
     #[arg(long)]
@@ -122,13 +124,13 @@ pub struct Options {
     #[arg(long, value_name = "BITS", value_parser = ["8", "16", "32"])]
     pub depth: Option<String>,
     /// JPEG's quality, 1 to 100
-    #[arg(long, value_name = "N", default_value_t = 95, value_parser = clap::value_parser!(u8).range(1..=100))]
+    #[arg(long, allow_hyphen_values = true, value_name = "N", default_value_t = 95, value_parser = clap::value_parser!(u8).range(1..=100))]
     pub quality: u8,
     /// Rows that are worked at once; changes no sample [default: two bands a thread]
-    #[arg(long, value_name = "N", value_parser = clap::value_parser!(u64).range(1..))]
+    #[arg(long, allow_hyphen_values = true, value_name = "N", value_parser = clap::value_parser!(u64).range(1..))]
     pub rows: Option<u64>,
     /// Threads to work on; changes no sample [default: one for each core]
-    #[arg(long, value_name = "N", value_parser = clap::value_parser!(u16).range(1..=256))]
+    #[arg(long, allow_hyphen_values = true, value_name = "N", value_parser = clap::value_parser!(u16).range(1..=256))]
     pub threads: Option<u16>,
     /// Print one JSON object instead of a line, for refusals and errors too
     #[arg(long)]

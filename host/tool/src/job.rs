@@ -2,11 +2,13 @@
 
 use crate::arguments::{Distort, Options, Square};
 use crate::failure::Failure;
-use crate::file::{self, Depth, Format, Target};
+use crate::file::{self, Depth, Format, Loaded, Target};
 use crate::progress;
+use crate::remarks;
 use crate::text;
-use dihyravo::{Distorted, Method, Picture, Refusal, Viewport};
+use dihyravo::{Distorted, Method, NameError, Picture, Refusal, Viewport};
 use std::path::{Path, PathBuf};
+use std::str::FromStr;
 use std::time::{Duration, Instant};
 
 /// Everything that a run needs, read and understood.
@@ -25,8 +27,8 @@ pub struct Job {
     matte: [f32; 4],
     distort: dihyravo::Distort,
     show_progress: bool,
-    /// A remark that does not stop the run.
-    pub note: Option<&'static str>,
+    /// Remarks that do not stop the run.
+    notes: Vec<String>,
 }
 
 /// What a run made.
@@ -44,6 +46,8 @@ pub struct Made {
     pub distort: Duration,
     /// Reading and writing too.
     pub whole: Duration,
+    /// Remarks that did not stop the run.
+    pub notes: Vec<String>,
 }
 
 impl Job {
@@ -51,7 +55,8 @@ impl Job {
         let args = option("--args", text::numbers(&given.args))?;
         let viewport = given.viewport.as_deref().map(text::geometry).transpose();
         let viewport = option("--viewport", viewport)?;
-        let method = given.method.parse()?;
+        let method = named(&given.method)?;
+        option("--args", barrel_numbers(method, args.len()))?;
         let mut job = Self::new(
             &given.input,
             &given.output,
@@ -60,6 +65,10 @@ impl Job {
             viewport,
             &given.options,
         )?;
+        let no_viewport = given.viewport.is_none();
+        job.notes.extend(remarks::order(method, &job.args));
+        job.notes
+            .extend(remarks::best_fit(method, given.best_fit && no_viewport));
         job.distort = job.distort.with_bestfit(given.best_fit);
         Ok(job)
     }
@@ -87,8 +96,10 @@ impl Job {
             &given.options,
         )?;
         job.square = true;
-        job.note =
-            mirrored.then_some("the corners run counter-clockwise, so the picture is mirrored");
+        if mirrored {
+            let note = "the corners run counter-clockwise, so the picture is mirrored";
+            job.notes.push(note.to_owned());
+        }
         Ok(job)
     }
 
@@ -109,8 +120,8 @@ impl Job {
         let format = Format::of(output).map_err(Failure::unusable)?;
         option("--depth", format.depth(depth, Depth::Eight))?;
         let mut distort = dihyravo::Distort::new(method, args.clone())
-            .with_virtual_pixel(options.virtual_pixel.parse()?)
-            .with_interpolate(options.interpolate.parse()?)
+            .with_virtual_pixel(named(&options.virtual_pixel)?)
+            .with_interpolate(named(&options.interpolate)?)
             .with_background(background)
             .with_matte(matte)
             .with_threads(options.threads.unwrap_or(0).into())
@@ -118,6 +129,8 @@ impl Job {
         if let Some(viewport) = viewport {
             distort = distort.with_viewport(viewport);
         }
+        let colours = [("background", background), ("matte", matte)];
+        let notes = colours.map(|(name, colour)| remarks::beyond(name, colour));
         Ok(Self {
             input: input.to_owned(),
             output: output.to_owned(),
@@ -132,7 +145,7 @@ impl Job {
             matte,
             distort,
             show_progress: !options.json,
-            note: None,
+            notes: notes.into_iter().flatten().collect(),
         })
     }
 
@@ -140,6 +153,7 @@ impl Job {
         let start = Instant::now();
         file::check(&self.output)?;
         let loaded = file::read(&self.input)?;
+        let notes = self.notes_on(&loaded);
         let depth = self
             .format
             .depth(self.depth, loaded.depth)
@@ -171,10 +185,22 @@ impl Job {
             matte_pixels,
             distort,
             whole: start.elapsed(),
+            notes,
         })
     }
 
+    /// The remarks, with those that the picture gives rise to.
+    fn notes_on(&self, loaded: &Loaded) -> Vec<String> {
+        let mut notes = self.notes.clone();
+        if self.square {
+            notes.extend(remarks::outside(&self.args, &loaded.picture));
+        }
+        notes.extend(remarks::orientation(loaded.orientation));
+        notes
+    }
+
     fn warp(&self, picture: &Picture) -> Result<Distorted, Failure> {
+        self.room_for_output(picture)?;
         let bar = progress::bar(self.show_progress);
         let made = self
             .distort
@@ -186,14 +212,31 @@ impl Job {
         })
     }
 
+    /// Tries whether there is memory for the output and its file. Asked of the allocator later on, it would end the program.
+    fn room_for_output(&self, picture: &Picture) -> Result<(), Failure> {
+        // A refusal is told by the call itself.
+        let Ok(window) = self.distort.size(picture) else {
+            return Ok(());
+        };
+        let mut room = Vec::<f32>::new();
+        room.try_reserve_exact(2 * window.band_length(window.height))
+            .map_err(|_| {
+                let (width, height) = (window.width, window.height);
+                Failure::unusable(format!(
+                    "there is no memory for an output of {width}x{height}"
+                ))
+            })
+    }
+
     /// What of this run met the refusal, where the table's words leave it open.
     fn detail(&self, refusal: Refusal, picture: &Picture) -> Option<String> {
         match refusal {
-            Refusal::Count | Refusal::Few | Refusal::Order => Some(format!(
+            Refusal::Count | Refusal::Few => Some(format!(
                 "{} was given {} numbers",
                 self.method,
                 self.args.len()
             )),
+            Refusal::Order => Some(format!("the order is {:?}", self.args.first()?)),
             Refusal::Number => self.first_bad_number(picture),
             Refusal::Window => Some(match self.viewport {
                 Some(viewport) => self.output_was_to_be(viewport),
@@ -248,6 +291,27 @@ impl Job {
             .find(|(_, colour)| colour.iter().any(bad_sample))?;
         Some(format!("the {name} colour has such a number"))
     }
+}
+
+/// A name as the proved readers know it; where they don't, as ImageMagick takes it, with marks between its words.
+fn named<T: FromStr<Err = NameError>>(text: &str) -> Result<T, NameError> {
+    text.parse().or_else(|unknown| {
+        text.replace(['-', '_', ' '], "")
+            .parse()
+            .map_err(|_| unknown)
+    })
+}
+
+/// The call leaves out what comes after the barrels' sixth number. Somebody who gave more meant another mapping.
+fn barrel_numbers(method: Method, count: usize) -> Result<(), String> {
+    let barrel = matches!(method, Method::Barrel | Method::BarrelInverse);
+    if barrel && count >= 3 && ![3, 4, 6].contains(&count) {
+        return Err(format!(
+            "{method} takes {}, which are 3, 4 or 6 numbers: here are {count}",
+            method.arguments()
+        ));
+    }
+    Ok(())
 }
 
 /// A reader's words with the option that they are about.

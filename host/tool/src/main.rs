@@ -7,6 +7,7 @@ mod file;
 mod job;
 mod names;
 mod progress;
+mod remarks;
 mod report;
 mod text;
 
@@ -75,9 +76,9 @@ fn run() -> Result<String, Failure> {
 fn work(job: &Job, json: bool) -> Result<String, Failure> {
     let made = job.run()?;
     if json {
-        return Ok(report::made_json(&made, job.note));
+        return Ok(report::made_json(&made));
     }
-    if let Some(note) = job.note {
+    for note in &made.notes {
         // A remark that nobody reads stops nothing.
         let _ = writeln!(io::stderr(), "dihyravo: note: {note}");
     }
@@ -100,7 +101,10 @@ fn misused(wrong: &clap::Error) -> Failure {
     let words = words.strip_prefix("error: ").unwrap_or(words);
     let lines = words.lines().map(str::trim).filter(|line| !line.is_empty());
     let line = lines.collect::<Vec<_>>().join(" ");
-    Failure::unusable(format!("{line} (see 'dihyravo --help')"))
+    let command = std::env::args().nth(1);
+    let command = command.filter(|word| ["square", "distort", "names"].contains(&word.as_str()));
+    let help = command.map_or("--help".to_owned(), |word| format!("{word} --help"));
+    Failure::unusable(format!("{line} (see 'dihyravo {help}')"))
 }
 
 fn print(text: &str) -> Result<(), Failure> {

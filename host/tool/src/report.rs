@@ -31,7 +31,7 @@ pub fn made(made: &Made) -> String {
     )
 }
 
-pub fn made_json(made: &Made, note: Option<&str>) -> String {
+pub fn made_json(made: &Made) -> String {
     let mut object = Object::new();
     object.literal("ok", true);
     object.text("output", &made.output.to_string_lossy());
@@ -48,8 +48,8 @@ pub fn made_json(made: &Made, note: Option<&str>) -> String {
         format!("{:.6}", made.distort.as_secs_f64()),
     );
     object.literal("seconds", format!("{:.6}", made.whole.as_secs_f64()));
-    if let Some(note) = note {
-        object.text("note", note);
+    if !made.notes.is_empty() {
+        object.text("note", &made.notes.join("; "));
     }
     object.finish()
 }

@@ -1,6 +1,7 @@
 //! Reading: the format is found by the file's first bytes, the size is looked at before anything is unpacked, and samples become
 //! floats from 0 to 1 by one division. Colours are taken as they are stored; no profile, gamma or orientation is applied.
 
+use super::orientation::orientation;
 use super::{Depth, pfm, pnm, tiff_file};
 use crate::failure::Failure;
 use dihyravo::{LARGEST_SIDE, Picture, Refusal};
@@ -13,10 +14,16 @@ use std::path::Path;
 /// More than the largest picture takes in any of the formats.
 const LONGEST_FILE: u64 = 1 << 30;
 
-/// A picture and how finely its file had it.
+/// A picture, how finely its file had it, and the orientation that is not applied.
 pub struct Loaded {
     pub picture: Picture,
     pub depth: Depth,
+    pub orientation: Option<u16>,
+}
+
+struct Decoded {
+    picture: Picture,
+    depth: Depth,
 }
 
 #[derive(Clone, Copy, Debug)]
@@ -47,14 +54,19 @@ pub fn read(path: &Path) -> Result<Loaded, Failure> {
     let told =
         |why: String| Failure::unusable(format!("'{}' can't be read: {why}", path.display()));
     let bytes = bytes(path).map_err(told)?;
-    decode_any(&bytes).map_err(|failure| match failure {
+    let decoded = decode_any(&bytes).map_err(|failure| match failure {
         Failure::Unusable(why) => told(why),
         refused => refused,
+    })?;
+    Ok(Loaded {
+        picture: decoded.picture,
+        depth: decoded.depth,
+        orientation: orientation(&bytes),
     })
 }
 
 /// The decoders are others' code and the file may be anything, so a panic of theirs is a broken file.
-fn decode_any(bytes: &[u8]) -> Result<Loaded, Failure> {
+fn decode_any(bytes: &[u8]) -> Result<Decoded, Failure> {
     let decoded = catch_unwind(AssertUnwindSafe(|| decode(bytes)));
     decoded.unwrap_or_else(|_| Err(Failure::unusable("it is broken: its decoder gave up")))
 }
@@ -75,9 +87,9 @@ fn bytes(path: &Path) -> Result<Vec<u8>, String> {
     }
 }
 
-fn decode(bytes: &[u8]) -> Result<Loaded, Failure> {
+fn decode(bytes: &[u8]) -> Result<Decoded, Failure> {
     if pfm::is_pfm(bytes) {
-        return Ok(Loaded {
+        return Ok(Decoded {
             picture: pfm::decode(bytes)?,
             depth: Depth::Float,
         });
@@ -97,7 +109,7 @@ fn decode(bytes: &[u8]) -> Result<Loaded, Failure> {
     }
 }
 
-fn by_tiff(bytes: &[u8]) -> Result<Loaded, Failure> {
+fn by_tiff(bytes: &[u8]) -> Result<Decoded, Failure> {
     if let Some(why) = tiff_file::misread(bytes) {
         return Err(Failure::unusable(why));
     }
@@ -106,11 +118,11 @@ fn by_tiff(bytes: &[u8]) -> Result<Loaded, Failure> {
     }
     let picture = tiff_file::decode(bytes)?;
     let depth = Depth::Float;
-    Ok(Loaded { picture, depth })
+    Ok(Decoded { picture, depth })
 }
 
 /// Through the crate `image`. `largest` is the sample that stands for 1 where it is not the type's largest.
-fn by_image(bytes: &[u8], format: ImageFormat, largest: Option<u16>) -> Result<Loaded, Failure> {
+fn by_image(bytes: &[u8], format: ImageFormat, largest: Option<u16>) -> Result<Decoded, Failure> {
     let reader = || image::io::Reader::with_format(Cursor::new(bytes), format);
     let (width, height) = reader().into_dimensions().map_err(undecoded)?;
     sized(Sizes {
@@ -133,7 +145,7 @@ fn by_image(bytes: &[u8], format: ImageFormat, largest: Option<u16>) -> Result<L
     let samples = samples
         .ok_or_else(|| Failure::unusable("a sample is above the largest that its header names"))?;
     let picture = picture(width.into(), height.into(), channels, samples)?;
-    Ok(Loaded { picture, depth })
+    Ok(Decoded { picture, depth })
 }
 
 /// Samples over the largest one, in one division each; none where a sample is above it.

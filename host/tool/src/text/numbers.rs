@@ -44,6 +44,11 @@ pub fn corners(text: &str) -> Result<([(f64, f64); 4], bool), String> {
         turns.iter().any(|t| *t < 0.0),
         turns.iter().any(|t| *t > 0.0),
     );
+    if turns.contains(&0.0) {
+        return Err(
+            "three of the corners lie on one line, or two are one point: a card has four that are apart".to_owned()
+        );
+    }
     if left && right {
         return Err(
             "the corners cross or make a dent: give them as top-left, top-right, bottom-right, bottom-left".to_owned()
@@ -116,8 +121,17 @@ mod tests {
     }
 
     #[test]
-    fn corners_on_a_line_are_left_to_the_call() {
-        assert!(corners("0,0 1,1 2,2 3,3").is_ok());
-        assert!(corners("0,0 0,0 0,0 0,0").is_ok());
+    fn corners_on_a_line_are_told() {
+        for text in [
+            "0,0 1,1 2,2 3,3",
+            "0,0 0,0 0,0 0,0",
+            "0,0 4,0 8,0 0,6",
+            "1,1 1,1 9,8 0,9",
+            "1,2 9,1 10,8 1,2",
+        ] {
+            let told = corners(text).unwrap_err();
+            assert!(told.starts_with("three of the corners"), "{text}");
+        }
+        assert!(corners("0,0 1e400,0 8,8 0,6").is_ok());
     }
 }

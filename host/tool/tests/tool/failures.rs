@@ -71,6 +71,72 @@ impl Trial {
 const CORNERS: &str = "0,0 8,0 8,6 0,6";
 
 #[test]
+fn numbers_that_were_meant_otherwise() {
+    let trial = Trial::new("meant-otherwise");
+    for corners in ["0,0 0,0 8,6 0,6", "0,0 4,0 8,0 0,6", "0,0 1,1 2,2 3,3"] {
+        let run = trial.square("in.png", corners, "8x6");
+        trial.fails(
+            run,
+            2,
+            &["--corners", "three of the corners lie on one line"],
+        );
+    }
+    for method in ["Barrel", "BarrelInverse"] {
+        for (args, count) in [
+            ("0,0,0,1,4", 5),
+            ("0,0,0,1,4,3,0", 7),
+            ("0,0,0,1,0,0,0,1", 8),
+        ] {
+            let run = trial.distort("in.png", method, args, &[]);
+            let count = format!("here are {count}");
+            trial.fails(run, 2, &["--args", method, "3, 4 or 6 numbers", &count]);
+        }
+        let run = trial.distort("in.png", method, "0,0", &[]);
+        trial.fails(run, 1, &["refusal 4 (count)", "was given 2 numbers"]);
+    }
+    let run = trial.shift("in.png", &["--background", "255,0,0,255"]);
+    trial.fails(run, 2, &["--background", "is not a colour", "1 is full"]);
+    let run = trial.distort("in.png", "Polynomial", "6 1,1 2,2", &[]);
+    trial.fails(run, 1, &["refusal 6 (order): the order is 6.0;"]);
+}
+
+#[test]
+fn bad_usage_names_the_help_of_its_command() {
+    let trial = Trial::new("help-named");
+    let run = trial.shift("in.png", &["--nothing"]);
+    trial.fails(run, 2, &["--nothing", "(see 'dihyravo distort --help')"]);
+    let run = trial.shift("in.png", &["--quality", "-1"]);
+    trial.fails(run, 2, &["-1", "--quality", "1..=100"]);
+    let run = trial.shift("in.png", &["--viewport", "-100x80"]);
+    trial.fails(run, 2, &["--viewport", "-100x80"]);
+    let run = trial.folder.run(["squire"]);
+    trial.fails(run, 2, &["squire", "(see 'dihyravo --help')"]);
+}
+
+/// Twice the output's 201 MB are asked for, where 200 MB of addresses are to be had.
+#[test]
+fn memory_that_is_not_there_is_told() {
+    let trial = Trial::new("no-memory");
+    let tool = env!("CARGO_BIN_EXE_dihyravo");
+    let job =
+        "distort in.png out.png --method Affine --args 0,0,0,0 --viewport 4096x4096 --threads 1";
+    let shell = |more: &str| -> Run {
+        let line = format!("ulimit -v 200000 && exec {tool} {job} {more}");
+        let mut command = Command::new("sh");
+        let folder = trial.folder.path(".");
+        let run = command.args(["-c", &line]).current_dir(folder).output();
+        run.expect("a shell").into()
+    };
+    trial.fails(shell(""), 2, &["no memory for an output of 4096x4096"]);
+    let told = shell("--json");
+    assert_eq!(told.status, 2, "{told:?}");
+    assert!(
+        told.out.starts_with(r#"{"ok":false,"status":2,"error":"#),
+        "{told:?}"
+    );
+}
+
+#[test]
 fn corners_and_numbers_that_are_none() {
     let trial = Trial::new("numbers");
     trial.fails(
@@ -175,7 +241,7 @@ fn refusals_have_number_word_and_mend() {
     refused(
         "Affine",
         "0,0,1,1",
-        &["--background", "1,1,1,70000"],
+        &["--background", "70000,1,1,1"],
         &["refusal 5 (number): the background colour"],
     );
     refused(
@@ -221,9 +287,10 @@ fn refusals_have_number_word_and_mend() {
         &["--best-fit"],
         &["refusal 9 (window): the best fit is too large"],
     );
-    trial.fails(
-        trial.square("in.png", "0,0 1,1 2,2 3,3", "8x6"),
-        1,
+    refused(
+        "Perspective",
+        "0,0,0,0 1,1,1,1 2,2,2,2 3,3,3,3",
+        &[],
         &["refusal 8 (degenerate): "],
     );
     trial.fails(

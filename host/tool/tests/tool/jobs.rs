@@ -1,6 +1,6 @@
 //! The commands: the library's answer, whatever bands and threads; what is printed.
 
-use crate::folder::{Folder, small_png};
+use crate::folder::{Folder, Run, small_png};
 use dihyravo::{Distort, Interpolate, Method, Picture, Viewport, VirtualPixel};
 
 /// The small picture as the library takes it.
@@ -118,6 +118,131 @@ fn corners_the_wrong_way_round_are_noted_and_mirror() {
     );
     let mirrored = image::open(folder.path("in.png")).expect("read").fliph();
     assert_eq!(image::open(folder.path("out.png")).expect("read"), mirrored);
+}
+
+/// What a run that is done as it was asked for says beside its line.
+fn noted(folder: &Folder, words: &[&str], note: &str) {
+    let run = |more: &[&str]| -> Run {
+        let tool = folder.tool().args(words).args(more).output();
+        tool.expect("the tool runs").into()
+    };
+    let plain = run(&[]);
+    let expected = format!("dihyravo: note: {note}\n");
+    assert_eq!((plain.status, plain.err), (0, expected), "{words:?}");
+    let json = run(&["--json"]);
+    assert_eq!((json.status, json.err.as_str()), (0, ""), "{words:?}");
+    let expected = format!(",\"note\":\"{note}\"}}\n");
+    assert!(json.out.ends_with(&expected), "{}", json.out);
+}
+
+#[test]
+fn what_may_be_meant_otherwise_is_noted() {
+    let folder = Folder::new("noted");
+    folder.write("in.png", &small_png());
+    let corners = [
+        "square",
+        "in.png",
+        "out.png",
+        "--corners",
+        "20,0 28,0 28,6 20,6",
+        "--size",
+        "8x6",
+    ];
+    noted(
+        &folder,
+        &corners,
+        "the corners lie outside the picture, which is 8 by 6",
+    );
+    let pairs = "1.7 0,0,0,0 8,0,8,0 8,6,8,6 0,6,0,6 4,1,4,1 2,3,2,3";
+    let order = [
+        "distort",
+        "in.png",
+        "out.png",
+        "--method",
+        "Polynomial",
+        "--args",
+        pairs,
+    ];
+    noted(&folder, &order, "the order 1.7 is taken as 2.0");
+    let barrel = [
+        "distort",
+        "in.png",
+        "out.png",
+        "--method",
+        "Barrel",
+        "--args",
+        "0,0,0",
+        "--best-fit",
+    ];
+    noted(
+        &folder,
+        &barrel,
+        "Barrel has no best fit: the output is as large as the input",
+    );
+    let shift = [
+        "distort", "in.png", "out.png", "--method", "Affine", "--args", "0,0 5,5",
+    ];
+    let beyond = [&shift[..], &["--matte", "2,0,0,1"]].concat();
+    noted(
+        &folder,
+        &beyond,
+        "the matte colour has a number beyond 0 to 1, where 1 is full",
+    );
+}
+
+/// A camera's JPEG that viewers turn: a part with the orientation 6 is put before the others.
+#[test]
+fn an_orientation_that_is_not_applied_is_noted() {
+    let folder = Folder::new("orientation");
+    folder.write("in.png", &small_png());
+    let picture = image::open(folder.path("in.png")).expect("read");
+    picture.save(folder.path("plain.jpg")).expect("written");
+    let plain = folder.read("plain.jpg");
+    let part = b"\xff\xe1\x00\x22Exif\0\0MM\0\x2a\0\0\0\x08\0\x01\x01\x12\0\x03\0\0\0\x01\0\x06\0\0\0\0\0\0";
+    folder.write("turned.jpg", &[&plain[..2], part, &plain[2..]].concat());
+    let words = |input| {
+        [
+            "distort", input, "out.png", "--method", "Affine", "--args", "0,0 0,0",
+        ]
+    };
+    folder.run(words("plain.jpg")).good();
+    let kept = folder.read("out.png");
+    let note = "the file's orientation is 6, which viewers apply and this program does not: numbers count on the picture as it is stored";
+    noted(&folder, &words("turned.jpg"), note);
+    assert_eq!(folder.read("out.png"), kept);
+}
+
+#[test]
+fn names_may_have_marks_between_their_words() {
+    let folder = Folder::new("marks");
+    folder.write("in.png", &small_png());
+    let run = |method, policy, interpolation| {
+        let args = "1,0,0,0,1,0,0,0";
+        let words = [
+            "distort",
+            "in.png",
+            "out.png",
+            "--method",
+            method,
+            "--args",
+            args,
+            "--virtual-pixel",
+            policy,
+            "--interpolate",
+            interpolation,
+        ];
+        folder.run(words).good();
+        folder.read("out.png")
+    };
+    let plain = run("PerspectiveProjection", "HorizontalTile", "NearestNeighbor");
+    assert_eq!(
+        run(
+            "perspective-projection",
+            "horizontal_tile",
+            "Nearest-Neighbor"
+        ),
+        plain
+    );
 }
 
 #[test]

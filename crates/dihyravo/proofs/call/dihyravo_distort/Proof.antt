@@ -1,5 +1,5 @@
 -- `dihyravo_distort` meets its contract: it hands on the call's answer and band, and writes the answer. Assumes nothing.
-use mathlib.Core.Path.{_≡_}
+use mathlib.Core.Path.{_≡_, refl}
 use borrow.Author.Needs.{needs}
 use denote.Ref.{now}
 use lib.IntN.{ℤ}
@@ -25,7 +25,7 @@ returns c =
     let s = c .before .before .before .before .before .before .before .before .before in
     let done = c .before .before .before .before .distort .ensures in
     let put = c .put-answer .ensures in
-    all-of (same s) (now (s .args .answer)) (done .0) (done .1) (put .0) (put .1)
+    (all-of (same s) (now (s .args .answer)) (done .0) (done .1) (put .0) (put .1), (refl, (refl, (refl, refl))))
 
 pub dihyravo-distort-spec : {M : Type 1} → statement M
 dihyravo-distort-spec = tie.close (tie.spec (λ c κs. search needs) (λ c κs. search needs) (λ c. search needs) returns)

@@ -7,6 +7,7 @@ ghost use Prim.Native.Nat.{_+_, _*_, _≤_, _<_};
 ghost use lib.ListN.{length};
 ghost use Rattle.pixels.specs.Pixel.{Picture};
 ghost use Rattle.put.specs.Band.{Inner};
+use crate::ahead::ahead;
 use broad::broad::put_cells;
 use cells::cells::cells;
 use cells::cells::places;
@@ -80,20 +81,22 @@ fn put_bilinear(
     let mut ys = [0.0; 64];
     if cells(us, n, width - 1, &mut columns, &mut xs) {
         if cells(vs, n, height - 1, &mut rows, &mut ys) {
-            put_cells(
-                picture,
-                width,
-                height,
-                channels,
-                &columns,
-                &rows,
-                &xs,
-                &ys,
-                n,
-                place,
-                band,
-            );
-            return true;
+            if ahead(picture, width, height, channels, &columns, &rows, n) {
+                put_cells(
+                    picture,
+                    width,
+                    height,
+                    channels,
+                    &columns,
+                    &rows,
+                    &xs,
+                    &ys,
+                    n,
+                    place,
+                    band,
+                );
+                return true;
+            }
         }
     }
     false

@@ -1,0 +1,83 @@
+// One sample of every fourth cell of a stretch, out of the cell's second row, read before the colours are worked out. A mapping that slants goes over to another row of the picture every few pixels, where
+// nothing was fetched ahead; read close together, these samples are waited for at once. What they are decides nothing: a caller is right whatever the answer. Assumes that the bytes are a picture's.
+ghost use Prim.Native.Nat.{_+_, _≤_, _<_};
+ghost use Rattle.pixels.specs.Pixel.{Picture};
+ghost use Rattle.plain.specs.Plain.{Inside};
+use pixels::pixel::pixel;
+use plain::plain::wide;
+
+// Whether a whole stretch goes over two to nine rows. Along fewer the processor fetches ahead by itself, across more the rows' neighbours are there already.
+fn slants(rows: &[u32; 64], n: usize) -> bool {
+    if n < 64 {
+        return false;
+    }
+    let first = rows[0];
+    let last = rows[63];
+    let over = if first < last {
+        last - first
+    } else {
+        first - last
+    };
+    (over > 1) & (over < 10)
+}
+
+// A sample of the second row of the cell at column i and row j.
+fn second(picture: &[u8], width: u64, height: u64, channels: u64, i: u64, j: u64) -> f32
+    requires { ⌜ Picture (now picture) width height channels ⌝ }
+    requires { ⌜ (i + 1 < width) × (j + 1 < height) ⌝ }
+{
+    let p = pixel(picture, width, channels, i, j + 1);
+    p.r
+}
+
+// No sample of a picture is above 65,536, so the answer is true. The compiler does not know that, and keeps the reads.
+fn read(
+    picture: &[u8],
+    width: u64,
+    height: u64,
+    channels: u64,
+    columns: &[u32; 64],
+    rows: &[u32; 64],
+    n: usize,
+) -> bool
+    requires { ⌜ Picture (now picture) width height channels ⌝ }
+    requires { ⌜ n ≤ 64 ⌝ }
+    requires { ⌜ Inside width height n (now columns) (now rows) ⌝ }
+{
+    let mut good = true;
+    let fourths = n / 4;
+    for e in 0..fourths {
+        let k = 4 * e;
+        good = good
+            & (second(
+                picture,
+                width,
+                height,
+                channels,
+                wide(columns[k]),
+                wide(rows[k]),
+            )
+                <= 65536.0);
+    }
+    good
+}
+
+// True, for every stretch.
+pub fn ahead(
+    picture: &[u8],
+    width: u64,
+    height: u64,
+    channels: u64,
+    columns: &[u32; 64],
+    rows: &[u32; 64],
+    n: usize,
+) -> bool
+    requires { ⌜ Picture (now picture) width height channels ⌝ }
+    requires { ⌜ n ≤ 64 ⌝ }
+    requires { ⌜ Inside width height n (now columns) (now rows) ⌝ }
+{
+    if slants(rows, n) {
+        return read(picture, width, height, channels, columns, rows, n);
+    }
+    true
+}

@@ -1,12 +1,12 @@
-// One sample of every fourth cell of a stretch, out of the cell's second row, read before the colours are worked out. A mapping that slants goes over to another row of the picture every few pixels, where
-// nothing was fetched ahead; read close together, these samples are waited for at once. What they are decides nothing: a caller is right whatever the answer. Assumes that the bytes are a picture's.
+// One sample of every fourth cell of a stretch, out of the cell's second row, read before the colours are worked out. A mapping that slants goes over to another row of the picture every few pixels,
+// and waits for memory there; with these samples read close together it was seen to wait less (docs/SPEED). What they are decides nothing: a caller is right whatever the answer. Assumes that the bytes are a picture's.
 ghost use Prim.Native.Nat.{_+_, _≤_, _<_};
 ghost use Rattle.pixels.specs.Pixel.{Picture};
 ghost use Rattle.plain.specs.Plain.{Inside};
 use pixels::pixel::pixel;
 use plain::plain::wide;
 
-// Whether a whole stretch goes over two to nine rows. Along fewer the processor fetches ahead by itself, across more the rows' neighbours are there already.
+// Whether a whole stretch goes over two to nine rows: along fewer nothing was gained, across more it took longer, on the one machine where it was measured.
 fn slants(rows: &[u32; 64], n: usize) -> bool {
     if n < 64 {
         return false;
@@ -30,7 +30,7 @@ fn second(picture: &[u8], width: u64, height: u64, channels: u64, i: u64, j: u64
     p.r
 }
 
-// No sample of a picture is above 65,536, so the answer is true. The compiler does not know that, and keeps the reads.
+// Whether none of them is above 65,536. No sample of a picture is, but the compiler does not know that, and keeps the reads. Nothing is proved of the answer, and nothing rests on it.
 fn read(
     picture: &[u8],
     width: u64,
@@ -62,7 +62,7 @@ fn read(
     good
 }
 
-// True, for every stretch.
+// The samples are read where the stretch slants.
 pub fn ahead(
     picture: &[u8],
     width: u64,

@@ -1,5 +1,5 @@
--- A stretch of a row. Coordinates that are kept of a source point show the same colour and count the same matte pixel as the point; and a row that is done up
--- to a pixel, with a stretch put behind it, is done up to the stretch's end. Assumes nothing.
+-- A stretch of a row. A source point that is read back from its coordinates is that point, so it shows its colour and counts its matte pixel; and a row that is
+-- done up to a pixel, with a stretch put behind it, is done up to the stretch's end. Assumes nothing.
 use mathlib.Core.Path.{_≡_, refl, sym, ap, ap₂, _∙_, subst, subst⁻¹}
 use mathlib.Core.Bool.{Bool, true, false, cond}
 use mathlib.Core.List.{List, _++_, append-assoc}
@@ -10,37 +10,27 @@ use lib.Ieee.{Float}
 use lib.IntN.{ℤ}
 use lib.ListN.{length, take, drop}
 use Rattle.matrix.specs.Matrix.{at}
-use Rattle.point.specs.Point.{usable}
 use Rattle.point.specs.declared.point.Point.{Point}
 use Rattle.pixels.specs.declared.colour.Rgba.{Rgba}
-use Rattle.points.specs.Points.{Kept, Points}
+use Rattle.points.specs.Points.{Points}
 use Rattle.put.specs.Band.{Frame, Source, shown, pointAt, colourAt, matteAt, keptColour, keptMatte, pixelBytes}
 use Rattle.put.specs.Joined.{joined, totalled}
 use Rattle.put.proofs.JoinedLaws.{joined-same, joined-cut, joined-length, totalled-same, totalled-cut, totalled-most}
 use Rattle.put.proofs.PixelLaws.{Channels, SoFar, so-far-next, pixel-length}
 use Rattle.put.proofs.RowLaws.{RowHolds}
 
--- ---- kept coordinates
-pub kept-matte : (p : Point) (u v : Float) → Kept p u v → keptMatte u v ≡ cond (p .usable) 0 1
-kept-matte p u v K = ap (λ (t : Bool). cond t 0 1) (K .marked)
-
-pub kept-colour : (s : Source) (p : Point) (u v : Float) → Kept p u v → keptColour s u v ≡ shown s p
-unfolding shown
-kept-colour s p u v K = go (p .usable) refl
-  where
-    go : (b : Bool) → p .usable ≡ b → keptColour s u v ≡ shown s p
-    go true e = rw (K .marked, e, K .across e, K .down e)
-    go false e = rw (K .marked, e)
-
+-- ---- the points read back
 module _ (s : Source) (f : Frame) (first j n : ℕ) (us vs : List Float) (P : Points (f .kind) (f .order) (f .count) (f .coef) (f .x) (f .y) first j n us vs) where
   pub stretch-mattes : totalled (λ (k : ℕ). keptMatte (at us k) (at vs k)) n ≡ totalled (λ (k : ℕ). matteAt f (first + k) j) n
-  stretch-mattes = totalled-same (λ (k : ℕ). keptMatte (at us k) (at vs k)) (λ (k : ℕ). matteAt f (first + k) j) n (λ k h. kept-matte _ _ _ (P .kept k h))
+  stretch-mattes =
+      totalled-same (λ (k : ℕ). keptMatte (at us k) (at vs k)) (λ (k : ℕ). matteAt f (first + k) j) n
+      (λ k h. ap (λ (p : Point). cond (p .usable) 0 1) (sym (P .kept k h)))
 
   pub stretch-colours : (depth : ℕ)
       → joined (λ (k : ℕ). pixelBytes depth (keptColour s (at us k) (at vs k))) n ≡ joined (λ (k : ℕ). pixelBytes depth (colourAt s f (first + k) j)) n
   stretch-colours depth =
       joined-same (λ (k : ℕ). pixelBytes depth (keptColour s (at us k) (at vs k))) (λ (k : ℕ). pixelBytes depth (colourAt s f (first + k) j)) n
-      (λ k h. ap (pixelBytes depth) (kept-colour s _ _ _ (P .kept k h)))
+      (λ k h. ap (λ (p : Point). pixelBytes depth (shown s p)) (sym (P .kept k h)))
 
 -- ---- a row with a stretch more
 pub part-most : {g : ℕ → ℕ} (i n : ℕ) {r : ℕ} → ((k : ℕ) → g k ≤ 1) → r ≡ totalled (λ (k : ℕ). g (i + k)) n → r ≤ n

@@ -1,113 +1,101 @@
--- The laws of the barrels' arrays: a store more makes each longer by one, also where a list is changed in place, and the three steps together are the
--- points. Assumes nothing.
-use mathlib.Core.Path.{_≡_, refl, ap, _∙_}
-use mathlib.Core.Logic.{_≢_}
-use mathlib.Core.Bool.{Bool, false}
+-- The laws of the barrels' lists: a store more makes each longer by one, and the three steps together are the points. Assumes nothing.
+use mathlib.Core.Path.{_≡_, ap, _∙_, refl}
 use mathlib.Core.List.{List}
 use Prim.Native.Nat.{ℕ, _+_, _≤_, _<_}
 use native.Mathlib.Nat.{not-suc-le-zero}
 use native.Mathlib.Omega.{arith}
-use borrow.Author.Count.{below-more}
 use lib.ListN.{length, set, length-set}
-use lib.Seq.{getD-set-same, getD-set-other}
-use lib.Ieee.{Float, nan}
-use Rattle.exact.specs.Double.{_⊕_, _⊗_, _⊘_}
-use Rattle.number.specs.Power.{one}
-use Rattle.matrix.specs.Matrix.{Vector, at}
+use lib.Ieee.{Float}
 use Rattle.root.specs.Root.{root}
-use Rattle.roots.specs.Roots.{Roots}
-use Rattle.inverse.specs.Barrel.{across, down, cubic, barrel, barrelInverse}
-use Rattle.stretch.specs.Stretch.{middle, unless, Stretch}
-use Rattle.stretch.proofs.KeptLaws.{kept-point, kept-either}
-use Rattle.barrels.specs.Barrels.{small, Radii, Moved}
+use Rattle.matrix.specs.Matrix.{Vector, at}
+use Rattle.point.specs.declared.point.Point.{Point}
+use Rattle.point.specs.Point.{point, Whole}
+use Rattle.inverse.specs.Barrel.{across, down, square, barrelFrom, barrelInverseFrom, barrel, barrelInverse}
+use Rattle.stretch.specs.Stretch.{middle, Stretch}
+use Rattle.stretch.proofs.FillLaws.{both-more, read-back}
+use Rattle.barrels.specs.Barrels.{Squares, Roots, Moved}
 
-others : {i k : ℕ} → i < k → i ≢ k
-others h e = omega arith
-
--- ---- one list, a store more
-module _ (P : ℕ → Float → Type 0) where
-  pub store-more : (k : ℕ) (xs : List Float) {x : Float} → length xs ≡ 64 → k < 64 → P k x → ((i : ℕ) → i < k → P i (at xs i)) → (i : ℕ) → i < k + 1 → P i (at (set xs k x) i)
-  store-more k xs {x} l h p old =
-      below-more (λ (i : ℕ). P i (at (set xs k x) i)) k (λ i g. rw (getD-set-other xs k i x nan (others g)) (old i g)) (rw (getD-set-same xs k x nan (rw l h)) p)
-
--- ---- the radii
-pub record Measuring (c : Vector) (x dy : Float) (first k : ℕ) (ds ss : List Float) : Type 0 where
-  pub done : Radii c x dy first k ds ss
+-- ---- the offsets and the squares
+pub record Squaring (c : Vector) (x dy : Float) (first k : ℕ) (ds ss : List Float) : Type 0 where
+  pub done : Squares c x dy first k ds ss
   pub long-d : length ds ≡ 64
   pub long-s : length ss ≡ 64
 
 module _ (c : Vector) (x dy : Float) (first : ℕ) where
-  pub measure-none : {ds ss : List Float} → length ds ≡ 64 → length ss ≡ 64 → Measuring c x dy first 0 ds ss
-  measure-none a b = record { done = record { offset = λ k h. absurd (not-suc-le-zero h); square = λ k h. absurd (not-suc-le-zero h) }; long-d = a; long-s = b }
+  pub square-none : {ds ss : List Float} → length ds ≡ 64 → length ss ≡ 64 → Squaring c x dy first 0 ds ss
+  square-none a b = record { done = record { each = λ k h. absurd (not-suc-le-zero h) }; long-d = a; long-s = b }
 
-  pub measure-more : (k : ℕ) {ds ss : List Float} {a : Float} → a ≡ middle (first + k) x → k < 64 → Measuring c x dy first k ds ss
-      → Measuring c x dy first (k + 1) (set ds k (across c a)) (set ss k (across c a ⊗ across c a ⊕ dy ⊗ dy))
-  measure-more k {ds} {ss} {a} e h old =
+  pub square-more : (k : ℕ) {ds ss : List Float} {a d s : Float} → a ≡ middle (first + k) x → d ≡ across c a → s ≡ square d dy → k < 64
+      → Squaring c x dy first k ds ss → Squaring c x dy first (k + 1) (set ds k d) (set ss k s)
+  square-more k {ds} {ss} e g q h old =
       record {
         done = record {
-          offset = store-more (λ (i : ℕ) (z : Float). z ≡ across c (middle (first + i) x)) k ds (old .long-d) h (ap (across c) e) (old .done .offset);
-          square =
-              store-more (λ (i : ℕ) (z : Float). z ≡ across c (middle (first + i) x) ⊗ across c (middle (first + i) x) ⊕ dy ⊗ dy) k ss (old .long-s) h
-              (ap (λ (z : Float). across c z ⊗ across c z ⊕ dy ⊗ dy) e)
-              (old .done .square);
+          each =
+              both-more (λ (i : ℕ) (d s : Float). (d ≡ across c (middle (first + i) x)) × (s ≡ square (across c (middle (first + i) x)) dy)) k ds ss
+              (old .long-d) (old .long-s) h (rw (← e) (g, q ∙ ap (λ (z : Float). square z dy) g)) (old .done .each);
         };
         long-d = length-set ds k _ ∙ old .long-d;
         long-s = length-set ss k _ ∙ old .long-s;
       }
 
-  pub measure-last : (k n : ℕ) {ds ss : List Float} → n ≤ k → Measuring c x dy first k ds ss → Radii c x dy first n ds ss
-  measure-last k n a s = record { offset = λ i h. s .done .offset i (omega arith); square = λ i h. s .done .square i (omega arith) }
+  pub square-last : (k n : ℕ) {ds ss : List Float} → n ≤ k → Squaring c x dy first k ds ss → Squares c x dy first n ds ss
+  square-last k n a s = record { each = λ i h. s .done .each i (omega arith) }
 
--- ---- the points, in place of the offsets ds: what is not yet changed is as it was
-pub record Moving (none : Float → Bool) (by : Float → Float) (c : Vector) (dy : Float) (k : ℕ) (rs ds us vs : List Float) : Type 0 where
-  pub done : Moved none by c dy k rs ds us vs
-  pub rest : (i : ℕ) → k ≤ i → at us i ≡ at ds i
+-- ---- the roots
+pub record Rooting (k : ℕ) (ss rs : List Float) : Type 0 where
+  pub done : Roots k ss rs
+  pub long : length rs ≡ 64
+
+module _ (ss : List Float) where
+  pub root-none : {rs : List Float} → length rs ≡ 64 → Rooting 0 ss rs
+  root-none a = record { done = record { each = λ k h. absurd (not-suc-le-zero h) }; long = a }
+
+  pub root-more : (k : ℕ) {rs : List Float} {r : Float} → r ≡ root (at ss k) → k < 64 → Rooting k ss rs → Rooting (k + 1) ss (set rs k r)
+  root-more k {rs} {r} e h old =
+      record {
+        done = record { each = both-more (λ (i : ℕ) (r z : Float). r ≡ root (at ss i)) k rs rs {y = r} (old .long) (old .long) h e (old .done .each) };
+        long = length-set rs k _ ∙ old .long;
+      }
+
+  pub root-last : (k n : ℕ) {rs : List Float} → n ≤ k → Rooting k ss rs → Roots n ss rs
+  root-last k n a s = record { each = λ i h. s .done .each i (omega arith) }
+
+-- ---- the points
+pub record Moving (from : Float → Float → Point) (k : ℕ) (ds rs us vs : List Float) : Type 0 where
+  pub done : Moved from k ds rs us vs
   pub long-u : length us ≡ 64
   pub long-v : length vs ≡ 64
 
-module _ (none : Float → Bool) (by : Float → Float) (c : Vector) (dy : Float) (rs ds : List Float) where
-  pub move-none : {vs : List Float} → length ds ≡ 64 → length vs ≡ 64 → Moving none by c dy 0 rs ds ds vs
-  move-none a b = record { done = record { first = λ k h. absurd (not-suc-le-zero h); second = λ k h. absurd (not-suc-le-zero h) }; rest = λ i h. refl; long-u = a; long-v = b }
+module _ (from : Float → Float → Point) (ds rs : List Float) where
+  pub move-none : {us vs : List Float} → length us ≡ 64 → length vs ≡ 64 → Moving from 0 ds rs us vs
+  move-none a b = record { done = record { kept = λ k h. absurd (not-suc-le-zero h) }; long-u = a; long-v = b }
 
-  pub move-more : (k : ℕ) {us vs : List Float} {u : Float} → k < 64 → u ≡ unless (none (at rs k)) (at c 4 ⊕ at us k ⊗ by (at rs k) ⊗ at c 6)
-      → Moving none by c dy k rs ds us vs → Moving none by c dy (k + 1) rs ds (set us k u) (set vs k (at c 5 ⊕ dy ⊗ by (at rs k) ⊗ at c 6))
-  move-more k {us} {vs} {u} h e old =
+  pub move-more : ((d r : Float) → Whole (from d r)) → (k : ℕ) {us vs : List Float} {p : Point} → p ≡ from (at ds k) (at rs k) → k < 64
+      → Moving from k ds rs us vs → Moving from (k + 1) ds rs (set us k (p .u)) (set vs k (p .v))
+  move-more w k {us} {vs} e h old =
       record {
         done = record {
-          first =
-              store-more (λ (i : ℕ) (z : Float). z ≡ unless (none (at rs i)) (at c 4 ⊕ at ds i ⊗ by (at rs i) ⊗ at c 6)) k us (old .long-u) h
-              (e ∙ ap (λ (z : Float). unless (none (at rs k)) (at c 4 ⊕ z ⊗ by (at rs k) ⊗ at c 6)) (old .rest k (omega arith)))
-              (old .done .first);
-          second = store-more (λ (i : ℕ) (z : Float). z ≡ at c 5 ⊕ dy ⊗ by (at rs i) ⊗ at c 6) k vs (old .long-v) h refl (old .done .second);
+          kept =
+              both-more (λ (i : ℕ) (u v : Float). from (at ds i) (at rs i) ≡ point u v) k us vs (old .long-u) (old .long-v) h
+              (read-back e (w (at ds k) (at rs k))) (old .done .kept);
         };
-        rest = λ i g. getD-set-other us k i u nan (later g) ∙ old .rest i (omega arith);
-        long-u = length-set us k u ∙ old .long-u;
+        long-u = length-set us k _ ∙ old .long-u;
         long-v = length-set vs k _ ∙ old .long-v;
       }
-    where
-      later : {i k : ℕ} → k + 1 ≤ i → i ≢ k
-      later h e = omega arith
 
-  pub move-last : (k n : ℕ) {us vs : List Float} → n ≤ k → Moving none by c dy k rs ds us vs → Moved none by c dy n rs ds us vs
-  move-last k n a s = record { first = λ i h. s .done .first i (omega arith); second = λ i h. s .done .second i (omega arith) }
+  pub move-last : (k n : ℕ) {us vs : List Float} → n ≤ k → Moving from k ds rs us vs → Moved from n ds rs us vs
+  move-last k n a s = record { kept = λ i h. s .done .kept i (omega arith) }
 
 -- ---- the three steps together
-radius : (c : Vector) (x y : Float) (first n : ℕ) {ds ss rs : List Float} → Radii c x (down c y) first n ds ss → Roots n ss rs
-    → (k : ℕ) → k < n → at rs k ≡ root (across c (middle (first + k) x) ⊗ across c (middle (first + k) x) ⊕ down c y ⊗ down c y)
-radius c x y first n a r k h = r .each k h ∙ ap root (a .square k h)
+radius : (c : Vector) (x dy : Float) (first n : ℕ) {ds ss rs : List Float} → Squares c x dy first n ds ss → Roots n ss rs
+    → (k : ℕ) → k < n → at rs k ≡ root (square (across c (middle (first + k) x)) dy)
+radius c x dy first n S R k h = R .each k h ∙ ap root (S .each k h .1)
 
-module _ (c : Vector) (x y : Float) (first n : ℕ) {ds ss rs us vs : List Float} where
-  pub barrel-stretch : Radii c x (down c y) first n ds ss → Roots n ss rs → Moved (λ (r : Float). false) (cubic c) c (down c y) n rs ds us vs → Stretch (λ (a : Float). barrel c a y) x first n us vs
-  barrel-stretch a r m = record { kept = λ k h. rw (m .first k h, m .second k h, a .offset k h, radius c x y first n a r k h) (kept-point _ _) }
+module _ (c : Vector) (x y : Float) (first n : ℕ) {dy : Float} {ds ss rs us vs : List Float} where
+  pub barrel-stretch : dy ≡ down c y → Squares c x dy first n ds ss → Roots n ss rs → Moved (barrelFrom c dy) n ds rs us vs
+      → Stretch (λ (a : Float). barrel c a y) x first n us vs
+  barrel-stretch e S R m = record { kept = λ k h. rw (← e, ← radius c x dy first n S R k h, ← S .each k h .0) (m .kept k h) }
 
-  pub barrel-inverse-stretch :
-      Radii c x (down c y) first n ds ss → Roots n ss rs → Moved (small c) (λ (r : Float). one ⊘ cubic c r) c (down c y) n rs ds us vs
+  pub barrel-inverse-stretch : dy ≡ down c y → Squares c x dy first n ds ss → Roots n ss rs → Moved (barrelInverseFrom c dy) n ds rs us vs
       → Stretch (λ (a : Float). barrelInverse c a y) x first n us vs
-  unfolding barrelInverse
-  barrel-inverse-stretch a r m = record {
-    kept = λ k h.
-        let d = across c (middle (first + k) x) in
-        let f = cubic c (root (d ⊗ d ⊕ down c y ⊗ down c y)) in
-        rw (m .first k h, m .second k h, a .offset k h, radius c x y first n a r k h)
-        (kept-either (small c (root (d ⊗ d ⊕ down c y ⊗ down c y))) (at c 4 ⊕ d ⊗ (one ⊘ f) ⊗ at c 6) (at c 5 ⊕ down c y ⊗ (one ⊘ f) ⊗ at c 6));
-  }
+  barrel-inverse-stretch e S R m = record { kept = λ k h. rw (← e, ← radius c x dy first n S R k h, ← S .each k h .0) (m .kept k h) }

@@ -17,6 +17,7 @@ use Rattle.arguments.specs.Refusal as Arguments
 use Rattle.arguments.specs.Store as Store
 use Rattle.fit.specs.Affine as Affine
 use Rattle.fit.specs.Barrel as Barrel
+use Rattle.inverse.specs.Barrel as Points
 use Rattle.build.specs.Build as Build
 use Rattle.matrix.specs.Invert as Invert
 use Rattle.mappings.specs.Mapping as Mappings
@@ -103,7 +104,7 @@ unfolding Refusal.windowOf Refusal.fitOf Build.build Build.made Method.present A
 identity-box = refl
 
 barrel-stays : Source (barrelAt 0x3fe0_0000_0000_0000 0x3fe0_0000_0000_0000 (Build.build Method.barrel (f64s (0 ∷ 0 ∷ 0 ∷ [])) 4 4 .mapping)) ≡ Source (record { u = double 0x3fe0_0000_0000_0000; v = double 0x3fe0_0000_0000_0000; usable = true })
-unfolding Build.build Build.made Method.present Arguments.badCount Arguments.badFor Arguments.badNumber Arguments.stillGood Arguments.goodNumber Arguments.badOrder Arguments.fewPairs Arguments.pairsOf Method.skip Method.leastPairs Arguments.refusal firstOf Store.valuesOf Store.keep Store.zeros Store.heldOf Store.orderOf Barrel.barrel Barrel.givenOr Mappings.mapping numberAt putNumber upTo turns add sub mul div neg sum round ofBits ofInt lt le Magnitude.abs Magnitude.within Magnitude.fmin Inverse.inverse Point.usable Root.root Root.rootOf Root.nearestRoot Root.wholeRoot isNan
+unfolding Build.build Build.made Method.present Arguments.badCount Arguments.badFor Arguments.badNumber Arguments.stillGood Arguments.goodNumber Arguments.badOrder Arguments.fewPairs Arguments.pairsOf Method.skip Method.leastPairs Arguments.refusal firstOf Store.valuesOf Store.keep Store.zeros Store.heldOf Store.orderOf Barrel.barrel Barrel.givenOr Mappings.mapping numberAt putNumber upTo turns add sub mul div neg sum round ofBits ofInt lt le Magnitude.abs Magnitude.within Magnitude.fmin Inverse.inverse Points.barrelFrom Point.usable Root.root Root.rootOf Root.nearestRoot Root.wholeRoot isNan
 barrel-stays = refl
 
 nine-pairs-7 : Cards.Refusal (Refusal.refusal (asked (image 1 1 4) (given Method.polynomial ninePairs 0))) ≡ Cards.Refusal 7

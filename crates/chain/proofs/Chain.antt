@@ -14,11 +14,12 @@ use Rattle.distort.specs.Job.{Image, Call}
 use Rattle.distort.specs.Refusal.{refusal}
 use Rattle.distort.specs.declared.answer.Answer.{Answer}
 use Rattle.distort.proofs.AcceptedLaws.{accepted-call}
+use Rattle.distort.proofs.CallLaws.{answer-accepted, left-accepted}
 use Rattle.chain.specs.Demand.{First, Conditions, Lent, Each, ThirdDemand, NoWarps}
 use Rattle.chain.specs.Exact.{ExactImage, exactly, exactWarp, exactChain}
 use Rattle.chain.specs.Warps.{heightIn, pictured, accepted, allRows, together, Warp, State, start, group, completes, warped, waits, step, run, after}
 use Rattle.chain.proofs.Faithful.{Faithful, first-faithful}
-use Rattle.chain.proofs.JoinLaws.{answer-accepted, left-accepted, Every, every-append, IsAccepted, together-is}
+use Rattle.chain.proofs.JoinLaws.{Every, every-append, IsAccepted, together-is}
 use Rattle.chain.proofs.SameLaws.{both-hold}
 use Rattle.chain.proofs.WarpLaws.{warpOf, warp-faithful}
 

@@ -1,6 +1,6 @@
 -- Calls for fewer rows that complete a warp leave, put together, what that warp leaves. Those that are alike to the last of them ask of one job; each that is accepted
 -- holds rows of that job's warp, and every row is held by one of them.
--- Provides: `answer-accepted`, `left-accepted`; `Every`, `every-append`, `IsAccepted`; `together-is`. Assumes nothing.
+-- Provides: `Every`, `every-append`, `IsAccepted`; `together-is`. Assumes nothing.
 use mathlib.Core.Path.{_≡_, refl, sym, ap, _∙_, subst}
 use mathlib.Core.Bool.{Bool, true, false, false≢true, cond, _&&_, _||_}
 use mathlib.Core.List.{List, [], _∷_, _++_}
@@ -19,18 +19,10 @@ use Rattle.distort.specs.Refusal.{channelsOf, refusal}
 use Rattle.distort.specs.declared.answer.Answer.{Answer}
 use Rattle.put.proofs.LengthLaws.{row-length}
 use Rattle.distort.proofs.BandLaws.{rowLength}
-use Rattle.distort.proofs.CallLaws.{size, accepted-answer}
+use Rattle.distort.proofs.CallLaws.{size, answer-accepted, left-accepted}
 use Rattle.put.proofs.JoinedLaws.{joined-none, joined-next, joined-same, joined-part}
 use Rattle.chain.specs.Warps.{alike, sameImage, heightIn, holds, anyHolds, everyRow, rowIn, alikeTo, rowSize, together, State, group, completes}
 use Rattle.chain.proofs.SameLaws.{both-hold, alike-same}
-
--- ---- an accepted call
-module _ (c : Call) (e : refusal c ≡ 0) where
-  pub answer-accepted : answer c ≡ size c
-  answer-accepted = ap (λ (r : Answer × List ℕ). r .0) (sym (accepted-answer c e))
-
-  pub left-accepted : left c ≡ rowsOf (c .image) (c .given) (c .first) (c .rows)
-  left-accepted = ap (λ (r : Answer × List ℕ). r .1) (sym (accepted-answer c e))
 
 -- ---- P of each call
 abbrev pub Every : (Call → Type 0) → List Call → Type 0

@@ -9,8 +9,8 @@ use Rattle.distort.specs.Job.{Call}
 use Rattle.distort.specs.Refusal.{refusal}
 use Rattle.distort.proofs.AcceptedLaws.{accepted-call}
 use Rattle.distort.proofs.BandLaws.{rows-length}
+use Rattle.distort.proofs.CallLaws.{left-accepted}
 use Rattle.chain.specs.Warps.{accepted}
-use Rattle.chain.proofs.JoinLaws.{left-accepted}
 use Rattle.chain.proofs.RefusedLaws.{refused-left}
 
 pub keeps-length : (c : Call) → length (left c) ≡ length (c .band)

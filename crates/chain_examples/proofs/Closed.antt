@@ -1,5 +1,5 @@
 -- Facts about closed numbers, by computing: each test here is a Boolean that stands for one of the demand's conditions, so that at numbers it is shown by `tt`.
--- Provides: `below-every`, `closed`, `unit`, `linear`, `poly`. Assumes nothing.
+-- Provides: `below-every`, `closed`, `unit`, `linear`, `poly`, `both`. Assumes nothing.
 use mathlib.Core.Path.{_≡_, subst}
 use mathlib.Core.Bool.{Bool, true, false, not, _&&_}
 use Prim.Native.Nat.{ℕ, zero, suc, _+_, _*_, _≤_, _<_}
@@ -10,10 +10,10 @@ use lib.Ieee.Scale.{finite}
 use Rattle.exact.specs.Fraction.{Fraction, over, frac, value, _≤F_, _*F_, absF}
 use Rattle.exact.specs.Sums.{Linear}
 use Rattle.nearness.specs.Conditions.{PolyTerms}
-use Rattle.nearness.specs.ExactPoint.{monomialsF, powerAt}
+use Rattle.nearness.specs.ExactPoint.{powerAt, many}
 use Rattle.chain.specs.Demand.{InUnit}
 
-both : (s t : Bool) → T (s && t) → T s × T t
+pub both : (s t : Bool) → T (s && t) → T s × T t
 both true t h = (tt, h)
 both false t h = absurd h
 
@@ -69,13 +69,17 @@ linear {m} {n} {o} {X} {Y} {b} t =
     let f = both (leF (absF (value n *F Y)) b) _ (e .1) in
     record { number-m = a .0; number-n = c .0; number-o = d .0; term-x = closed (e .0); term-y = closed (f .0); term-1 = closed (f .1) }
 
--- ---- the sum of the terms 1, x, y and xy
-unfoldable pub termly : Fraction → Fraction → (ℕ → Float) → ℕ → Bool
-termly X Y c k = finite (c k) && leF (absF (powerAt 0 X Y k *F value (c k))) (frac 16384 1)
+-- ---- a sum over the monomials of an order
+unfoldable pub termly : ℕ → Fraction → Fraction → (ℕ → Float) → ℕ → Bool
+termly order X Y c k = finite (c k) && leF (absF (powerAt order X Y k *F value (c k))) (frac 16384 1)
 
-pub poly : {X Y : Fraction} {c : ℕ → Float} → T (below (termly X Y c) 4) → PolyTerms 0 X Y c
-unfolding monomialsF termly
-poly {X} {Y} {c} t = record {
-  number = λ (k : ℕ) h. both (finite (c k)) _ (below-every (termly X Y c) 4 t k h) .0;
-  size = λ (k : ℕ) h. closed (both (finite (c k)) _ (below-every (termly X Y c) 4 t k h) .1);
+unfoldable pub polynomially : ℕ → Fraction → Fraction → (ℕ → Float) → Bool
+unfolding below termly
+polynomially order X Y c = below (termly order X Y c) (many order X Y)
+
+pub poly : (order : ℕ) (X Y : Fraction) (c : ℕ → Float) → T (polynomially order X Y c) → PolyTerms order X Y c
+unfolding polynomially
+poly order X Y c t = record {
+  number = λ (k : ℕ) h. both (finite (c k)) _ (below-every (termly order X Y c) (many order X Y) t k h) .0;
+  size = λ (k : ℕ) h. closed (both (finite (c k)) _ (below-every (termly order X Y c) (many order X Y) t k h) .1);
 }

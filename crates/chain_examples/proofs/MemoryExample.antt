@@ -10,15 +10,16 @@ use lib.Dec.{lit≤}
 use lib.IntN.{pos}
 use lib.ListN.{length}
 use Rattle.distort.specs.Call.{left}
-use Rattle.distort.specs.Job.{Image, Given, Call}
+use Rattle.distort.specs.Job.{Image, Call}
 use Rattle.chain.specs.Demand.{Conditions, Each, Near}
 use Rattle.chain.specs.Exact.{exactly, exactChain}
 use Rattle.chain.specs.Memory.{Memory, read, among, written, Asked, callIn, Event, Calls, Writes, Lies, Home, Nowhere, At, World, homeAfter, happens, lived, KeptCall, Kept, AllKept, born, lying}
 use Rattle.chain.specs.Warps.{sameBytes, sameWhole, sameImage, sameGiven, alike, accepted, allRows, holds, anyHolds, everyRow, rowIn, alikeTo, rowSize, together, completes, step, Warp, State}
 use Rattle.chain.proofs.ApartLaws.{asking, apart-by, write-by}
-use Rattle.chain_examples.proofs.Example.{p0, p1, p2, p3, shifted, tilted, spread, row, low, made, warps, first, conditions}
+use Rattle.chain_examples.proofs.Example.{p1, p2, p3, shifted, tilted, spread, warps, conditions}
 use Rattle.chain.proofs.MemoryLaws.{memory-demand}
 use Rattle.chain_examples.proofs.Opened.{opened}
+use Rattle.chain_examples.proofs.Small.{low, p0, first, made, asks, row}
 use Rattle.chain.proofs.ReadLaws.{read-back}
 use Rattle.chain.proofs.RefusedLaws.{refused-changes-nothing}
 
@@ -66,9 +67,6 @@ lower = asking 100 24 p1 tilted 1 1 200 12
 
 abbrev three : Asked
 three = asking 300 24 p2 spread 0 2 0 24
-
-abbrev asks : Image → Given → ℕ → ℕ → List ℕ → Call
-asks p g first rows band = record { image = p; given = g; first = first; rows = rows; band = band }
 
 -- the upper row of the second warp
 abbrev up : List ℕ

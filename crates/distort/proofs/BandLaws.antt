@@ -1,12 +1,10 @@
 -- The laws of a band: its length, a part of its rows, rows in two parts, and how many pixels are matte. A band for some rows of a job holds those rows of
 -- the job's whole output, byte for byte, and its matte pixels add up with the others'. Assumes nothing.
 use mathlib.Core.Path.{_≡_, sym, ap, _∙_, subst}
-use mathlib.Core.Bool.{cond}
 use mathlib.Core.List.{List, _++_}
 use Prim.Native.Nat.{ℕ, _+_, _*_, _≤_}
 use native.Mathlib.Nat.{add-assoc, zero-add, mul-one}
 use native.Mathlib.Omega.{arith}
-use lib.Dec.{eqb}
 use lib.ListN.{length, take, drop}
 use Rattle.put.specs.Band.{Frame, Source, pointAt, colourAt, matteAt, pixelBytes, rowBytes, rowsBytes, rowMatte, rowsMatte}
 use Rattle.distort.specs.Call.{outWidth, frameOf, sourceOf, rowsOf, matteOf, left}
@@ -15,6 +13,7 @@ use Rattle.put.specs.Joined.{joined, totalled}
 use Rattle.distort.specs.Refusal.{channelsOf, refusal}
 use Rattle.put.proofs.JoinedLaws.{joined-length, joined-part, joined-cut, joined-same, totalled-cut, totalled-same, totalled-most}
 use Rattle.put.proofs.LengthLaws.{row-length, row-matte-most}
+use Rattle.distort.proofs.CallLaws.{left-accepted}
 
 -- ---- of a source and a frame
 module _ (s : Source) (f : Frame) (channels width : ℕ) where
@@ -78,15 +77,11 @@ module _ (p : Image) (g : Given) where
   mattes-add r k l = matte-join (sourceOf p g) (frameOf p g) (channelsOf p g) (outWidth p g) r k l
 
 -- ---- of calls: what an accepted call for some rows leaves are those rows of what the accepted call for all of them, from row 0 on, leaves
-accepted-left : (c : Call) → refusal c ≡ 0 → left c ≡ rowsOf (c .image) (c .given) (c .first) (c .rows)
-unfolding left
-accepted-left c e = ap (λ (n : ℕ). cond (eqb n 0) (rowsOf (c .image) (c .given) (c .first) (c .rows)) (c .band)) e
-
 pub left-part : (c warp : Call) → c .image ≡ warp .image → c .given ≡ warp .given → refusal c ≡ 0 → refusal warp ≡ 0 → warp .first ≡ 0 → c .first + c .rows ≤ warp .rows
     → left c ≡ take (c .rows * rowLength (warp .image) (warp .given)) (drop (c .first * rowLength (warp .image) (warp .given)) (left warp))
 left-part c warp ei eg a b f h =
-    accepted-left c a
+    left-accepted c a
     ∙ (λ t. rowsOf (ei t) (eg t) (c .first) (c .rows))
     ∙ sym (rows-part (warp .image) (warp .given) (c .first) (c .rows) (warp .rows) h)
     ∙ ap (λ (x : List ℕ). take (c .rows * rowLength (warp .image) (warp .given)) (drop (c .first * rowLength (warp .image) (warp .given)) x))
-    (sym (accepted-left warp b ∙ ap (λ (n : ℕ). rowsOf (warp .image) (warp .given) n (warp .rows)) f))
+    (sym (left-accepted warp b ∙ ap (λ (n : ℕ). rowsOf (warp .image) (warp .given) n (warp .rows)) f))

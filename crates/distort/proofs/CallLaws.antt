@@ -3,7 +3,7 @@
 use mathlib.Core.Path.{_≡_, refl, sym, ap, _∙_}
 use mathlib.Core.Bool.{Bool, true, false, not, cond}
 use mathlib.Core.List.{List, [], _∷_}
-use Prim.Native.Nat.{ℕ, _+_, _*_, _<_}
+use Prim.Native.Nat.{ℕ, zero, suc, _+_, _*_, _<_}
 use native.Mathlib.Omega.{arith}
 use lib.Dec.{eqb, ltb, lit≤}
 use lib.ListN.{length}
@@ -14,7 +14,7 @@ use Rattle.window.specs.Window.{xOf, yOf}
 use Rattle.distort.specs.declared.answer.Answer.{Answer}
 use Rattle.distort.specs.declared.answer.Answer.the-variants.{Accepted, Refused}
 use Rattle.put.specs.Band.{rowsBytes, rowsMatte}
-use Rattle.distort.specs.Call.{outWidth, outHeight, frameOf, sourceOf, rowsOf, matteOf, answer, left}
+use Rattle.distort.specs.Call.{outWidth, outHeight, frameOf, sourceOf, rowsOf, matteOf, answer, left, numberOf}
 use Rattle.distort.specs.Job.{Image, Given, Call}
 use Rattle.distort.specs.Placed.{inWindow}
 use Rattle.distort.specs.Refusal.{windowOf, channelsOf, badRows, badTray, jobRefusal, refusal}
@@ -50,6 +50,21 @@ module _ (c : Call) where
       let q = eq-eqb (refusal c) 0 e in
       pair (sym (ap (λ (b : Bool). cond b size (Refused (refusal c))) q))
       (sym (ap (λ (b : Bool). cond b (rowsOf (c .image) (c .given) (c .first) (c .rows)) (c .band)) q))
+
+  -- each by itself
+  pub answer-accepted : refusal c ≡ 0 → answer c ≡ size
+  answer-accepted e = ap (λ (r : Answer × List ℕ). r .0) (sym (accepted-answer e))
+
+  pub left-accepted : refusal c ≡ 0 → left c ≡ rowsOf (c .image) (c .given) (c .first) (c .rows)
+  left-accepted e = ap (λ (r : Answer × List ℕ). r .1) (sym (accepted-answer e))
+
+  -- the answer's number is the refusal's, and 0 where there is none
+  pub answer-number : numberOf (answer c) ≡ refusal c
+  answer-number = go (refusal c) refl
+    where
+      go : (n : ℕ) → refusal c ≡ n → numberOf (answer c) ≡ n
+      go zero e = ap numberOf (answer-accepted e)
+      go (suc n) e = ap (λ (r : Answer × List ℕ). numberOf (r .0)) (sym (refused-answer (suc n) (omega arith) e))
 
   -- once no row of the job holds
   pub placed-answer : jobRefusal (c .image) (c .given) ≡ 0

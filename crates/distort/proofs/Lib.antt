@@ -8,6 +8,7 @@ pub mod DistortLaws
 pub mod JobLaws
 pub mod LargeLaws
 pub mod PlacedLaws
+pub mod RowsOfTheWarp
 pub mod SampleLaws
 pub mod SizeLaws
 pub mod ViewLaws

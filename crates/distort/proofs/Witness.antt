@@ -41,6 +41,7 @@ abbrev pub calls : List Call
 calls =
     ask black Method.affine (zeros 4) 0 0 1 16  -- one pair at the origin, all of the one row
     ∷ (ask black Method.affine (zeros 4) 0 1 0 0  -- no rows
+    ∷ (ask (imageOf (replicate 8 0) 1 2 1) Method.affine (zeros 4) 0 1 1 16  -- the second of two rows
     ∷ (ask (imageOf [] 0 1 1) Method.affine (zeros 4) 0 0 1 16
     ∷ (ask (grey (replicate 3 0)) Method.affine (zeros 4) 0 0 1 16
     ∷ (ask black 2 (zeros 4) 0 0 1 16  -- `ScaleRotateTranslate`
@@ -52,8 +53,8 @@ calls =
     ∷ (ask black Method.affine (zeros 4) 1 0 1 16  -- a viewport of 0 by 0
     ∷ (ask black Method.affine (zeros 4) 0 1 1 16
     ∷ (ask black Method.affine (zeros 4) 0 0 1 15
-    ∷ []))))))))))))
+    ∷ [])))))))))))))
 
-pub numbers : map refusal calls ≡ 0 ∷ (0 ∷ (1 ∷ (2 ∷ (3 ∷ (4 ∷ (5 ∷ (6 ∷ (7 ∷ (8 ∷ (9 ∷ (10 ∷ (11 ∷ []))))))))))))
+pub numbers : map refusal calls ≡ 0 ∷ (0 ∷ (0 ∷ (1 ∷ (2 ∷ (3 ∷ (4 ∷ (5 ∷ (6 ∷ (7 ∷ (8 ∷ (9 ∷ (10 ∷ (11 ∷ [])))))))))))))
 unfolding refusal firstOf badSide badChannels badSize badStock badCode large badNumber degenerate badWindow badRows badTray fitOf windowOf widest widened pixelAt present skip leastPairs Arguments.refusal Arguments.badCount Arguments.badFor Arguments.badValues Arguments.badNumber Arguments.stillGood Arguments.goodNumber Arguments.badOrder Arguments.pairsOf Arguments.fewPairs goodOrder termsOf bilinearOrder degree heldOf keep valuesOf orderOf build made affine shift affineProjection invertAffine mapping refused solvedOr8 window joined held goodOffset goodLength upTo turns within abs numberAt ofBits ofFields ofInt odd lt le eq add sub mul div neg isNan sum round units size span climb
 numbers = refl

@@ -8,7 +8,7 @@ use Rattle.number.specs.Magnitude.{abs, within}
 use Rattle.root.specs.Root.{root, rootOf, nearestRoot, wholeRoot}
 use Rattle.matrix.specs.Matrix.{Vector}
 use Rattle.point.specs.Point.{usable}
-use Rattle.inverse.specs.Barrel.{barrel}
+use Rattle.inverse.specs.Barrel.{barrelFrom, barrel}
 
 abbrev zero : Float
 zero = fin false 0 (pos 0)
@@ -26,5 +26,5 @@ abbrev plain : Vector
 plain = zero ∷ zero ∷ zero ∷ one ∷ two ∷ two ∷ two ∷ []
 
 pub stays : barrel plain half half ≡ record { u = half; v = half; usable = true }
-unfolding add sub mul div sum round ofBits le abs within root rootOf nearestRoot wholeRoot usable
+unfolding add sub mul div sum round ofBits le abs within root rootOf nearestRoot wholeRoot usable barrelFrom
 stays = refl

@@ -1,3 +1,4 @@
--- The laws of the source points, a file for each subject. Other crates cite those of MarkLaws.
+-- The laws of the source points, a file for each subject. Other crates cite those of WholePoints.
 pub mod PolynomialLaws
 pub mod BarrelExample
+pub mod WholePoints

@@ -17,22 +17,32 @@ across c x = (x ⊖ at c 4) ⊘ at c 6
 abbrev pub down : Vector → Float → Float
 down c y = (y ⊖ at c 5) ⊘ at c 6
 
-abbrev pub cubic : Vector → Float → Float
-cubic c r = at c 0 ⊗ r ⊗ r ⊗ r ⊕ at c 1 ⊗ r ⊗ r ⊕ at c 2 ⊗ r ⊕ at c 3
+-- the squared radius
+abbrev pub square : Float → Float → Float
+square dx dy = dx ⊗ dx ⊕ dy ⊗ dy
 
-abbrev pub factor : Vector → Float → Float → Float
-factor c dx dy = cubic c (root (dx ⊗ dx ⊕ dy ⊗ dy))
+-- the factor at the radius r
+abbrev pub factor : Vector → Float → Float
+factor c r = at c 0 ⊗ r ⊗ r ⊗ r ⊕ at c 1 ⊗ r ⊗ r ⊕ at c 2 ⊗ r ⊕ at c 3
 
 -- the offset times s, from the centre
 abbrev pub scaled : Vector → Float → Float → Float → Point
 scaled c dx dy s = point (at c 4 ⊕ dx ⊗ s ⊗ at c 6) (at c 5 ⊕ dy ⊗ s ⊗ at c 6)
 
-abbrev pub barrel : Vector → Float → Float → Point
-barrel c x y = scaled c (across c x) (down c y) (factor c (across c x) (down c y))
+-- ---- from the offset and the radius on
+unfoldable pub barrelFrom : Vector → Float → Float → Float → Point
+barrelFrom c dy dx r = scaled c dx dy (factor c r)
 
 -- no point where the factor is too small
-unfoldable pub barrelInverse : Vector → Float → Float → Point
-barrelInverse c x y =
-    cond (lt (abs (factor c (across c x) (down c y))) (ofBits binary64 0x3d71_9799_812d_ea11))  -- 1e-12
+unfoldable pub barrelInverseFrom : Vector → Float → Float → Float → Point
+barrelInverseFrom c dy dx r =
+    cond (lt (abs (factor c r)) (ofBits binary64 0x3d71_9799_812d_ea11))  -- 1e-12
     none
-    (scaled c (across c x) (down c y) (one ⊘ factor c (across c x) (down c y)))
+    (scaled c dx dy (one ⊘ factor c r))
+
+-- ---- from the output point on
+abbrev pub barrel : Vector → Float → Float → Point
+barrel c x y = barrelFrom c (down c y) (across c x) (root (square (across c x) (down c y)))
+
+abbrev pub barrelInverse : Vector → Float → Float → Point
+barrelInverse c x y = barrelInverseFrom c (down c y) (across c x) (root (square (across c x) (down c y)))

@@ -2,17 +2,14 @@
 ghost use mathlib.Core.Path.{_≡_};
 ghost use Rattle.perspective.specs.Perspective as Perspective;
 use point::point::Point;
-use point::usable::none;
-use point::usable::point;
+use point::usable::point_unless;
 
 pub fn perspective(m: &[f64; 256], x: f64, y: f64) -> Point
     ensures { λ r. ⌜ r ≡ Perspective.perspective (now (m .entry)) x y ⌝ }
 {
     let wq = m[6] * x + m[7] * y + m[8];
-    if wq <= 1e-12 {
-        return none();
-    }
-    point(
+    point_unless(
+        wq <= 1e-12,
         (m[0] * x + m[1] * y + m[2]) / wq,
         (m[3] * x + m[4] * y + m[5]) / wq,
     )

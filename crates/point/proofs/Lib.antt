@@ -1,2 +1,3 @@
--- The laws of usable points.
+-- The laws of usable points, and of points by their coordinates.
 pub mod UsableLaws
+pub mod WholeLaws

@@ -1,8 +1,9 @@
--- A source point: u and v in the picture, and whether they can be used. Where a mapping has none, u and v are +0. Assumes nothing.
-use mathlib.Core.Bool.{Bool, false, _&&_}
-use lib.Ieee.{Float, binary64, ofBits}
+-- A source point: u and v in the picture, and whether they can be used. Where a mapping has none, u and v are NaNs, which can't be used: so every point is
+-- `point` of its own coordinates, and keeping these is keeping the point. Assumes nothing.
+use mathlib.Core.Path.{_≡_}
+use mathlib.Core.Bool.{Bool, false, cond, _&&_}
+use lib.Ieee.{Float, nan, binary64, ofBits}
 use Rattle.number.specs.Magnitude.{within}
-use Rattle.matrix.specs.Matrix.{nought}
 use Rattle.point.specs.declared.point.Point.{Point}
 
 abbrev pub limit : Float
@@ -16,4 +17,12 @@ abbrev pub point : Float → Float → Point
 point u v = record { u = u; v = v; usable = usable u v }
 
 abbrev pub none : Point
-none = record { u = nought; v = nought; usable = false }
+none = record { u = nan; v = nan; usable = false }
+
+-- none where the test holds
+abbrev pub pointUnless : Bool → Float → Float → Point
+pointUnless t u v = cond t none (point u v)
+
+-- what every mapping gives: the point of its own coordinates
+pub record Whole (p : Point) : Type 0 where
+  pub whole : p ≡ point (p .u) (p .v)

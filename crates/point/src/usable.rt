@@ -1,5 +1,7 @@
-// Whether a source point can be used, and the two ways to make one. Assumes nothing.
+// Whether a source point can be used, and the three ways to make one. None has a branch, so that a loop over them takes several at a time. Assumes nothing.
 ghost use mathlib.Core.Path.{_≡_};
+ghost use mathlib.Core.Bool.{cond};
+ghost use lib.Ieee.{nan};
 ghost use Rattle.point.specs.Point as Points;
 use crate::point::Point;
 use number::magnitude::abs;
@@ -10,10 +12,7 @@ const LIMIT: f64 = 1073741824.0; // 2^30
 fn usable(u: f64, v: f64) -> bool
     ensures { λ r. ⌜ r ≡ Points.usable u v ⌝ }
 {
-    if abs(u) <= LIMIT {
-        return abs(v) <= LIMIT;
-    }
-    false
+    (abs(u) <= LIMIT) & (abs(v) <= LIMIT)
 }
 
 pub fn point(u: f64, v: f64) -> Point
@@ -31,8 +30,22 @@ pub fn none() -> Point
     ensures { λ r. ⌜ r ≡ Points.none ⌝ }
 {
     Point {
-        u: 0.0,
-        v: 0.0,
+        u: 0.0 / 0.0,
+        v: 0.0 / 0.0,
         usable: false,
     }
+}
+
+// A coordinate, or none's.
+fn unless(none: bool, u: f64) -> f64
+    ensures { λ r. ⌜ r ≡ cond none nan u ⌝ }
+{
+    if none { 0.0 / 0.0 } else { u }
+}
+
+// The point, or none where the test holds: chosen number by number.
+pub fn point_unless(none: bool, u: f64, v: f64) -> Point
+    ensures { λ r. ⌜ r ≡ Points.pointUnless none u v ⌝ }
+{
+    point(unless(none, u), unless(none, v))
 }

@@ -1,3 +1,2 @@
--- The laws of the points of a stretch, a file for each subject.
-pub mod MarkLaws
+-- The laws of the source points of a stretch.
 pub mod PointsLaws

@@ -1,11 +1,10 @@
-// The source points of a stretch of a row, worked out before its colours: a loop for each kind, with no branch in those of Affine,
-// Perspective and the barrels, so that the compiler takes several pixels at a time. Assumes that the pixels lie within the limits of a window.
+// The source points of a stretch of a row, worked out before its colours: a loop for each kind around the mapping of one point, whose coordinates it keeps. Those of Affine,
+// Perspective and the barrels have no branch, so that the compiler takes several pixels at a time. Assumes that the pixels lie within the limits of a window.
 ghost use mathlib.Core.Path.{_≡_};
 ghost use Prim.Native.Nat.{_+_, _≤_};
 ghost use lib.IntN.{natAbs};
 ghost use lib.ListN.{length};
 ghost use lib.Ieee.{Float};
-ghost use Rattle.mappings.specs.Mapping.{barrelKind, barrelInverseKind};
 ghost use Rattle.forward.specs.Forward.{bilinearForward};
 ghost use Rattle.inverse.specs.Affine.{affine};
 ghost use Rattle.perspective.specs.Perspective.{perspective};
@@ -15,13 +14,14 @@ ghost use Rattle.points.specs.Points.{Points};
 use barrels::barrels::barrel_inverse_points;
 use barrels::barrels::barrel_points;
 use forward::forward::bilinear_forward;
+use inverse::affine::affine;
 use inverse::source::inverse;
 use mappings::mapping::AFFINE;
 use mappings::mapping::BARREL;
 use mappings::mapping::BARREL_INVERSE;
 use mappings::mapping::BILINEAR_FORWARD;
 use mappings::mapping::PERSPECTIVE;
-use stretch::mark::unless;
+use perspective::perspective::perspective;
 use stretch::pixel::asked;
 use stretch::pixel::middle;
 use stretch::pixel::offset;
@@ -39,16 +39,10 @@ fn affine_points(
     requires { ⌜ (n ≤ 64) × ((first + n ≤ 4096) × ((length (now us) ≡ 64) × (length (now vs) ≡ 64))) ⌝ }
     ensures { λ _. ⌜ Stretch (λ (a : Float). affine (now (coef .entry)) a y) x first n (now (us .exit)) (now (vs .exit)) ⌝ }
 {
-    let m0 = coef[0];
-    let m1 = coef[1];
-    let m2 = coef[2];
-    let m3 = coef[3];
-    let m4 = coef[4];
-    let m5 = coef[5];
     for k in 0..n {
-        let a = middle(first + (k as u32), x);
-        us[k] = m0 * a + m1 * y + m2;
-        vs[k] = m3 * a + m4 * y + m5;
+        let p = affine(coef, middle(first + (k as u32), x), y);
+        us[k] = p.u;
+        vs[k] = p.v;
     }
 }
 
@@ -64,20 +58,10 @@ fn perspective_points(
     requires { ⌜ (n ≤ 64) × ((first + n ≤ 4096) × ((length (now us) ≡ 64) × (length (now vs) ≡ 64))) ⌝ }
     ensures { λ _. ⌜ Stretch (λ (a : Float). perspective (now (coef .entry)) a y) x first n (now (us .exit)) (now (vs .exit)) ⌝ }
 {
-    let m0 = coef[0];
-    let m1 = coef[1];
-    let m2 = coef[2];
-    let m3 = coef[3];
-    let m4 = coef[4];
-    let m5 = coef[5];
-    let m6 = coef[6];
-    let m7 = coef[7];
-    let m8 = coef[8];
     for k in 0..n {
-        let a = middle(first + (k as u32), x);
-        let wq = m6 * a + m7 * y + m8;
-        us[k] = unless(wq <= 1e-12, (m0 * a + m1 * y + m2) / wq);
-        vs[k] = (m3 * a + m4 * y + m5) / wq;
+        let p = perspective(coef, middle(first + (k as u32), x), y);
+        us[k] = p.u;
+        vs[k] = p.v;
     }
 }
 
@@ -95,7 +79,7 @@ fn forward_points(
 {
     for k in 0..n {
         let p = bilinear_forward(coef, middle(first + (k as u32), x), y);
-        us[k] = unless(!p.usable, p.u);
+        us[k] = p.u;
         vs[k] = p.v;
     }
 }
@@ -117,59 +101,9 @@ fn other_points(
 {
     for k in 0..n {
         let p = inverse(kind, order, count, coef, middle(first + (k as u32), x), y);
-        us[k] = unless(!p.usable, p.u);
+        us[k] = p.u;
         vs[k] = p.v;
     }
-}
-
-// The points of Barrel at once, or one after another where a root was not settled.
-fn barrel_or_other(
-    kind: u64,
-    order: u64,
-    count: u64,
-    coef: &[f64; 256],
-    x: f64,
-    y: f64,
-    first: u32,
-    n: usize,
-    us: &mut [f64; 64],
-    vs: &mut [f64; 64],
-)
-    requires { ⌜ kind ≡ barrelKind ⌝ }
-    requires { ⌜ (n ≤ 64) × ((first + n ≤ 4096) × ((length (now us) ≡ 64) × (length (now vs) ≡ 64))) ⌝ }
-    ensures { λ _. ⌜ Stretch (λ (a : Float). inverse kind order count (now (coef .entry)) a y) x first n (now (us .exit)) (now (vs .exit)) ⌝ }
-{
-    if barrel_points(coef, x, y, first, n, us, vs) {
-        return;
-    }
-    sized(*us);
-    sized(*vs);
-    other_points(kind, order, count, coef, x, y, first, n, us, vs);
-}
-
-// The same for BarrelInverse.
-fn barrel_inverse_or_other(
-    kind: u64,
-    order: u64,
-    count: u64,
-    coef: &[f64; 256],
-    x: f64,
-    y: f64,
-    first: u32,
-    n: usize,
-    us: &mut [f64; 64],
-    vs: &mut [f64; 64],
-)
-    requires { ⌜ kind ≡ barrelInverseKind ⌝ }
-    requires { ⌜ (n ≤ 64) × ((first + n ≤ 4096) × ((length (now us) ≡ 64) × (length (now vs) ≡ 64))) ⌝ }
-    ensures { λ _. ⌜ Stretch (λ (a : Float). inverse kind order count (now (coef .entry)) a y) x first n (now (us .exit)) (now (vs .exit)) ⌝ }
-{
-    if barrel_inverse_points(coef, x, y, first, n, us, vs) {
-        return;
-    }
-    sized(*us);
-    sized(*vs);
-    other_points(kind, order, count, coef, x, y, first, n, us, vs);
 }
 
 // The first n of us and vs: the pixels from column `first` of row j on, of a window at x, y.
@@ -208,11 +142,11 @@ pub fn points(
         return;
     }
     if kind == BARREL {
-        barrel_or_other(kind, order, count, coef, a, b, start, n, us, vs);
+        barrel_points(coef, a, b, start, n, us, vs);
         return;
     }
     if kind == BARREL_INVERSE {
-        barrel_inverse_or_other(kind, order, count, coef, a, b, start, n, us, vs);
+        barrel_inverse_points(coef, a, b, start, n, us, vs);
         return;
     }
     other_points(kind, order, count, coef, a, b, start, n, us, vs);

@@ -12,7 +12,7 @@ use endian::pattern::f64_of_bits;
 use number_probes::size::wrong_size;
 use pixels::colour::Rgba;
 use pixels::pixel::pixel;
-use sampler::interpolate::interpolate;
+use sampler::interpolate::interpolate_at;
 use samples::large::large;
 use stored::store::put_pixel;
 
@@ -101,7 +101,7 @@ pub fn put_colour(
     ensures { λ _.
         ⌜ now (out .exit) ≡ putColour (now (picture .entry)) width height channels policy code background x y (now (out .entry)) k ⌝ }
 {
-    let c = interpolate(
+    let c = interpolate_at(
         picture,
         width,
         height,

@@ -2,5 +2,4 @@
 pub mod JoinedLaws
 pub mod LengthLaws
 pub mod PixelLaws
-pub mod ReachLaws
 pub mod RowLaws

@@ -54,7 +54,7 @@ colourAt s f i j = shown s (pointAt f i j)
 abbrev pub matteAt : Frame → ℕ → ℕ → ℕ
 matteAt f i j = cond (pointAt f i j .usable) 0 1
 
--- both where only the coordinates of its source point are kept, a NaN where it has none
+-- both by the coordinates of its source point
 abbrev pub keptColour : Source → Float → Float → Rgba
 keptColour s u v = shown s (point u v)
 
@@ -65,7 +65,7 @@ keptMatte u v = cond (usable u v) 0 1
 abbrev pub pixelBytes : ℕ → Rgba → List ℕ
 pixelBytes channels c = putPixel (replicate (channels * 4) 0) channels 0 c
 
--- ---- a stretch of n pixels whose source points are kept as us and vs, put from the pixel numbered `place` on
+-- ---- a stretch of n pixels whose source points have the coordinates us and vs, put from the pixel numbered `place` on
 -- what bytes become by it
 abbrev pub stretchBytes : Source → ℕ → List Float → List Float → ℕ → ℕ → List ℕ → List ℕ
 stretchBytes s channels us vs n place bytes =

@@ -1,7 +1,7 @@
-// One pixel of the band: shown from the picture half a pixel back from its source point in index space, or matte. Assumes that the bytes are
+// One pixel of the band: the picture's colour at its source point, or matte. Assumes that the bytes are
 // a picture's, and that the band has room for the pixel.
 ghost use mathlib.Core.Path.{_≡_};
-ghost use mathlib.Core.Bool.{true, cond};
+ghost use mathlib.Core.Bool.{cond};
 ghost use Prim.Native.Nat.{_+_, _*_, _≤_, _<_};
 ghost use lib.ListN.{length};
 ghost use Rattle.pixels.specs.Pixel.{Picture};
@@ -15,7 +15,7 @@ use point::usable::point;
 use sampler::interpolate::interpolate;
 use stored::store::put_pixel;
 
-// The colour at a source point, whose mark says that its coordinates can be used.
+// The colour at a source point, or matte where its mark says that it can't be used.
 fn shown(
     picture: &[u8],
     width: u64,
@@ -28,7 +28,7 @@ fn shown(
     p: Point,
 ) -> Rgba
     requires { ⌜ Picture (now picture) width height channels ⌝ }
-    requires { ⌜ (p .usable ≡ true → Points.usable (p .u) (p .v) ≡ true) ⌝ }
+    requires { ⌜ Points.Whole p ⌝ }
     ensures { λ r.
         ⌜ r ≡ Band.shown (record { image = record { bytes = now (picture .entry); width = width; height = height; channels = channels }; policy = policy; interpolation = interpolation; background = background; matte = matte }) p ⌝ }
 {
@@ -41,8 +41,7 @@ fn shown(
             policy,
             interpolation,
             background,
-            p.u - 0.5,
-            p.v - 0.5,
+            p,
         );
     }
     matte
@@ -55,7 +54,7 @@ fn missed(p: Point) -> u64
     if p.usable { 0 } else { 1 }
 }
 
-// The pixel whose source point is kept as u and v, put as the band's pixel numbered `place` of `depth` samples; and what it adds to the matte pixels.
+// The pixel whose source point has the coordinates u and v, put as the band's pixel numbered `place` of `depth` samples; and what it adds to the matte pixels.
 pub fn put_one(
     picture: &[u8],
     width: u64,

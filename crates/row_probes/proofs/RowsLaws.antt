@@ -1,4 +1,4 @@
--- The laws of rows: the tests are the definition's, lengths and limits that are not wrong are those that the loops ask for, what is kept of a stretch is
+-- The laws of rows: the tests are the definition's, lengths and limits that are not wrong are those that the loops ask for, a stretch's coordinates are
 -- written as its points, and a stretch more makes the row longer. Assumes nothing.
 use mathlib.Core.Path.{_≡_, refl, sym, ap, _∙_}
 use mathlib.Core.Bool.{Bool, true, false, cond, not, _||_, true≢false}
@@ -15,10 +15,10 @@ use Rattle.exact.specs.Sums.{asked}
 use Rattle.exact.proofs.Loop.{upTo-join, upTo-same}
 use Rattle.matrix.specs.Matrix.{Vector}
 use Rattle.point.specs.declared.point.Point.{Point}
-use Rattle.point.specs.Point.{point, none}
+use Rattle.point.specs.Point.{none}
 use Rattle.inverse.specs.Inverse.{inverse}
 use Rattle.window.specs.Span.{goodOffset}
-use Rattle.points.specs.Points.{Kept, Points}
+use Rattle.points.specs.Points.{Points}
 use Rattle.point_probes.specs.Pointed.{putPoint}
 use Rattle.row_probes.specs.Rows.{shown, putKept, putColumn, wrongRows}
 
@@ -77,23 +77,12 @@ shown-in {p} {q} e h = e ∙ sym (ap (λ (b : Bool). cond b q none) (ap (λ (z :
 pub shown-out : {p q r : Point} → p ≡ q → p .usable ≡ false → r ≡ none → r ≡ shown q
 shown-out {p} {q} e h g = g ∙ sym (ap (λ (b : Bool). cond b q none) (ap (λ (z : Point). z .usable) (sym e) ∙ h))
 
--- what is kept is the point, or both are none
-shown-kept : (p : Point) (u v : Float) (t : Bool) → p .usable ≡ t → Kept p u v → shown (point u v) ≡ shown p
-shown-kept p u v t e k = shows t e
-  where
-    shows : (t : Bool) → p .usable ≡ t → shown (point u v) ≡ shown p
-    shows false e = ap (λ (b : Bool). cond b (point u v) none) (k .marked ∙ e) ∙ sym (ap (λ (b : Bool). cond b p none) e)
-    shows true e = ap (λ (b : Bool). cond b (point u v) none) (k .marked ∙ e) ∙ same ∙ sym (ap (λ (b : Bool). cond b p none) e)
-      where
-        same : point u v ≡ p
-        same = λ i. record { u = k .across e i; v = k .down e i; usable = k .marked i }
-
 module _ (kind order count : ℕ) (coef : Vector) (x y : ℤ) (first j n place : ℕ) (us vs : List Float) (s : Points kind order count coef x y first j n us vs) where
   column : (i : ℕ) (out : List ℕ) → first ≤ i → i < first + n → putKept us vs first place i out ≡ putColumn kind order count coef x y j place i out
   unfolding putKept putColumn
   column i out l h =
       ap (putPoint out ((place + i) * 24))
-      (shown-kept _ _ _ _ refl (s .kept (i - first) (omega arith)) ∙ ap (λ (k : ℕ). shown (inverse kind order count coef (asked k x) (asked j y))) (back first i l))
+      (ap shown (sym (s .kept (i - first) (omega arith))) ∙ ap (λ (k : ℕ). shown (inverse kind order count coef (asked k x) (asked j y))) (back first i l))
     where
       back : (a b : ℕ) → a ≤ b → a + (b - a) ≡ b
       back a b l = omega arith

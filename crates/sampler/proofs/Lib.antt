@@ -3,3 +3,4 @@ pub mod AtFinite
 pub mod AtOpaque
 pub mod BilinearOpaque
 pub mod InterpolateFinite
+pub mod ReachLaws

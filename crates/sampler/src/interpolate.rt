@@ -1,7 +1,11 @@
-// The colour at a point of index space, by the interpolation's code: one tap alone, the weighted mean of several, or the background. Assumes
-// that the bytes are a picture's, and the point's coordinates at most 2^30 + 1 in magnitude.
+// The colour at a source point, by the interpolation's code: one tap alone, the weighted mean of several, or the background. Assumes that the bytes are a
+// picture's, and that the point can be used.
 ghost use mathlib.Core.Path.{_≡_};
+ghost use mathlib.Core.Bool.{true};
 ghost use Prim.Native.Nat.{_≤_, _<_};
+ghost use Rattle.exact.specs.Double.{_⊖_};
+ghost use Rattle.exact.specs.Warp.{half};
+ghost use Rattle.point.specs.Point as Points;
 ghost use Rattle.pixels.specs.At.{at};
 ghost use Rattle.cell.specs.Cell.{Reached, cell};
 ghost use Rattle.blend.specs.Interpolate as Interpolate;
@@ -13,6 +17,7 @@ use blend::square::several;
 use cell::cell::first;
 use indexed::at::at;
 use pixels::colour::Rgba;
+use point::point::Point;
 use sixteen::sixteen::cubic;
 
 // One tap alone.
@@ -44,7 +49,8 @@ fn single(
     )
 }
 
-pub fn interpolate(
+// At a point of index space, whose coordinates are at most 2^30 + 1 in magnitude.
+pub fn interpolate_at(
     picture: &[u8],
     width: u64,
     height: u64,
@@ -96,4 +102,33 @@ pub fn interpolate(
         5 => apart(bilinear(picture, width, height, channels, policy, background, x, y)),
         _ => background,
     }
+}
+
+// At a source point: half a pixel back it is in index space.
+pub fn interpolate(
+    picture: &[u8],
+    width: u64,
+    height: u64,
+    channels: u64,
+    policy: u64,
+    code: u64,
+    background: Rgba,
+    p: Point,
+) -> Rgba
+    requires { ⌜ Picture (now picture) width height channels ⌝ }
+    requires { ⌜ Points.usable (p .u) (p .v) ≡ true ⌝ }
+    ensures { λ r.
+        ⌜ r ≡ Interpolate.interpolate (now (picture .entry)) width height channels policy code background (p .u ⊖ half) (p .v ⊖ half) ⌝ }
+{
+    interpolate_at(
+        picture,
+        width,
+        height,
+        channels,
+        policy,
+        code,
+        background,
+        p.u - 0.5,
+        p.v - 0.5,
+    )
 }

@@ -1,2 +1,2 @@
--- The laws of kept points.
-pub mod KeptLaws
+-- The laws of lists that a loop fills.
+pub mod FillLaws

@@ -1,2 +1,2 @@
--- The definition of a stretch of source points, kept as numbers.
+-- The definition of a stretch of source points.
 pub mod Stretch

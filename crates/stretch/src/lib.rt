@@ -1,4 +1,3 @@
-// Where the pixels of a stretch of a row ask, and what is kept of their source points.
-pub mod mark;
+// Where the pixels of a stretch of a row ask.
 pub mod pixel;
 pub mod sized;

@@ -1,5 +1,4 @@
--- `perspective::perspective::perspective` meets its contract: each way out is the case of the definition that the test took. Assumes nothing.
-use mathlib.Core.Path.{_∙_}
+-- `perspective::perspective::perspective` meets its contract by what `point_unless` ensures. Assumes nothing.
 use borrow.Author.Needs.{needs}
 use Rattle.perspective.specs.Perspective.{perspective}
 use Rattle.perspective.proofs.perspective.perspective.Statement.{statement}
@@ -7,11 +6,7 @@ use Rattle.perspective.proofs.perspective.perspective.Tie as tie
 
 returns : tie.Need-returns
 unfolding perspective
-returns c = c .none .ensures ∙ rw (c .before .if1 .taken)
-
-returns-2 : tie.Need-returns-2
-unfolding perspective
-returns-2 c = c .point .ensures ∙ rw (c .before .before .before .before .before .before .before .if1 .left)
+returns c = c .point-unless .ensures
 
 pub perspective-spec : {M : Type 1} → statement M
 perspective-spec =
@@ -20,8 +15,6 @@ perspective-spec =
     (λ c. search needs)
     (λ c. search needs)
     (λ c. search needs)
-    (λ c κs. search needs)
-    returns
     (λ c. search needs)
     (λ c. search needs)
     (λ c. search needs)
@@ -29,4 +22,4 @@ perspective-spec =
     (λ c. search needs)
     (λ c. search needs)
     (λ c κs. search needs)
-    returns-2)
+    returns)

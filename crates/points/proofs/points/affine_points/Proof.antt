@@ -1,25 +1,26 @@
--- `points::points::affine_points` meets its contract. The loop's invariant: the first k points are kept. Assumes nothing.
+-- `points::points::affine_points` meets its contract. The loop's invariant: the first k points are there. Assumes nothing.
 use lib.Ieee.{Float}
 use Rattle.inverse.specs.Affine.{affine}
-use Rattle.stretch.proofs.KeptLaws.{kept-point, Filling, fill-none, fill-more, fill-last}
+use Rattle.point.proofs.WholeLaws.{point-whole}
+use Rattle.stretch.proofs.FillLaws.{Filling, fill-none, fill-more, fill-last}
 use Prim.Native.Nat.{_-_, _≤_}
 use borrow.Author.Needs.{needs}
 use Rattle.points.proofs.points.affine_points.Statement.{statement}
 use Rattle.points.proofs.points.affine_points.Tie as tie
 
 abbrev Inv-loop : tie.InvT-loop
-Inv-loop coef x y first n us₀ vs₀ m0 m1 m2 m3 m4 m5 k₀ us vs k = Filling (λ (a : Float). affine coef a y) x first k us vs × (k ≤ n)
+Inv-loop coef x y first n us₀ vs₀ k₀ us vs k = Filling (λ (a : Float). affine coef a y) x first k us vs × (k ≤ n)
 
 abbrev μ-loop : tie.MeasureT-loop
-μ-loop coef x y first n us₀ vs₀ m0 m1 m2 m3 m4 m5 k₀ us vs k = n - k
+μ-loop coef x y first n us₀ vs₀ k₀ us vs k = n - k
 
 loop-holds : tie.Need-loop-holds Inv-loop μ-loop
 loop-holds c = (fill-none _ _ _ (search needs) (search needs), search needs)
 
 loop-again : tie.Need-loop-again Inv-loop μ-loop
 loop-again c =
-    let head = c .before .before in
-    (fill-more _ _ _ (head .loop .k) (c .middle .ensures) (search needs) (kept-point _ _) (head .loop .inv .0), search needs)
+    let head = c .before .before .before in
+    (fill-more _ _ _ (λ a. point-whole _ _) (head .loop .k) (c .before .middle .ensures) (c .affine .ensures) (search needs) (head .loop .inv .0), search needs)
 
 returns : tie.Need-returns Inv-loop μ-loop
 returns c = fill-last _ _ _ (c .before .loop .k) _ (search needs) (c .before .loop .inv .0)
@@ -30,15 +31,10 @@ affine-points-spec =
     (tie.spec
     Inv-loop
     μ-loop
-    (λ c. search needs)
-    (λ c. search needs)
-    (λ c. search needs)
-    (λ c. search needs)
-    (λ c. search needs)
-    (λ c. search needs)
     loop-holds
     (λ c. search needs)
     (λ c. search needs)
+    (λ c κs. search needs)
     (λ c κs. search needs)
     (λ c. search needs)
     (λ c. search needs)

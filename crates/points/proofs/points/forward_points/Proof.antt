@@ -1,8 +1,8 @@
--- `points::points::forward_points` meets its contract. The loop's invariant: the first k points are kept. Assumes nothing.
+-- `points::points::forward_points` meets its contract. The loop's invariant: the first k points are there. Assumes nothing.
 use lib.Ieee.{Float}
 use Rattle.forward.specs.Forward.{bilinearForward}
-use Rattle.stretch.proofs.KeptLaws.{Filling, fill-none, fill-more, fill-last}
-use Rattle.points.proofs.PointsLaws.{kept-forward}
+use Rattle.inverse.proofs.WholePoints.{forward-whole}
+use Rattle.stretch.proofs.FillLaws.{Filling, fill-none, fill-more, fill-last}
 use Prim.Native.Nat.{_-_, _≤_}
 use borrow.Author.Needs.{needs}
 use Rattle.points.proofs.points.forward_points.Statement.{statement}
@@ -19,8 +19,8 @@ loop-holds c = (fill-none _ _ _ (search needs) (search needs), search needs)
 
 loop-again : tie.Need-loop-again Inv-loop μ-loop
 loop-again c =
-    let head = c .before .before .before .before .before in
-    (fill-more _ _ _ (head .loop .k) (c .before .before .before .middle .ensures) (search needs) (kept-forward _ _ _ (c .before .before .bilinear-forward .ensures) (c .unless .ensures)) (head .loop .inv .0), search needs)
+    let head = c .before .before .before in
+    (fill-more _ _ _ (λ a. forward-whole _ a _) (head .loop .k) (c .before .middle .ensures) (c .bilinear-forward .ensures) (search needs) (head .loop .inv .0), search needs)
 
 returns : tie.Need-returns Inv-loop μ-loop
 returns c = fill-last _ _ _ (c .before .loop .k) _ (search needs) (c .before .loop .inv .0)
@@ -34,7 +34,6 @@ forward-points-spec =
     loop-holds
     (λ c. search needs)
     (λ c. search needs)
-    (λ c κs. search needs)
     (λ c κs. search needs)
     (λ c κs. search needs)
     (λ c. search needs)

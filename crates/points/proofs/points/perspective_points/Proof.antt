@@ -1,18 +1,18 @@
--- `points::points::perspective_points` meets its contract. The loop's invariant: the first k points are kept. Assumes nothing.
+-- `points::points::perspective_points` meets its contract. The loop's invariant: the first k points are there. Assumes nothing.
 use lib.Ieee.{Float}
 use Rattle.perspective.specs.Perspective.{perspective}
-use Rattle.stretch.proofs.KeptLaws.{Filling, fill-none, fill-more, fill-last}
-use Rattle.points.proofs.PointsLaws.{kept-perspective}
+use Rattle.inverse.proofs.WholePoints.{perspective-whole}
+use Rattle.stretch.proofs.FillLaws.{Filling, fill-none, fill-more, fill-last}
 use Prim.Native.Nat.{_-_, _≤_}
 use borrow.Author.Needs.{needs}
 use Rattle.points.proofs.points.perspective_points.Statement.{statement}
 use Rattle.points.proofs.points.perspective_points.Tie as tie
 
 abbrev Inv-loop : tie.InvT-loop
-Inv-loop coef x y first n us₀ vs₀ m0 m1 m2 m3 m4 m5 m6 m7 m8 k₀ us vs k = Filling (λ (a : Float). perspective coef a y) x first k us vs × (k ≤ n)
+Inv-loop coef x y first n us₀ vs₀ k₀ us vs k = Filling (λ (a : Float). perspective coef a y) x first k us vs × (k ≤ n)
 
 abbrev μ-loop : tie.MeasureT-loop
-μ-loop coef x y first n us₀ vs₀ m0 m1 m2 m3 m4 m5 m6 m7 m8 k₀ us vs k = n - k
+μ-loop coef x y first n us₀ vs₀ k₀ us vs k = n - k
 
 loop-holds : tie.Need-loop-holds Inv-loop μ-loop
 loop-holds c = (fill-none _ _ _ (search needs) (search needs), search needs)
@@ -20,7 +20,7 @@ loop-holds c = (fill-none _ _ _ (search needs) (search needs), search needs)
 loop-again : tie.Need-loop-again Inv-loop μ-loop
 loop-again c =
     let head = c .before .before .before in
-    (fill-more _ _ _ (head .loop .k) (c .before .middle .ensures) (search needs) (kept-perspective _ _ _ (c .unless .ensures)) (head .loop .inv .0), search needs)
+    (fill-more _ _ _ (λ a. perspective-whole _ a _) (head .loop .k) (c .before .middle .ensures) (c .perspective .ensures) (search needs) (head .loop .inv .0), search needs)
 
 returns : tie.Need-returns Inv-loop μ-loop
 returns c = fill-last _ _ _ (c .before .loop .k) _ (search needs) (c .before .loop .inv .0)
@@ -31,15 +31,6 @@ perspective-points-spec =
     (tie.spec
     Inv-loop
     μ-loop
-    (λ c. search needs)
-    (λ c. search needs)
-    (λ c. search needs)
-    (λ c. search needs)
-    (λ c. search needs)
-    (λ c. search needs)
-    (λ c. search needs)
-    (λ c. search needs)
-    (λ c. search needs)
     loop-holds
     (λ c. search needs)
     (λ c. search needs)

@@ -4,7 +4,7 @@ use lib.Ieee.{binary64, ofInt}
 use mir.Syntax.{w64}
 use mir.ValLaws.{toZ-ofZ}
 use Rattle.exact.specs.Sums.{asked}
-use Rattle.points.proofs.PointsLaws.{points-by, points-affine, points-perspective, points-forward}
+use Rattle.points.proofs.PointsLaws.{points-by, points-affine, points-perspective, points-forward, points-barrel, points-barrel-inverse}
 use mathlib.Core.Path.{refl, ap, _∙_}
 use borrow.Author.Needs.{needs}
 use Rattle.points.proofs.points.points.Statement.{statement}
@@ -41,19 +41,19 @@ returns-4 : tie.Need-returns-4
 returns-4 c =
     let e = c .before .before .before .before .before .before .before in
     let a = e .before .before .before .before .before .before in
-    points-by _ _ _ _ (a .args .x) (a .args .y) _ _ _
+    points-barrel _ _ _ _ (a .args .x) (a .args .y) _ _ _
     (e .before .offset .ensures ∙ ap (λ (z : ℤ). ofInt binary64 z) (toZ-ofZ w64 (a .args .x) (a .fits .x)))
     (e .asked .ensures ∙ ap (λ (z : ℤ). asked (a .args .j) z) (toZ-ofZ w64 (a .args .y) (a .fits .y)))
-    _ (λ c. refl) (c .barrel-or-other .ensures)
+    (c .before .before .before .if4 .taken) (c .barrel-points .ensures)
 
 returns-5 : tie.Need-returns-5
 returns-5 c =
     let e = c .before .before .before .before .before .before .before .before in
     let a = e .before .before .before .before .before .before in
-    points-by _ _ _ _ (a .args .x) (a .args .y) _ _ _
+    points-barrel-inverse _ _ _ _ (a .args .x) (a .args .y) _ _ _
     (e .before .offset .ensures ∙ ap (λ (z : ℤ). ofInt binary64 z) (toZ-ofZ w64 (a .args .x) (a .fits .x)))
     (e .asked .ensures ∙ ap (λ (z : ℤ). asked (a .args .j) z) (toZ-ofZ w64 (a .args .y) (a .fits .y)))
-    _ (λ c. refl) (c .barrel-inverse-or-other .ensures)
+    (c .before .before .before .if5 .taken) (c .barrel-inverse-points .ensures)
 
 returns-6 : tie.Need-returns-6
 returns-6 c =

@@ -3,11 +3,11 @@ use borrow.Author.Needs.{needs}
 use Rattle.probes.proofs.sampled.put_colour.Statement.{statement}
 use Rattle.probes.proofs.sampled.put_colour.Tie as tie
 
-interpolate-requires : tie.Need-interpolate-requires
-interpolate-requires c κs = let a = c .before .before .before .before in (search needs, (rw (c .before .f64-of-bits .ensures) (a .pre .1 .0 .0), rw (c .f64-of-bits2 .ensures) (a .pre .1 .0 .1)))
+interpolate-at-requires : tie.Need-interpolate-at-requires
+interpolate-at-requires c κs = let a = c .before .before .before .before in (search needs, (rw (c .before .f64-of-bits .ensures) (a .pre .1 .0 .0), rw (c .f64-of-bits2 .ensures) (a .pre .1 .0 .1)))
 
 returns : tie.Need-returns
-returns c = rw (c .before .before .put-pixel .ensures, c .before .before .before .before .interpolate .ensures, c .before .before .before .before .before .f64-of-bits2 .ensures, c .before .before .before .before .before .before .f64-of-bits .ensures)
+returns c = rw (c .before .before .put-pixel .ensures, c .before .before .before .before .interpolate-at .ensures, c .before .before .before .before .before .f64-of-bits2 .ensures, c .before .before .before .before .before .before .f64-of-bits .ensures)
 
 pub put-colour-spec : {M : Type 1} → statement M
 put-colour-spec =
@@ -15,7 +15,7 @@ put-colour-spec =
     (tie.spec
     (λ c κs. search needs)
     (λ c κs. search needs)
-    interpolate-requires
+    interpolate-at-requires
     (λ c κs. search needs)
     (λ c. search needs)
     returns)

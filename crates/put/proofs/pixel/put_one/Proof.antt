@@ -1,12 +1,13 @@
 -- `put::pixel::put_one` meets its contract: one call after the other, and the mark of the source point is its test. Assumes nothing.
 use mathlib.Core.Path.{_∙_, subst⁻¹}
 use borrow.Author.Needs.{needs}
-use Rattle.stretch.proofs.KeptLaws.{Marked}
+use Rattle.point.specs.Point.{Whole}
+use Rattle.point.proofs.WholeLaws.{point-whole}
 use Rattle.put.proofs.pixel.put_one.Statement.{statement}
 use Rattle.put.proofs.pixel.put_one.Tie as tie
 
 shown-requires : tie.Need-shown-requires
-shown-requires c κs = (search needs, subst⁻¹ Marked (c .before .point .ensures) (record { means = λ h. h }) .means)
+shown-requires c κs = (search needs, subst⁻¹ Whole (c .before .point .ensures) (point-whole _ _))
 
 returns : tie.Need-returns
 returns c =

@@ -1,0 +1,90 @@
+-- Every mapping's point is `point` of its own coordinates: each mapping ends in `point` or in `none`, and so does a loop that is left in the middle.
+-- Assumes nothing.
+use mathlib.Core.Bool.{Bool}
+use Prim.Native.Nat.{ℕ, _+_, _*_, zero-le}
+use lib.Dec.{eqb}
+use lib.Ieee.{Float, binary64, ofBits, le, lt}
+use Rattle.exact.specs.Double.{_⊕_, _⊖_, _⊘_}
+use Rattle.exact.specs.Sums.{linear}
+use Rattle.exact.proofs.Loop.{upTo-keep}
+use Rattle.number.specs.Magnitude.{abs}
+use Rattle.matrix.specs.Matrix.{Vector, at}
+use Rattle.mappings.specs.Mapping.{affineKind, perspectiveKind, polyKind, bilinearForwardKind, barrelKind, barrelInverseKind, shepardsKind}
+use Rattle.point.specs.Point.{point, Whole}
+use Rattle.point.specs.Course.{on}
+use Rattle.point.proofs.WholeLaws.{point-whole, none-whole, unless-whole, either, Leaves, goes, left, turn-leaves, ended-whole}
+use Rattle.perspective.specs.Perspective.{wq, perspective}
+use Rattle.forward.specs.Forward.{det, du, dv, newton, newtonTurn, bilinearForward}
+use Rattle.shepards.specs.Shepards.{Sums, d2, addPair, pairTurn, zeroSums, shift, ofPairs, pairsOf}
+use Rattle.inverse.specs.Affine.{affine}
+use Rattle.inverse.specs.Polynomial.{polynomial}
+use Rattle.inverse.specs.Barrel.{across, down, square, factor, barrelFrom, barrelInverseFrom}
+use Rattle.inverse.specs.Inverse.{inverse}
+use Rattle.root.specs.Root.{root}
+
+-- ---- BilinearForward
+newton-leaves : (c : Vector) (x y u v : Float) → Leaves (newton c x y u v)
+unfolding newton
+newton-leaves c x y u v =
+    either Leaves (lt (abs (det c x y u v)) (ofBits binary64 0x3d71_9799_812d_ea11)) (left none-whole)
+    (either Leaves (lt (abs (du c x y u v) ⊕ abs (dv c x y u v)) (ofBits binary64 0x3e11_2e0b_e826_d695))
+    (left (point-whole (u ⊖ du c x y u v) (v ⊖ dv c x y u v)))
+    (goes _))
+
+pub forward-whole : (c : Vector) (x y : Float) → Whole (bilinearForward c x y)
+unfolding bilinearForward newtonTurn
+forward-whole c x y =
+    ended-whole (λ (w : Float × Float). point (w .0) (w .1)) (λ w. point-whole (w .0) (w .1)) _
+    (upTo-keep (newtonTurn c x y) 0 (on (x, y)) Leaves 30 zero-le
+    (λ j s a b h. turn-leaves (λ (w : Float × Float). newton c x y (w .0) (w .1)) (λ w. newton-leaves c x y (w .0) (w .1)) s h) (goes (x, y)))
+
+-- ---- Shepards
+pair-leaves : (c : Vector) (x y : Float) (k : ℕ) (s : Sums) → Leaves (addPair c x y k s)
+unfolding addPair
+pair-leaves c x y k s =
+    either Leaves (lt (d2 c x y k) (ofBits binary64 0x3d71_9799_812d_ea11)) (left (point-whole (at c k) (at c (k + 1)))) (goes _)
+
+pairs-whole : (c : Vector) (x y : Float) (n : ℕ) → Whole (ofPairs c x y n)
+unfolding ofPairs pairTurn
+pairs-whole c x y n =
+    ended-whole (shift x y) (λ s. point-whole (x ⊕ s .su ⊘ s .sw) (y ⊕ s .sv ⊘ s .sw)) _
+    (upTo-keep (pairTurn c x y) 0 (on zeroSums) Leaves n zero-le
+    (λ j s a b h. turn-leaves (addPair c x y (4 * j)) (pair-leaves c x y (4 * j)) s h) (goes zeroSums))
+
+-- ---- the others
+pub affine-whole : (m : Vector) (x y : Float) → Whole (affine m x y)
+affine-whole m x y = point-whole _ _
+
+pub perspective-whole : (m : Vector) (x y : Float) → Whole (perspective m x y)
+unfolding perspective
+perspective-whole m x y =
+    unless-whole (le (wq m x y) (ofBits binary64 0x3d71_9799_812d_ea11)) (linear (at m 0) (at m 1) (at m 2) x y ⊘ wq m x y)
+    (linear (at m 3) (at m 4) (at m 5) x y ⊘ wq m x y)
+
+polynomial-whole : (order : ℕ) (m : Vector) (x y : Float) → Whole (polynomial order m x y)
+unfolding polynomial
+polynomial-whole order m x y = point-whole _ _
+
+pub barrel-whole : (c : Vector) (dy dx r : Float) → Whole (barrelFrom c dy dx r)
+unfolding barrelFrom
+barrel-whole c dy dx r = point-whole _ _
+
+pub barrel-inverse-whole : (c : Vector) (dy dx r : Float) → Whole (barrelInverseFrom c dy dx r)
+unfolding barrelInverseFrom
+barrel-inverse-whole c dy dx r = unless-whole (lt (abs (factor c r)) (ofBits binary64 0x3d71_9799_812d_ea11)) _ _
+
+-- ---- by the kind
+pub inverse-whole : (kind order count : ℕ) (coef : Vector) (x y : Float) → Whole (inverse kind order count coef x y)
+unfolding inverse
+inverse-whole kind order count coef x y =
+    either Whole (eqb kind affineKind) (affine-whole coef x y)
+    (either Whole (eqb kind perspectiveKind) (perspective-whole coef x y)
+    (either Whole (eqb kind polyKind) (polynomial-whole order coef x y)
+    (either Whole (eqb kind bilinearForwardKind) (forward-whole coef x y)
+    (either Whole (eqb kind barrelKind) (barrel-whole coef (down coef y) (across coef x) (radius coef x y))
+    (either Whole (eqb kind barrelInverseKind) (barrel-inverse-whole coef (down coef y) (across coef x) (radius coef x y))
+    (either Whole (eqb kind shepardsKind) (pairs-whole coef x y (pairsOf count))
+    none-whole))))))
+  where
+    radius : Vector → Float → Float → Float
+    radius c x y = root (square (across c x) (down c y))

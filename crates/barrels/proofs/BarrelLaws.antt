@@ -13,7 +13,7 @@ use Rattle.point.specs.Point.{point, Whole}
 use Rattle.inverse.specs.Barrel.{across, down, square, barrelFrom, barrelInverseFrom, barrel, barrelInverse}
 use Rattle.stretch.specs.Stretch.{middle, Stretch}
 use Rattle.stretch.proofs.FillLaws.{both-more, read-back}
-use Rattle.barrels.specs.Barrels.{Squares, Roots, Moved}
+use Rattle.barrels.specs.Barrels.{Squares, Each, Moved}
 
 -- ---- the offsets and the squares
 pub record Squaring (c : Vector) (x dy : Float) (first k : ℕ) (ds ss : List Float) : Type 0 where
@@ -41,24 +41,24 @@ module _ (c : Vector) (x dy : Float) (first : ℕ) where
   pub square-last : (k n : ℕ) {ds ss : List Float} → n ≤ k → Squaring c x dy first k ds ss → Squares c x dy first n ds ss
   square-last k n a s = record { each = λ i h. s .done .each i (omega arith) }
 
--- ---- the roots
-pub record Rooting (k : ℕ) (ss rs : List Float) : Type 0 where
-  pub done : Roots k ss rs
-  pub long : length rs ≡ 64
+-- ---- a function of each: the guesses, and the roots
+pub record Mapping (f : Float → Float) (k : ℕ) (xs ys : List Float) : Type 0 where
+  pub done : Each f k xs ys
+  pub long : length ys ≡ 64
 
-module _ (ss : List Float) where
-  pub root-none : {rs : List Float} → length rs ≡ 64 → Rooting 0 ss rs
-  root-none a = record { done = record { each = λ k h. absurd (not-suc-le-zero h) }; long = a }
+module _ (f : Float → Float) (xs : List Float) where
+  pub each-none : {ys : List Float} → length ys ≡ 64 → Mapping f 0 xs ys
+  each-none a = record { done = record { each = λ k h. absurd (not-suc-le-zero h) }; long = a }
 
-  pub root-more : (k : ℕ) {rs : List Float} {r : Float} → r ≡ root (at ss k) → k < 64 → Rooting k ss rs → Rooting (k + 1) ss (set rs k r)
-  root-more k {rs} {r} e h old =
+  pub each-more : (k : ℕ) {ys : List Float} {y : Float} → y ≡ f (at xs k) → k < 64 → Mapping f k xs ys → Mapping f (k + 1) xs (set ys k y)
+  each-more k {ys} {y} e h old =
       record {
-        done = record { each = both-more (λ (i : ℕ) (r z : Float). r ≡ root (at ss i)) k rs rs {y = r} (old .long) (old .long) h e (old .done .each) };
-        long = length-set rs k _ ∙ old .long;
+        done = record { each = both-more (λ (i : ℕ) (a b : Float). a ≡ f (at xs i)) k ys ys {y = y} (old .long) (old .long) h e (old .done .each) };
+        long = length-set ys k _ ∙ old .long;
       }
 
-  pub root-last : (k n : ℕ) {rs : List Float} → n ≤ k → Rooting k ss rs → Roots n ss rs
-  root-last k n a s = record { each = λ i h. s .done .each i (omega arith) }
+  pub each-last : (k n : ℕ) {ys : List Float} → n ≤ k → Mapping f k xs ys → Each f n xs ys
+  each-last k n a s = record { each = λ i h. s .done .each i (omega arith) }
 
 -- ---- the points
 pub record Moving (from : Float → Float → Point) (k : ℕ) (ds rs us vs : List Float) : Type 0 where
@@ -87,15 +87,15 @@ module _ (from : Float → Float → Point) (ds rs : List Float) where
   move-last k n a s = record { kept = λ i h. s .done .kept i (omega arith) }
 
 -- ---- the three steps together
-radius : (c : Vector) (x dy : Float) (first n : ℕ) {ds ss rs : List Float} → Squares c x dy first n ds ss → Roots n ss rs
+radius : (c : Vector) (x dy : Float) (first n : ℕ) {ds ss rs : List Float} → Squares c x dy first n ds ss → Each root n ss rs
     → (k : ℕ) → k < n → at rs k ≡ root (square (across c (middle (first + k) x)) dy)
 radius c x dy first n S R k h = R .each k h ∙ ap root (S .each k h .1)
 
 module _ (c : Vector) (x y : Float) (first n : ℕ) {dy : Float} {ds ss rs us vs : List Float} where
-  pub barrel-stretch : dy ≡ down c y → Squares c x dy first n ds ss → Roots n ss rs → Moved (barrelFrom c dy) n ds rs us vs
+  pub barrel-stretch : dy ≡ down c y → Squares c x dy first n ds ss → Each root n ss rs → Moved (barrelFrom c dy) n ds rs us vs
       → Stretch (λ (a : Float). barrel c a y) x first n us vs
   barrel-stretch e S R m = record { kept = λ k h. rw (← e, ← radius c x dy first n S R k h, ← S .each k h .0) (m .kept k h) }
 
-  pub barrel-inverse-stretch : dy ≡ down c y → Squares c x dy first n ds ss → Roots n ss rs → Moved (barrelInverseFrom c dy) n ds rs us vs
+  pub barrel-inverse-stretch : dy ≡ down c y → Squares c x dy first n ds ss → Each root n ss rs → Moved (barrelInverseFrom c dy) n ds rs us vs
       → Stretch (λ (a : Float). barrelInverse c a y) x first n us vs
   barrel-inverse-stretch e S R m = record { kept = λ k h. rw (← e, ← radius c x dy first n S R k h, ← S .each k h .0) (m .kept k h) }

@@ -4,7 +4,6 @@ use mathlib.Core.Path.{_≡_}
 use mathlib.Core.List.{List}
 use Prim.Native.Nat.{ℕ, _+_, _<_}
 use lib.Ieee.{Float}
-use Rattle.root.specs.Root.{root}
 use Rattle.matrix.specs.Matrix.{Vector, at}
 use Rattle.point.specs.declared.point.Point.{Point}
 use Rattle.point.specs.Point.{point}
@@ -15,9 +14,9 @@ use Rattle.stretch.specs.Stretch.{middle}
 pub record Squares (c : Vector) (x dy : Float) (first n : ℕ) (ds ss : List Float) : Type 0 where
   pub each : (k : ℕ) → k < n → (at ds k ≡ across c (middle (first + k) x)) × (at ss k ≡ square (across c (middle (first + k) x)) dy)
 
--- the first n of a list: the roots of another's
-pub record Roots (n : ℕ) (ss rs : List Float) : Type 0 where
-  pub each : (k : ℕ) → k < n → at rs k ≡ root (at ss k)
+-- the first n of a list: f of another's
+pub record Each (f : Float → Float) (n : ℕ) (xs ys : List Float) : Type 0 where
+  pub each : (k : ℕ) → k < n → at ys k ≡ f (at xs k)
 
 -- the first n of two lists: the points that `from` gives by the offsets and the radii
 pub record Moved (from : Float → Float → Point) (n : ℕ) (ds rs us vs : List Float) : Type 0 where

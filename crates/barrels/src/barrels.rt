@@ -1,19 +1,21 @@
-// Barrel and BarrelInverse for a stretch: the offsets and the squared radii, their roots, and then the points, in loops of their own, so that the compiler takes
-// several pixels at a time in the first and the last. The last step is that of the mapping for one point. The squares stand where the first
-// coordinates will. Assumes that the pixels lie within the limits of a window.
+// Barrel and BarrelInverse for a stretch: the offsets and the squared radii, guesses at the roots, the roots, and then the points, in loops of their own, so
+// that the compiler takes several pixels at a time in all but the third. The last step is that of the mapping for one point. The squares and the guesses
+// stand where the coordinates will. Assumes that the pixels lie within the limits of a window.
 ghost use mathlib.Core.Path.{_≡_};
 ghost use Prim.Native.Nat.{_+_, _≤_};
 ghost use lib.ListN.{length};
 ghost use lib.Ieee.{Float};
+ghost use Rattle.root.specs.Root.{root, guess};
 ghost use Rattle.inverse.specs.Barrel.{barrelFrom, barrelInverseFrom, barrel, barrelInverse};
 ghost use Rattle.stretch.specs.Stretch.{Stretch};
-ghost use Rattle.barrels.specs.Barrels.{Squares, Roots, Moved};
+ghost use Rattle.barrels.specs.Barrels.{Squares, Each, Moved};
 use inverse::barrel::across;
 use inverse::barrel::barrel_from;
 use inverse::barrel::barrel_inverse_from;
 use inverse::barrel::down;
 use inverse::barrel::square;
-use root::root::root;
+use root::root::guess;
+use root::root::root_by;
 use stretch::pixel::middle;
 use stretch::sized::sized;
 
@@ -37,12 +39,23 @@ fn squares(
     }
 }
 
-fn roots(ss: &[f64; 64], n: usize, rs: &mut [f64; 64])
-    requires { ⌜ (n ≤ 64) × (length (now rs) ≡ 64) ⌝ }
-    ensures { λ _. ⌜ Roots n (now (ss .entry)) (now (rs .exit)) ⌝ }
+// What the roots start from, several at a time.
+fn guesses(ss: &[f64; 64], n: usize, gs: &mut [f64; 64])
+    requires { ⌜ (n ≤ 64) × (length (now gs) ≡ 64) ⌝ }
+    ensures { λ _. ⌜ Each guess n (now (ss .entry)) (now (gs .exit)) ⌝ }
 {
     for k in 0..n {
-        rs[k] = root(ss[k]);
+        gs[k] = guess(ss[k]);
+    }
+}
+
+// The roots, whatever the guesses.
+fn roots(ss: &[f64; 64], gs: &[f64; 64], n: usize, rs: &mut [f64; 64])
+    requires { ⌜ (n ≤ 64) × (length (now rs) ≡ 64) ⌝ }
+    ensures { λ _. ⌜ Each root n (now (ss .entry)) (now (rs .exit)) ⌝ }
+{
+    for k in 0..n {
+        rs[k] = root_by(ss[k], gs[k]);
     }
 }
 
@@ -102,8 +115,10 @@ pub fn barrel_points(
     let mut ds = [0.0; 64];
     let mut rs = [0.0; 64];
     squares(coef, x, dy, first, n, &mut ds, us);
-    roots(us, n, &mut rs);
+    guesses(us, n, vs);
+    roots(us, vs, n, &mut rs);
     sized(*us);
+    sized(*vs);
     barrel_moved(coef, dy, n, &ds, &rs, us, vs);
 }
 
@@ -123,7 +138,9 @@ pub fn barrel_inverse_points(
     let mut ds = [0.0; 64];
     let mut rs = [0.0; 64];
     squares(coef, x, dy, first, n, &mut ds, us);
-    roots(us, n, &mut rs);
+    guesses(us, n, vs);
+    roots(us, vs, n, &mut rs);
     sized(*us);
+    sized(*vs);
     barrel_inverse_moved(coef, dy, n, &ds, &rs, us, vs);
 }

@@ -1,7 +1,7 @@
 -- Which case of the definition the code's tests pick: each test on an f64, taken apart by the float's shape. Assumes nothing.
 use mathlib.Core.Path.{_≡_, refl, sym, ap, _∙_, subst}
 use Prim.Native.Nat.{ℕ, zero, suc, _*_, _≤_, _<_}
-use native.Mathlib.Nat.{lt-irrefl, not-le-of-lt, lt-of-le-of-lt, zero-lt-suc, zero-mul, mul-pos}
+use native.Mathlib.Nat.{le-refl, le-of-lt, lt-irrefl, not-le-of-lt, lt-of-le-of-lt, zero-lt-suc, zero-mul, mul-pos}
 use Prim.Native.Nat.{zero-le}
 use mathlib.Core.Bool.{Bool, true, false, not, _&&_, _||_, Bool·beq, true≢false}
 use lib.IntN.{ℤ, pos}
@@ -46,6 +46,17 @@ infinity-above (inf true) f t l = absurd t
 infinity-above (inf false) f t l = refl
 infinity-above (fin true m e) f t l = absurd t
 infinity-above (fin false m e) f t l = absurd (not-le-of-lt (finite-bits binary64 false m e f) l)
+
+bits-above : (x : Float) → T (fits binary64 x) → T (lt (fin false 0 (pos 0)) x) → toBits binary64 x ≤ 9218868437227405312
+unfolding lt toBits
+bits-above nan f t = absurd t
+bits-above (inf true) f t = absurd t
+bits-above (inf false) f t = le-refl 9218868437227405312
+bits-above (fin true m e) f t = absurd t
+bits-above (fin false m e) f t = le-of-lt (finite-bits binary64 false m e f)
+
+pub above-bits : (x : Float) → T (fits binary64 x) → lt (ofBits binary64 0) x ≡ true → toBits binary64 x ≤ 9218868437227405312
+above-bits x f h = bits-above x f (test x h)
 
 pub above-no-nan : (x : Float) → lt (ofBits binary64 0) x ≡ true → T (not (isNan x))
 above-no-nan x h = no-nan-above x (test x h)

@@ -4,7 +4,7 @@ use Prim.Native.Nat.{ℕ, zero, suc, _+_, _-_, _*_, _/_, _^_, _<_}
 use mathlib.Core.Bool.{Bool, true, false, cond}
 use lib.Dec.{leb, ltb}
 use Rattle.exact.specs.Double.{_⊕_, _⊖_, _⊗_}
-use lib.Ieee.{Float, nan, inf, fin, binary64, up, down, size, round, ofBits}
+use lib.Ieee.{Float, nan, inf, fin, binary64, up, down, size, round, ofBits, toBits, lt}
 use lib.Ieee.Positive.{num, den}
 
 -- The whole part s of the square root of a, for an a of at most k pairs of binary digits: s * s ≤ a < (s + 1) * (s + 1).
@@ -67,9 +67,17 @@ leading g = g ⊗ ofBits binary64 0x41a0_0000_0200_0000 ⊖ (g ⊗ ofBits binary
 abbrev pub stepped : Float → Float → Float → Float
 stepped d top half = top ⊕ (d ⊕ d ⊗ d ⊗ half)
 
+-- from y, near 1 / √x, on
 abbrev pub guessed : Float → Float → Float
 guessed x y =
     let p = towardOne (x ⊗ y ⊗ y) in
     let top = leading (x ⊗ y ⊗ p) in
     let half = ofBits binary64 0x3fe0_0000_0000_0000 ⊗ y ⊗ p in  -- 0.5
     stepped ((x ⊖ top ⊗ top) ⊗ half) top half
+
+-- what it starts from: x, or 1 where x is not above 0
+abbrev pub seed : Float → Float
+seed x = cond (lt (ofBits binary64 0) x) x (ofBits binary64 0x3ff0_0000_0000_0000)  -- 1.0
+
+unfoldable pub guess : Float → Float
+guess x = guessed (seed x) (ofBits binary64 (0x5fe6_b000_0000_0000 - toBits binary64 (seed x) / 2))

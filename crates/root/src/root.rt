@@ -2,25 +2,36 @@
 // nobody proves, is settled by an exact test on whole numbers; where no test passes, the root is worked out digit
 // by digit. So the answer does not rest on how good the guess is, only the time does.
 ghost use mathlib.Core.Path.{_≡_};
-ghost use mathlib.Core.Bool.{true, cond};
+ghost use mathlib.Core.Bool.{true, cond, not};
 ghost use Prim.Native.Nat.{_+_, _-_, _*_, _/_, _%_, _^_, _≤_, _<_};
 ghost use lib.Dec.{T, ltb};
-ghost use lib.Ieee.{binary64, ofBits, toBits};
+ghost use lib.Ieee.{binary64, toBits, isNan};
 ghost use lib.Ieee.Positive as Positive;
-ghost use Rattle.root.specs.Root.{nearestRoot, guessed};
+ghost use Rattle.root.specs.Root.{nearestRoot, seed};
 ghost use Rattle.root.specs.Root as Root;
 
 const DIGITS: u64 = 0x10_0000_0000_0000; // 2^52, the weight of the exponent's field
 
 const HALF: u64 = 0x800_0000; // 2^27
 
+const SMALL: u64 = 0x4000_0000; // 2^30
+
+const MAGIC: u64 = 0x5fe6_b000_0000_0000; // less half the bits of x: those of about 1 / √x
+
 pub fn root(x: f64) -> f64
+    ensures { λ r. ⌜ r ≡ Root.root x ⌝ }
+{
+    root_by(x, guess(x))
+}
+
+// The root of x, whatever the guess: many guesses can be made first, several at a time.
+pub fn root_by(x: f64, g: f64) -> f64
     ensures { λ r. ⌜ r ≡ Root.root x ⌝ }
 {
     if x > 0.0 {
         let bits = f64::to_bits(x);
         if bits < 0x7ff0_0000_0000_0000 {
-            return positive(x, bits);
+            return positive(x, bits, g);
         }
         return x;
     }
@@ -33,7 +44,7 @@ pub fn root(x: f64) -> f64
 // The root of x, which is finite and above 0. Its significand m is moved up by its leading zeros, and once
 // more where the leading digit's place is odd: then x is n * 2^52 * 4^(half - 589), so the root's significand
 // is the nearest root q of n * 2^52, in units of 2^(half - 589).
-fn positive(x: f64, bits: u64) -> f64
+fn positive(x: f64, bits: u64, g: f64) -> f64
     requires { ⌜ T (Positive.positive x) × (bits ≡ toBits binary64 x) × (bits < 0x7ff0_0000_0000_0000) ⌝ }
     ensures { λ r. ⌜ r ≡ Root.root x ⌝ }
 {
@@ -42,7 +53,7 @@ fn positive(x: f64, bits: u64) -> f64
     let lead = exponent(bits) + (63 - zeros);
     let half = lead / 2;
     let n = m << (zeros - 11 + lead % 2);
-    let q = nearest(n, guess(x, bits));
+    let q = nearest(n, g);
     f64::from_bits((half + 485) * DIGITS + q)
 }
 
@@ -63,14 +74,22 @@ fn exponent(bits: u64) -> u64
     if bits < DIGITS { 0 } else { bits / DIGITS - 1 }
 }
 
-// Close to the root of x: 1 / √x from the bit pattern within 4%, then by a polynomial within 2^-30; the root g
-// from that, cut to its leading digits so that their square is exact, and a step from there.
-fn guess(x: f64, bits: u64) -> f64
-    requires { ⌜ bits < 0x7ff0_0000_0000_0000 ⌝ }
-    ensures { λ r. ⌜ r ≡ guessed x (ofBits binary64 (0x5fe6_b000_0000_0000 - bits / 2)) ⌝ }
+// What a guess starts from: x, or 1 where x is not above 0. It is no NaN, and its bits are not those of a negative number.
+fn seed(x: f64) -> f64
+    ensures { λ z. ⌜ z ≡ seed x ⌝ }
+    ensures { λ z. ⌜ T (not (isNan z)) × (toBits binary64 z ≤ 0x7ff0_0000_0000_0000) ⌝ }
 {
-    let y = f64::from_bits(0x5fe6_b000_0000_0000 - bits / 2);
-    let z = x * y;
+    if x > 0.0 { x } else { 1.0 }
+}
+
+// Close to the root of x, where that is above 0: 1 / √x from the bit pattern within 4%, then by a polynomial within
+// 2^-30; the root g from that, cut to its leading digits so that their square is exact, and a step from there. It has no branch.
+pub fn guess(x: f64) -> f64
+    ensures { λ r. ⌜ r ≡ Root.guess x ⌝ }
+{
+    let s = seed(x);
+    let y = f64::from_bits(MAGIC - f64::to_bits(s) / 2);
+    let z = s * y;
     let w = z * y;
     let w2 = w * w;
     let p = (2.733551153284358 - 4.6441040278970105 * w)
@@ -81,7 +100,7 @@ fn guess(x: f64, bits: u64) -> f64
     let t = g * 134217729.0;
     let top = t - (t - g);
     let half = 0.5 * y * p;
-    let d = (x - top * top) * half;
+    let d = (s - top * top) * half;
     top + (d + d * d * half)
 }
 
@@ -97,6 +116,14 @@ fn nearest(n: u64, g: f64) -> u64
     if settles(n, q) {
         return q;
     }
+    beside(n, q)
+}
+
+// The same where it is not q.
+fn beside(n: u64, q: u64) -> u64
+    requires { ⌜ (2 ^ 52 ≤ n) × (n < 2 ^ 54) × ((0 < q) × (q < 2 ^ 53)) ⌝ }
+    ensures { λ r. ⌜ r ≡ nearestRoot (n * 2 ^ 52) ⌝ }
+{
     if settles(n, q + 1) {
         return q + 1;
     }
@@ -106,37 +133,19 @@ fn nearest(n: u64, g: f64) -> u64
     by_digits(n)
 }
 
-// Whether q is that number: whether t = n * 2^52 + q - q * q is above 0 and at most 2 * q, which says that the
-// root lies between q - 1/2 and q + 1/2. With q = h * 2^27 + l, t is ((n - 4 * h * h) * 2^25 + h - 2 * h * l) * 2^27
-// + l - l * l, and each step is small where q is right, so that 64 bits do.
+// Whether q is that number: whether n * 2^52 + q - q * q is above 0 and at most 2 * q, which says that the root lies
+// between q - 1/2 and q + 1/2. With q = h * 2^27 + l, it is ((n - 4 * h * h) * 2^25 + h - 2 * h * l) * 2^27 + l - l * l;
+// each difference is small where q is right, and one that goes below 0 wraps to a large number, so that 64 bits do.
 fn settles(n: u64, q: u64) -> bool
     requires { ⌜ (2 ^ 52 ≤ n) × (n < 2 ^ 54) × (q ≤ 2 ^ 53) ⌝ }
     ensures { λ r. ⌜ (r ≡ true → q ≡ nearestRoot (n * 2 ^ 52)) ⌝ }
 {
     let h = q / HALF;
     let l = q % HALF;
-    let square = 4 * h * h;
-    if square > n {
-        return false;
-    }
-    let d = n - square;
-    if d >= 0x4000_0000 {
-        return false;
-    }
-    let up = d * 0x200_0000 + h;
-    let cross = h * (2 * l);
-    if cross > up {
-        return false;
-    }
-    let f = up - cross;
-    if f >= 0x4000_0000 {
-        return false;
-    }
-    let last = f * HALF + l;
-    if l * l >= last {
-        return false;
-    }
-    last - l * l <= 2 * q
+    let d = std::num::wrapping_sub_u64(n, 4 * h * h);
+    let f = std::num::wrapping_sub_u64(d % SMALL * 0x200_0000 + h, h * (2 * l));
+    let t = std::num::wrapping_sub_u64(f % SMALL * HALF + l, l * l + 1);
+    (d < SMALL) & (f < SMALL) & (t < 2 * q)
 }
 
 // The same root, two binary digits of n * 2^52 a turn, from the top: s is the whole root of the digits taken

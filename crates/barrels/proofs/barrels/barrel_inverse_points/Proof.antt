@@ -1,4 +1,4 @@
--- `barrels::barrels::barrel_inverse_points` meets its contract: its three steps are the points (`BarrelLaws.antt`). Assumes nothing.
+-- `barrels::barrels::barrel_inverse_points` meets its contract: its steps are the points (`BarrelLaws.antt`). Assumes nothing.
 use borrow.Author.Needs.{needs}
 use Rattle.barrels.proofs.BarrelLaws.{barrel-inverse-stretch}
 use Rattle.barrels.proofs.barrels.barrel_inverse_points.Statement.{statement}
@@ -6,11 +6,19 @@ use Rattle.barrels.proofs.barrels.barrel_inverse_points.Tie as tie
 
 returns : tie.Need-returns
 returns c =
-    let r = c .before .before .before .before .before .before .before in
-    let s = r .before .before .before in
+    let r = c .before .before .before .before .before .before .before .before .before in
+    let s = r .before .before .before .before .before .before .before in
     barrel-inverse-stretch _ _ _ _ _ (s .before .before .before .down .ensures) (s .squares .ensures) (r .roots .ensures) (c .barrel-inverse-moved .ensures)
 
 pub barrel-inverse-points-spec : {M : Type 1} → statement M
 barrel-inverse-points-spec =
     tie.close
-    (tie.spec (λ c κs. search needs) (λ c κs. search needs) (λ c κs. search needs) (λ c κs. search needs) (λ c κs. search needs) returns)
+    (tie.spec
+    (λ c κs. search needs)
+    (λ c κs. search needs)
+    (λ c κs. search needs)
+    (λ c κs. search needs)
+    (λ c κs. search needs)
+    (λ c κs. search needs)
+    (λ c κs. search needs)
+    returns)

@@ -45,36 +45,33 @@ add-n c = omega (arith, known c .zeros-le)
 shl-n : tie.Need-shl-n
 shl-n c = omega (arith, known c .zeros-le)
 
-guess-requires : tie.Need-guess-requires
-guess-requires c κs = search needs
-
 nearest-requires : tie.Need-nearest-requires
-nearest-requires c κs = known (c .before) .in-range
+nearest-requires c κs = known c .in-range
 
 add-result : tie.Need-add-result
 add-result c = search needs
 
 mul-result : tie.Need-mul-result
-mul-result c = omega (arith, known (c .before .before) .leads-lt)
+mul-result c = omega (arith, known (c .before) .leads-lt)
 
 digits-lt : (c : tie.After-nearest) → c .nearest .result < 2 ^ 53
-digits-lt c = subst (λ (q : ℕ). q < 2 ^ 53) (sym (c .nearest .ensures)) (known (c .before .before) .digits-lt)
+digits-lt c = subst (λ (q : ℕ). q < 2 ^ 53) (sym (c .nearest .ensures)) (known (c .before) .digits-lt)
 
 add-result-2 : tie.Need-add-result-2
-add-result-2 c = omega (arith, known (c .before .before) .leads-lt, digits-lt c)
+add-result-2 c = omega (arith, known (c .before) .leads-lt, digits-lt c)
 
 below-infinity : (l q : ℕ) → l < 2098 → q < 2 ^ 53 → ((l / 2 + 485) * 4503599627370496 + q) % 9223372036854775808 ≤ 9218868437227405312
 below-infinity l q h k = omega arith
 
 float-from-bits-result : tie.Need-float-from-bits-result
 float-from-bits-result c =
-    let d = c .before .before in
+    let d = c .before in
     let l = d .exponent .result + (63 - leadingZeros 64 (d .before .significand .result)) in
     pattern-number binary64 ((l / 2 + 485) * 4503599627370496 + c .nearest .result) (below-infinity l (c .nearest .result) (known d .leads-lt) (digits-lt c))
 
 returns : tie.Need-returns
 returns c =
-    let d = c .before .before in
+    let d = c .before in
     let l = d .exponent .result + (63 - leadingZeros 64 (d .before .significand .result)) in
     ap (λ (q : ℕ). ofBits binary64 ((l / 2 + 485) * 4503599627370496 + q)) (c .nearest .ensures) ∙ known d .answer
 
@@ -90,7 +87,6 @@ positive-spec =
     sub-n
     add-n
     shl-n
-    guess-requires
     nearest-requires
     add-result
     mul-result

@@ -1,11 +1,11 @@
--- `root::root::root` meets its contract: its tests pick the definition's cases (`RootCases.antt`), and the case of a finite number above 0 is
+-- `root::root::root_by` meets its contract: its tests pick the definition's cases (`RootCases.antt`), and the case of a finite number above 0 is
 -- `positive`'s. Assumes nothing.
 use mathlib.Core.Path.{refl, sym, subst}
 use lib.Dec.{T}
 use lib.Ieee.{binary64, fits}
 use Rattle.root.proofs.RootCases.{above-no-nan, above-positive, above-infinity, zero-root, no-root}
-use Rattle.root.proofs.root.root.Statement.{statement}
-use Rattle.root.proofs.root.root.Tie as tie
+use Rattle.root.proofs.root.root_by.Statement.{statement}
+use Rattle.root.proofs.root.root_by.Tie as tie
 
 -- what owning an f64 tells: the format holds it
 held : (c : tie.Start) → T (fits binary64 (c .args .x))
@@ -29,5 +29,5 @@ returns-3 c = zero-root (c .before .before .args .x) (c .if3 .taken)
 returns-4 : tie.Need-returns-4
 returns-4 c = no-root (c .before .before .args .x) (c .before .if1 .left) (c .if3 .left)
 
-pub root-spec : {M : Type 1} → statement M
-root-spec = tie.close (tie.spec float-to-bits-bits positive-requires returns returns-2 returns-3 returns-4)
+pub root-by-spec : {M : Type 1} → statement M
+root-by-spec = tie.close (tie.spec float-to-bits-bits positive-requires returns returns-2 returns-3 returns-4)

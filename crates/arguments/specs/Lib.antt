@@ -2,5 +2,4 @@
 pub mod Method
 pub mod Order
 pub mod Store
-pub mod Pair
 pub mod Refusal

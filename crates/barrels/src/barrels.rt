@@ -1,6 +1,6 @@
 // Barrel and BarrelInverse for a stretch: the offsets and the squared radii, guesses at the roots, the roots, and then the points, in loops of their own, so
 // that the compiler takes several pixels at a time in all but the third. The last step is that of the mapping for one point. The squares and the guesses
-// stand where the coordinates will. Assumes that the pixels lie within the limits of a window.
+// stand where the coordinates will. Assumes that the pixels lie within the limits of a window, and that the arrays are as long as their types say.
 ghost use mathlib.Core.Path.{_≡_};
 ghost use Prim.Native.Nat.{_+_, _≤_};
 ghost use lib.ListN.{length};

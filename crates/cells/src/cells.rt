@@ -1,5 +1,6 @@
 // The cells of a stretch's coordinates: a loop for each kind with no branch in it, so that the compiler takes several coordinates at a time. Where one
-// coordinate has no cell the answer is false, and the caller goes pixel by pixel. Assumes nothing.
+// coordinate has no cell the answer is false, and the caller goes pixel by pixel. Assumes at most 64
+// coordinates and a picture's side.
 ghost use mathlib.Core.Path.{_≡_};
 ghost use mathlib.Core.Bool.{true};
 ghost use Prim.Native.Nat.{_≤_, _<_};

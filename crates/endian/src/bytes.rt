@@ -1,5 +1,5 @@
 // Numbers and floats in bytes, the lowest byte first, at any place of a slice. The compiler joins the byte accesses
-// into one load or store. Assumes nothing.
+// into one load or store. Assumes that the slice holds the place.
 ghost use mathlib.Core.Path.{_≡_};
 ghost use Prim.Native.Nat.{_+_, _*_, _≤_};
 ghost use lib.ListN.{length};

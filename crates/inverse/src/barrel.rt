@@ -48,11 +48,7 @@ pub fn barrel_inverse_from(c: &[f64; 256], dy: f64, dx: f64, r: f64) -> Point
 {
     let f = factor(c, r);
     let s = 1.0 / f;
-    point_unless(
-        abs(f) < 1e-12,
-        c[4] + dx * s * c[6],
-        c[5] + dy * s * c[6],
-    )
+    point_unless(abs(f) < 1e-12, c[4] + dx * s * c[6], c[5] + dy * s * c[6])
 }
 
 pub fn barrel(c: &[f64; 256], x: f64, y: f64) -> Point

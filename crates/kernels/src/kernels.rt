@@ -1,4 +1,4 @@
-// The weights of a stretch's taps by `Catrom` and `Spline`, several fractions at a time. Assumes nothing.
+// The weights of a stretch's taps by `Catrom` and `Spline`, several fractions at a time. Assumes at most 64 of them.
 ghost use mathlib.Core.Path.{_≡_};
 ghost use mathlib.Core.Bool.{true};
 ghost use Prim.Native.Nat.{_≤_};

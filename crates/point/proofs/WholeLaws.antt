@@ -1,6 +1,6 @@
 -- A point is `point` of its own coordinates: one that was made of two numbers, none, and one that is either. A loop that is left in the middle ends in such a
 -- point where each of its turns does. Assumes nothing.
-use mathlib.Core.Path.{_≡_, refl, sym}
+use mathlib.Core.Path.{_≡_, refl, sym, ap, _∙_}
 use mathlib.Core.Bool.{Bool, true, false, cond}
 use lib.Ieee.{Float, nan, le}
 use Rattle.number.specs.Magnitude.{abs, within}
@@ -33,6 +33,10 @@ either P false p q = q
 
 pub unless-whole : (t : Bool) (u v : Float) → Whole (pointUnless t u v)
 unless-whole t u v = either Whole t none-whole (point-whole u v)
+
+-- the mark of such a point is the test of its coordinates
+pub usable-whole : (p : Point) → Whole p → p .usable ≡ true → usable (p .u) (p .v) ≡ true
+usable-whole p w h = sym (ap (λ (q : Point). q .usable) (w .whole)) ∙ h
 
 -- ---- loops that can be left in the middle
 pub data Leaves {A : Type 0} : Course A → Type 0 where

@@ -1,5 +1,6 @@
-// The source points of a stretch of a row, worked out before its colours: a loop for each kind around the mapping of one point, whose coordinates it keeps. Those of Affine,
-// Perspective and the barrels have no branch, so that the compiler takes several pixels at a time. Assumes that the pixels lie within the limits of a window.
+// The source points of a stretch of a row, worked out before its colours: loops around the mapping of one point, whose coordinates they keep. Those of Affine and Perspective have
+// no branch, so that the compiler takes several pixels at a time; the barrels take their steps in loops of their own (`barrels`). Assumes that the pixels lie within the limits of a
+// window, and the inner functions that the arrays are as long as their types say.
 ghost use mathlib.Core.Path.{_≡_};
 ghost use Prim.Native.Nat.{_+_, _≤_};
 ghost use lib.IntN.{natAbs};

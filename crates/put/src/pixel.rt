@@ -1,5 +1,5 @@
 // One pixel of the band: the picture's colour at its source point, or matte. Assumes that the bytes are
-// a picture's, and that the band has room for the pixel.
+// a picture's, that the band has room for the pixel, and that a point is `point` of its own coordinates.
 ghost use mathlib.Core.Path.{_≡_};
 ghost use mathlib.Core.Bool.{cond};
 ghost use Prim.Native.Nat.{_+_, _*_, _≤_, _<_};

@@ -82,7 +82,7 @@ fn seed(x: f64) -> f64
     if x > 0.0 { x } else { 1.0 }
 }
 
-// Close to the root of x, where that is above 0: 1 / √x from the bit pattern within 4%, then by a polynomial within
+// Close to the root of x, where x is a normal number above 0: 1 / √x from the bit pattern within 4%, then by a polynomial within
 // 2^-30; the root g from that, cut to its leading digits so that their square is exact, and a step from there. It has no branch.
 pub fn guess(x: f64) -> f64
     ensures { λ r. ⌜ r ≡ Root.guess x ⌝ }

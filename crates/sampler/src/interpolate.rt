@@ -116,7 +116,7 @@ pub fn interpolate(
     p: Point,
 ) -> Rgba
     requires { ⌜ Picture (now picture) width height channels ⌝ }
-    requires { ⌜ Points.usable (p .u) (p .v) ≡ true ⌝ }
+    requires { ⌜ (p .usable ≡ true) × Points.Whole p ⌝ }
     ensures { λ r.
         ⌜ r ≡ Interpolate.interpolate (now (picture .entry)) width height channels policy code background (p .u ⊖ half) (p .v ⊖ half) ⌝ }
 {

@@ -1,18 +1,12 @@
--- `put::pixel::shown` meets its contract: the mark of a point is the test of its coordinates. Assumes nothing.
-use mathlib.Core.Path.{_≡_, sym, ap, _∙_}
-use mathlib.Core.Bool.{Bool, true}
-use Rattle.point.specs.declared.point.Point.{Point}
-use Rattle.point.specs.Point.{usable, Whole}
+-- `put::pixel::shown` meets its contract: each way out is the case of the definition that the mark took. Assumes nothing.
+use mathlib.Core.Path.{_∙_}
 use Rattle.put.specs.Band.{shown}
 use borrow.Author.Needs.{needs}
 use Rattle.put.proofs.pixel.shown.Statement.{statement}
 use Rattle.put.proofs.pixel.shown.Tie as tie
 
-marked : (p : Point) → Whole p → p .usable ≡ true → usable (p .u) (p .v) ≡ true
-marked p w h = sym (ap (λ (q : Point). q .usable) (w .whole)) ∙ h
-
 interpolate-requires : tie.Need-interpolate-requires
-interpolate-requires c κs = (search needs, marked _ (c .before .before .pre .1) (c .if1 .taken))
+interpolate-requires c κs = (search needs, (c .if1 .taken, c .before .before .pre .1))
 
 returns : tie.Need-returns
 unfolding shown

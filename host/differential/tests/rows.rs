@@ -83,7 +83,7 @@ fn mapping(r: Reference, job: &Job) -> Result<Mapping, u64> {
     }
 }
 
-/// What the original asks for: 24 bytes a point, zeros where it cannot be used.
+/// What the original asks for: 24 bytes a point, two NaNs and a zero where it cannot be used.
 fn originals(mapping: &Mapping, job: &Job, rows: Rows) -> Vec<u8> {
     let asked = |i: u64, offset: i64| i as f64 + offset as f64 + 0.5;
     let lines = rows.first..rows.first + rows.rows;
@@ -91,7 +91,7 @@ fn originals(mapping: &Mapping, job: &Job, rows: Rows) -> Vec<u8> {
     all.flat_map(|(i, j)| {
         let found = mapping.inverse(asked(i, rows.x), asked(j, rows.y));
         match found.filter(|point| expected::usable(*point)) {
-            None => [0.0, 0.0, 0.0],
+            None => [f64::NAN, f64::NAN, 0.0],
             Some((u, v)) => [u, v, f64::from_bits(1)],
         }
     })

@@ -253,7 +253,7 @@ pub fn cubic(interpolation: u64, t: f32) -> Option<[f32; 4]> {
     colour(answer, out)
 }
 
-/// A source point, and whether it is usable. Where there is none, u and v are 0.
+/// A source point, and whether it is usable. Where there is none, u and v are NaNs.
 #[derive(Clone, Copy, Debug)]
 pub struct Point {
     pub u: f64,

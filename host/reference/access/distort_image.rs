@@ -89,7 +89,7 @@ pub(crate) mod access {
             let pattern = |x: f64| if x.is_nan() { f64::NAN } else { x }.to_le_bytes();
             for (point, answer) in points.iter().zip(out) {
                 let found = self.0.inverse(half(point, 0), half(point, 8));
-                let (u, v) = found.unwrap_or_default();
+                let (u, v) = found.unwrap_or((f64::NAN, f64::NAN));
                 let usable = found.is_some() && u.abs() <= limit && v.abs() <= limit;
                 answer[..8].copy_from_slice(&pattern(u));
                 answer[8..16].copy_from_slice(&pattern(v));

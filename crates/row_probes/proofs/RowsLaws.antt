@@ -14,13 +14,11 @@ use Rattle.exact.specs.Loop.{upTo}
 use Rattle.exact.specs.Sums.{asked}
 use Rattle.exact.proofs.Loop.{upTo-join, upTo-same}
 use Rattle.matrix.specs.Matrix.{Vector}
-use Rattle.point.specs.declared.point.Point.{Point}
-use Rattle.point.specs.Point.{none}
 use Rattle.inverse.specs.Inverse.{inverse}
 use Rattle.window.specs.Span.{goodOffset}
 use Rattle.points.specs.Points.{Points}
 use Rattle.point_probes.specs.Pointed.{putPoint}
-use Rattle.row_probes.specs.Rows.{shown, putKept, putColumn, wrongRows}
+use Rattle.row_probes.specs.Rows.{putKept, putColumn, wrongRows}
 
 or-false : (a b : Bool) → (a || b) ≡ false → (a ≡ false) × (b ≡ false)
 or-false true b h = absurd (true≢false h)
@@ -70,19 +68,13 @@ module _ (width : ℕ) (x y : ℤ) (first rows out : ℕ) where
 pub product : (rows width : ℕ) → rows ≤ 4096 → width ≤ 4096 → rows * width ≤ 4096 * 4096
 product rows width h k = mul-le-mul h k
 
--- ---- a point, or none
-pub shown-in : {p q : Point} → p ≡ q → p .usable ≡ true → p ≡ shown q
-shown-in {p} {q} e h = e ∙ sym (ap (λ (b : Bool). cond b q none) (ap (λ (z : Point). z .usable) (sym e) ∙ h))
-
-pub shown-out : {p q r : Point} → p ≡ q → p .usable ≡ false → r ≡ none → r ≡ shown q
-shown-out {p} {q} e h g = g ∙ sym (ap (λ (b : Bool). cond b q none) (ap (λ (z : Point). z .usable) (sym e) ∙ h))
-
+-- ---- the points read back
 module _ (kind order count : ℕ) (coef : Vector) (x y : ℤ) (first j n place : ℕ) (us vs : List Float) (s : Points kind order count coef x y first j n us vs) where
   column : (i : ℕ) (out : List ℕ) → first ≤ i → i < first + n → putKept us vs first place i out ≡ putColumn kind order count coef x y j place i out
   unfolding putKept putColumn
   column i out l h =
       ap (putPoint out ((place + i) * 24))
-      (ap shown (sym (s .kept (i - first) (omega arith))) ∙ ap (λ (k : ℕ). shown (inverse kind order count coef (asked k x) (asked j y))) (back first i l))
+      (sym (s .kept (i - first) (omega arith)) ∙ ap (λ (k : ℕ). inverse kind order count coef (asked k x) (asked j y)) (back first i l))
     where
       back : (a b : ℕ) → a ≤ b → a + (b - a) ≡ b
       back a b l = omega arith

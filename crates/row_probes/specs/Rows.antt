@@ -1,5 +1,5 @@
--- Whole rows of source points handed out by one fit: the refusal's number, or 0 with each point as `Pointed` writes one, row by row. A point that cannot be
--- used is written as none. A refusal writes nothing. Assumes nothing.
+-- Whole rows of source points handed out by one fit: the refusal's number, or 0 with each point as `Pointed` writes one, row by row. A refusal
+-- writes nothing. Assumes nothing.
 use Prim.Native.Nat.{ℕ, _+_, _-_, _*_}
 use mathlib.Core.Bool.{Bool, cond, not, _||_}
 use mathlib.Core.List.{List}
@@ -12,24 +12,19 @@ use Rattle.exact.specs.Sums.{asked}
 use Rattle.matrix.specs.Matrix.{Vector, at}
 use Rattle.mappings.specs.declared.mapping.Fitted.{Fitted}
 use Rattle.mappings.specs.declared.mapping.Mapping.{Mapping}
-use Rattle.point.specs.declared.point.Point.{Point}
-use Rattle.point.specs.Point.{point, none}
+use Rattle.point.specs.Point.{point}
 use Rattle.inverse.specs.Inverse.{inverse}
 use Rattle.window.specs.Span.{goodOffset}
 use Rattle.point_probes.specs.Pointed.{putPoint}
 use Rattle.fit_probes.specs.Sized.{sizedFit}
 
--- a point, or none where it cannot be used
-abbrev pub shown : Point → Point
-shown p = cond (p .usable) p none
-
 -- column i, by lists of coordinates that start with column `first`; the row's first point is the one numbered `place`
 unfoldable pub putKept : List Float → List Float → ℕ → ℕ → ℕ → List ℕ → List ℕ
-putKept us vs first place i out = putPoint out ((place + i) * 24) (shown (point (at us (i - first)) (at vs (i - first))))
+putKept us vs first place i out = putPoint out ((place + i) * 24) (point (at us (i - first)) (at vs (i - first)))
 
 -- column i of row j, of a window at x, y
 unfoldable pub putColumn : ℕ → ℕ → ℕ → Vector → ℤ → ℤ → ℕ → ℕ → ℕ → List ℕ → List ℕ
-putColumn kind order count coef x y j place i out = putPoint out ((place + i) * 24) (shown (inverse kind order count coef (asked i x) (asked j y)))
+putColumn kind order count coef x y j place i out = putPoint out ((place + i) * 24) (inverse kind order count coef (asked i x) (asked j y))
 
 -- the row numbered r of those from `first` on
 unfoldable pub putRow : ℕ → ℕ → ℕ → Vector → ℤ → ℤ → ℕ → ℕ → ℕ → List ℕ → List ℕ

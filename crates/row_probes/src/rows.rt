@@ -5,28 +5,12 @@ ghost use Prim.Native.Nat.{_+_, _*_, _≤_, _<_};
 ghost use lib.IntN.{natAbs};
 ghost use lib.ListN.{length};
 ghost use Rattle.exact.specs.Loop.{upTo};
-ghost use Rattle.point.specs.Point as Points;
-ghost use Rattle.point_probes.specs.Pointed.{putPoint};
-ghost use Rattle.row_probes.specs.Rows.{shown, putKept, putColumn, putRow, wrongRows, probeRows};
+ghost use Rattle.row_probes.specs.Rows.{putKept, putColumn, putRow, wrongRows, probeRows};
 use fit_probes::sized::sized_fit;
-use point::usable::none;
 use point::usable::point;
 use point_probes::pointed::put_point;
 use points::points::points;
 use window::span::good_offset;
-
-// A point, or none where it cannot be used.
-fn put_shown(out: &mut [u8], at: usize, u: f64, v: f64)
-    requires { ⌜ at + 24 ≤ length (now out) ⌝ }
-    ensures { λ _. ⌜ now (out .exit) ≡ putPoint (now (out .entry)) at (shown (Points.point u v)) ⌝ }
-{
-    let p = point(u, v);
-    if p.usable {
-        put_point(out, at, p);
-        return;
-    }
-    put_point(out, at, none());
-}
 
 // The points of a stretch from column `first` on, `place` points into the bytes.
 fn put_kept(us: &[f64; 64], vs: &[f64; 64], first: usize, n: usize, place: usize, out: &mut [u8])
@@ -35,7 +19,7 @@ fn put_kept(us: &[f64; 64], vs: &[f64; 64], first: usize, n: usize, place: usize
 {
     for i in first..first + n {
         let k = i - first;
-        put_shown(out, (place + i) * 24, us[k], vs[k]);
+        put_point(out, (place + i) * 24, point(us[k], vs[k]));
     }
 }
 

@@ -83,20 +83,23 @@ fn mapping(r: Reference, job: &Job) -> Result<Mapping, u64> {
     }
 }
 
-/// What the original asks for: 24 bytes a point, two NaNs and a zero where it cannot be used.
+/// What the original asks for: 24 bytes a point, two NaNs and a zero where it has none. Every NaN is the same one.
 fn originals(mapping: &Mapping, job: &Job, rows: Rows) -> Vec<u8> {
     let asked = |i: u64, offset: i64| i as f64 + offset as f64 + 0.5;
     let lines = rows.first..rows.first + rows.rows;
     let all = lines.flat_map(|j| (0..job.width).map(move |i| (i, j)));
     all.flat_map(|(i, j)| {
         let found = mapping.inverse(asked(i, rows.x), asked(j, rows.y));
-        match found.filter(|point| expected::usable(*point)) {
-            None => [f64::NAN, f64::NAN, 0.0],
-            Some((u, v)) => [u, v, f64::from_bits(1)],
-        }
+        let (u, v) = found.unwrap_or((f64::NAN, f64::NAN));
+        let usable = u64::from(found.is_some_and(expected::usable));
+        [one_nan(u), one_nan(v), f64::from_bits(usable)]
     })
     .flat_map(f64::to_le_bytes)
     .collect()
+}
+
+fn one_nan(x: f64) -> f64 {
+    if x.is_nan() { f64::NAN } else { x }
 }
 
 /// The same bytes with no sign at a zero: the original's sums start at -0.

@@ -1,11 +1,12 @@
 -- `row_probes::rows::put_kept` meets its contract. The loop's invariant: the columns before i are written, and the bytes are as many as before.
 -- Assumes nothing.
-use mathlib.Core.Path.{_≡_, _∙_}
+use mathlib.Core.Path.{_≡_, ap, _∙_}
 use Prim.Native.Nat.{_+_, _-_, _≤_}
 use lib.ListN.{length}
 use borrow.Author.Needs.{needs}
 use Rattle.exact.proofs.Loop.{upTo-none, upTo-next, upTo-last}
 use Rattle.exact.specs.Loop.{upTo}
+use Rattle.point_probes.specs.Pointed.{putPoint}
 use Rattle.row_probes.specs.Rows.{putKept}
 use Rattle.row_probes.proofs.rows.put_kept.Statement.{statement}
 use Rattle.row_probes.proofs.rows.put_kept.Tie as tie
@@ -22,8 +23,10 @@ loop-holds c = (upTo-none _ _ _, search needs)
 loop-again : tie.Need-loop-again Inv-loop μ-loop
 unfolding putKept
 loop-again c =
-    let head = c .before .before .before .before .before .before .before in
-    (c .before .before .put-shown .ensures ∙ upTo-next _ _ _ (head .loop .i) (search needs) (head .loop .inv .0), (c .before .before .put-shown .kept .0 ∙ head .loop .inv .1 .0, search needs))
+    let head = c .before .before .before .before .before .before .before .before in (
+      c .before .before .put-point .ensures ∙ ap (putPoint _ _) (c .before .before .before .point .ensures) ∙ upTo-next _ _ _ (head .loop .i) (search needs) (head .loop .inv .0),
+      (c .before .before .put-point .kept .0 ∙ head .loop .inv .1 .0, search needs),
+    )
 
 returns : tie.Need-returns Inv-loop μ-loop
 returns c = upTo-last _ _ _ _ _ (search needs) (search needs) (c .before .loop .inv .0)
@@ -43,6 +46,7 @@ put-kept-spec =
     (λ c. search needs)
     (λ c. search needs)
     (λ c. search needs)
+    (λ c κs. search needs)
     (λ c κs. search needs)
     (λ c. search needs)
     (λ c. search needs)

@@ -110,7 +110,7 @@ fn nearest(n: u64, g: f64) -> u64
     ensures { λ r. ⌜ r ≡ nearestRoot (n * 2 ^ 52) ⌝ }
 {
     if g != g {
-        return by_digits(n);
+        return beside(n, DIGITS);
     }
     let q = f64::to_bits(g) % DIGITS + DIGITS;
     if settles(n, q) {
@@ -119,7 +119,7 @@ fn nearest(n: u64, g: f64) -> u64
     beside(n, q)
 }
 
-// The same where it is not q.
+// The same where q is only near it, or nothing of the kind.
 fn beside(n: u64, q: u64) -> u64
     requires { ⌜ (2 ^ 52 ≤ n) × (n < 2 ^ 54) × ((0 < q) × (q < 2 ^ 53)) ⌝ }
     ensures { λ r. ⌜ r ≡ nearestRoot (n * 2 ^ 52) ⌝ }

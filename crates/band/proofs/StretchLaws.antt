@@ -1,5 +1,6 @@
--- A stretch of a row. A source point that is read back from its coordinates is that point, so it shows its colour and counts its matte pixel; and a row that is
--- done up to a pixel, with a stretch put behind it, is done up to the stretch's end. Assumes nothing.
+-- A stretch of a row. A source point that is read back from its coordinates is that point, so it shows its colour and
+-- counts its matte pixel; and a row that is done up to a pixel, with a stretch put behind it, is done up to the
+-- stretch's end. Assumes nothing.
 use mathlib.Core.Path.{_≡_, refl, sym, ap, ap₂, _∙_, subst, subst⁻¹}
 use mathlib.Core.Bool.{Bool, true, false, cond}
 use mathlib.Core.List.{List, _++_, append-assoc}

@@ -1,4 +1,5 @@
--- The laws of the barrels' lists: a store more makes each longer by one, and the three steps together are the points. Assumes nothing.
+-- The laws of the barrels' lists: a store more makes each longer by one, and the three steps together are the points.
+-- Assumes nothing.
 use mathlib.Core.Path.{_≡_, ap, _∙_, refl}
 use mathlib.Core.List.{List}
 use Prim.Native.Nat.{ℕ, _+_, _≤_, _<_}

@@ -1,5 +1,5 @@
--- The steps to the points of Barrel and BarrelInverse, each for a whole stretch: the offsets across with the squared radii, the radii, the points from both.
--- Assumes nothing.
+-- The steps to the points of Barrel and BarrelInverse, each for a whole stretch: the offsets across with the squared
+-- radii, the radii, the points from both. Assumes nothing.
 use mathlib.Core.Path.{_≡_}
 use mathlib.Core.List.{List}
 use Prim.Native.Nat.{ℕ, _+_, _<_}
@@ -10,9 +10,11 @@ use Rattle.point.specs.Point.{point}
 use Rattle.inverse.specs.Barrel.{across, square}
 use Rattle.stretch.specs.Stretch.{middle}
 
--- the first n of two lists: the offsets across and the squared radii of the pixels from column `first` on, of a window at x; dy is the offset down
+-- the first n of two lists: the offsets across and the squared radii of the pixels from column `first` on, of a
+-- window at x; dy is the offset down
 pub record Squares (c : Vector) (x dy : Float) (first n : ℕ) (ds ss : List Float) : Type 0 where
-  pub each : (k : ℕ) → k < n → (at ds k ≡ across c (middle (first + k) x)) × (at ss k ≡ square (across c (middle (first + k) x)) dy)
+  pub each : (k : ℕ) → k < n
+      → (at ds k ≡ across c (middle (first + k) x)) × (at ss k ≡ square (across c (middle (first + k) x)) dy)
 
 -- the first n of a list: f of another's
 pub record Each (f : Float → Float) (n : ℕ) (xs ys : List Float) : Type 0 where

@@ -1,6 +1,7 @@
-// Barrel and BarrelInverse for a stretch: the offsets and the squared radii, guesses at the roots, the roots, and then the points, in loops of their own, so
-// that the compiler takes several pixels at a time in all but the third. The last step is that of the mapping for one point. The squares and the guesses
-// stand where the coordinates will. Assumes that the pixels lie within the limits of a window, and that the arrays are as long as their types say.
+// Barrel and BarrelInverse for a stretch: the offsets and the squared radii, guesses at the roots, the roots, and
+// then the points, in loops of their own, so that the compiler takes several pixels at a time in all but the third.
+// The last step is that of the mapping for one point. The squares and the guesses stand where the coordinates will.
+// Assumes that the pixels lie within the limits of a window, and that the arrays are as long as their types say.
 ghost use mathlib.Core.Path.{_≡_};
 ghost use Prim.Native.Nat.{_+_, _≤_};
 ghost use lib.ListN.{length};
@@ -70,7 +71,9 @@ fn barrel_moved(
     vs: &mut [f64; 64],
 )
     requires { ⌜ (n ≤ 64) × ((length (now us) ≡ 64) × (length (now vs) ≡ 64)) ⌝ }
-    ensures { λ _. ⌜ Moved (barrelFrom (now (coef .entry)) dy) n (now (ds .entry)) (now (rs .entry)) (now (us .exit)) (now (vs .exit)) ⌝ }
+    ensures { λ _.
+        ⌜ Moved (barrelFrom (now (coef .entry)) dy) n (now (ds .entry)) (now (rs .entry)) (now (us .exit))
+        (now (vs .exit)) ⌝ }
 {
     for k in 0..n {
         let p = barrel_from(coef, dy, ds[k], rs[k]);
@@ -90,7 +93,9 @@ fn barrel_inverse_moved(
     vs: &mut [f64; 64],
 )
     requires { ⌜ (n ≤ 64) × ((length (now us) ≡ 64) × (length (now vs) ≡ 64)) ⌝ }
-    ensures { λ _. ⌜ Moved (barrelInverseFrom (now (coef .entry)) dy) n (now (ds .entry)) (now (rs .entry)) (now (us .exit)) (now (vs .exit)) ⌝ }
+    ensures { λ _.
+        ⌜ Moved (barrelInverseFrom (now (coef .entry)) dy) n (now (ds .entry)) (now (rs .entry)) (now (us .exit))
+        (now (vs .exit)) ⌝ }
 {
     for k in 0..n {
         let p = barrel_inverse_from(coef, dy, ds[k], rs[k]);
@@ -109,7 +114,8 @@ pub fn barrel_points(
     vs: &mut [f64; 64],
 )
     requires { ⌜ (n ≤ 64) × ((first + n ≤ 4096) × ((length (now us) ≡ 64) × (length (now vs) ≡ 64))) ⌝ }
-    ensures { λ _. ⌜ Stretch (λ (a : Float). barrel (now (coef .entry)) a y) x first n (now (us .exit)) (now (vs .exit)) ⌝ }
+    ensures { λ _.
+        ⌜ Stretch (λ (a : Float). barrel (now (coef .entry)) a y) x first n (now (us .exit)) (now (vs .exit)) ⌝ }
 {
     let dy = down(coef, y);
     let mut ds = [0.0; 64];
@@ -132,7 +138,8 @@ pub fn barrel_inverse_points(
     vs: &mut [f64; 64],
 )
     requires { ⌜ (n ≤ 64) × ((first + n ≤ 4096) × ((length (now us) ≡ 64) × (length (now vs) ≡ 64))) ⌝ }
-    ensures { λ _. ⌜ Stretch (λ (a : Float). barrelInverse (now (coef .entry)) a y) x first n (now (us .exit)) (now (vs .exit)) ⌝ }
+    ensures { λ _.
+        ⌜ Stretch (λ (a : Float). barrelInverse (now (coef .entry)) a y) x first n (now (us .exit)) (now (vs .exit)) ⌝ }
 {
     let dy = down(coef, y);
     let mut ds = [0.0; 64];

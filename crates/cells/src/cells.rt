@@ -1,6 +1,6 @@
-// The cells of a stretch's coordinates: a loop for each kind with no branch in it, so that the compiler takes several coordinates at a time. Where one
-// coordinate has no cell the answer is false, and the caller goes pixel by pixel. Assumes at most 64
-// coordinates and a picture's side.
+// The cells of a stretch's coordinates: a loop for each kind with no branch in it, so that the compiler takes several
+// coordinates at a time. Where one coordinate has no cell the answer is false, and the caller goes pixel by pixel.
+// Assumes at most 64 coordinates and a picture's side.
 ghost use mathlib.Core.Path.{_≡_};
 ghost use mathlib.Core.Bool.{true};
 ghost use Prim.Native.Nat.{_≤_, _<_};
@@ -47,7 +47,8 @@ fn fill(us: &[f64; 64], n: usize, reach: u64, cs: &mut [u32; 64], ts: &mut [f32;
     good
 }
 
-// The cells of the first n coordinates, if the answer is true. The contract leaves it free to be false, and then the arrays say nothing; `fill` says when it is true.
+// The cells of the first n coordinates, if the answer is true. The contract leaves it free to be false, and then the
+// arrays say nothing; `fill` says when it is true.
 pub fn cells(us: &[f64; 64], n: usize, reach: u64, cs: &mut [u32; 64], ts: &mut [f32; 64]) -> bool
     requires { ⌜ n ≤ 64 ⌝ }
     requires { ⌜ reach ≤ 65536 ⌝ }

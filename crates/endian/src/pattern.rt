@@ -1,5 +1,6 @@
-// Numbers as their bits: an f32 or f64 as its IEEE 754 pattern, NaN included, a signed number in two's complement, and
-// the test of a magnitude on the pattern alone, whose limit is at most the pattern of the infinity. Assumes nothing else.
+// Numbers as their bits: an f32 or f64 as its IEEE 754 pattern, NaN included, a signed number in two's complement,
+// and the test of a magnitude on the pattern alone, whose limit is at most the pattern of the infinity. Assumes
+// nothing else.
 ghost use mathlib.Core.Path.{_≡_};
 ghost use Prim.Native.Nat.{_≤_};
 ghost use lib.Ieee.{binary32, binary64, ofBits, toBits};

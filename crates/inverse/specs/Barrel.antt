@@ -1,5 +1,5 @@
--- Barrel and BarrelInverse: the offset from the centre times a factor that depends on the radius. The coefficients are the factor's four,
--- the centre's two and the radius that counts as 1. Assumes nothing.
+-- Barrel and BarrelInverse: the offset from the centre times a factor that depends on the radius. The coefficients
+-- are the factor's four, the centre's two and the radius that counts as 1. Assumes nothing.
 use mathlib.Core.Bool.{cond}
 use lib.Ieee.{Float, binary64, ofBits, lt}
 use Rattle.exact.specs.Double.{_⊕_, _⊖_, _⊗_, _⊘_}

@@ -1,5 +1,5 @@
-// Barrel and BarrelInverse: the offset from the centre times a factor of the radius. A span of pixels takes the steps in loops of their own, and ends in the
-// same `barrel_from` or `barrel_inverse_from`. Assumes nothing.
+// Barrel and BarrelInverse: the offset from the centre times a factor of the radius. A span of pixels takes the steps
+// in loops of their own, and ends in the same `barrel_from` or `barrel_inverse_from`. Assumes nothing.
 ghost use mathlib.Core.Path.{_≡_};
 ghost use Rattle.inverse.specs.Barrel as Barrel;
 use number::magnitude::abs;

@@ -1,5 +1,5 @@
--- A point is `point` of its own coordinates: one that was made of two numbers, none, and one that is either. A loop that is left in the middle ends in such a
--- point where each of its turns does. Assumes nothing.
+-- A point is `point` of its own coordinates: one that was made of two numbers, none, and one that is either. A loop
+-- that is left in the middle ends in such a point where each of its turns does. Assumes nothing.
 use mathlib.Core.Path.{_≡_, refl, sym, ap, _∙_}
 use mathlib.Core.Bool.{Bool, true, false, cond}
 use lib.Ieee.{Float, nan, le}

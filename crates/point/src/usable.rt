@@ -1,4 +1,5 @@
-// Whether a source point can be used, and the three ways to make one. None has a branch, so that a loop over them takes several at a time. Assumes nothing.
+// Whether a source point can be used, and the three ways to make one. None has a branch, so that a loop over them
+// takes several at a time. Assumes nothing.
 ghost use mathlib.Core.Path.{_≡_};
 ghost use mathlib.Core.Bool.{cond};
 ghost use lib.Ieee.{nan};

@@ -1,6 +1,7 @@
-// The source points of a stretch of a row, worked out before its colours: loops around the mapping of one point, whose coordinates they keep. Those of Affine and Perspective have
-// no branch, so that the compiler takes several pixels at a time; the barrels take their steps in loops of their own (`barrels`). Assumes that the pixels lie within the limits of a
-// window, and the inner functions that the arrays are as long as their types say.
+// The source points of a stretch of a row, worked out before its colours: loops around the mapping of one point,
+// whose coordinates they keep. Those of Affine and Perspective have no branch, so that the compiler takes several
+// pixels at a time; the barrels take their steps in loops of their own (`barrels`). Assumes that the pixels lie
+// within the limits of a window, and the inner functions that the arrays are as long as their types say.
 ghost use mathlib.Core.Path.{_≡_};
 ghost use Prim.Native.Nat.{_+_, _≤_};
 ghost use lib.IntN.{natAbs};

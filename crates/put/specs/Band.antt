@@ -1,5 +1,6 @@
--- The band: rows of output pixels in bytes, whatever it held before, and how many of them are matte. An output pixel is asked at its middle; where
--- its source point is none or unusable it is matte, and else the picture's colour there, half a pixel back into index space. Assumes nothing.
+-- The band: rows of output pixels in bytes, whatever it held before, and how many of them are matte. An output pixel
+-- is asked at its middle; where its source point is none or unusable it is matte, and else the picture's colour
+-- there, half a pixel back into index space. Assumes nothing.
 use Prim.Native.Nat.{ℕ, _+_, _*_}
 use mathlib.Core.Path.{_≡_}
 use mathlib.Core.Bool.{Bool, cond}

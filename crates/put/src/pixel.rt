@@ -54,7 +54,8 @@ fn missed(p: Point) -> u64
     if p.usable { 0 } else { 1 }
 }
 
-// The pixel whose source point has the coordinates u and v, put as the band's pixel numbered `place` of `depth` samples; and what it adds to the matte pixels.
+// The pixel whose source point has the coordinates u and v, put as the band's pixel numbered `place` of `depth`
+// samples; and what it adds to the matte pixels.
 pub fn put_one(
     picture: &[u8],
     width: u64,

@@ -1,5 +1,6 @@
--- The exact test without a number beyond 64 bits: with q in two halves, n * 2 ^ 52 + q - q * q is reached in three steps, each a difference that did not
--- wrap, since it is small; and that number between 1 and 2 * q says that q is the nearest root. Assumes nothing.
+-- The exact test without a number beyond 64 bits: with q in two halves, n * 2 ^ 52 + q - q * q is reached in three
+-- steps, each a difference that did not wrap, since it is small; and that number between 1 and 2 * q says that q is
+-- the nearest root. Assumes nothing.
 use mathlib.Core.Path.{_≡_, sym, ap, _∙_, subst}
 use Prim.Native.Nat.{ℕ, _+_, _*_, _/_, _%_, _^_, _≤_, _<_}
 use native.Mathlib.Nat.{le-of-lt, mul-le-mul, mod-eq-of-lt}

@@ -74,7 +74,7 @@ fn exponent(bits: u64) -> u64
     if bits < DIGITS { 0 } else { bits / DIGITS - 1 }
 }
 
-// What a guess starts from: x, or 1 where x is not above 0. It is no NaN, and its bits are not those of a negative number.
+// What a guess starts from: x, or 1 where x is not above 0. It is no NaN, and has no sign.
 fn seed(x: f64) -> f64
     ensures { λ z. ⌜ z ≡ seed x ⌝ }
     ensures { λ z. ⌜ T (not (isNan z)) × (toBits binary64 z ≤ 0x7ff0_0000_0000_0000) ⌝ }
@@ -82,8 +82,9 @@ fn seed(x: f64) -> f64
     if x > 0.0 { x } else { 1.0 }
 }
 
-// Close to the root of x, where x is a normal number above 0: 1 / √x from the bit pattern within 4%, then by a polynomial within
-// 2^-30; the root g from that, cut to its leading digits so that their square is exact, and a step from there. It has no branch.
+// Close to the root of x, where x is a normal number above 0: 1 / √x from the bit pattern within 4%, then by a
+// polynomial within 2^-30; the root g from that, cut to its leading digits so that their square is exact, and a step
+// from there. It has no branch.
 pub fn guess(x: f64) -> f64
     ensures { λ r. ⌜ r ≡ Root.guess x ⌝ }
 {
@@ -104,7 +105,7 @@ pub fn guess(x: f64) -> f64
     top + (d + d * d * half)
 }
 
-// The whole number nearest to the root of n * 2^52: the digits of the guess or a neighbour, else by digits.
+// The whole number nearest to the root of n * 2^52, tried first at the digits of the guess.
 fn nearest(n: u64, g: f64) -> u64
     requires { ⌜ (2 ^ 52 ≤ n) × (n < 2 ^ 54) ⌝ }
     ensures { λ r. ⌜ r ≡ nearestRoot (n * 2 ^ 52) ⌝ }
@@ -119,7 +120,7 @@ fn nearest(n: u64, g: f64) -> u64
     beside(n, q)
 }
 
-// The same where q is only near it, or nothing of the kind.
+// The same where q is not that number: a neighbour of q, else by digits.
 fn beside(n: u64, q: u64) -> u64
     requires { ⌜ (2 ^ 52 ≤ n) × (n < 2 ^ 54) × ((0 < q) × (q < 2 ^ 53)) ⌝ }
     ensures { λ r. ⌜ r ≡ nearestRoot (n * 2 ^ 52) ⌝ }
@@ -134,8 +135,9 @@ fn beside(n: u64, q: u64) -> u64
 }
 
 // Whether q is that number: whether n * 2^52 + q - q * q is above 0 and at most 2 * q, which says that the root lies
-// between q - 1/2 and q + 1/2. With q = h * 2^27 + l, it is ((n - 4 * h * h) * 2^25 + h - 2 * h * l) * 2^27 + l - l * l;
-// each difference is small where q is right, and one that goes below 0 wraps to a large number, so that 64 bits do.
+// between q - 1/2 and q + 1/2. With q = h * 2^27 + l it is f * 2^27 + l - l * l, f being d * 2^25 + h - 2 * h * l and
+// d being n - 4 * h * h. Each difference is small where q is right, and one that goes below 0 wraps to a large
+// number, so that 64 bits do; t is the last one less 1.
 fn settles(n: u64, q: u64) -> bool
     requires { ⌜ (2 ^ 52 ≤ n) × (n < 2 ^ 54) × (q ≤ 2 ^ 53) ⌝ }
     ensures { λ r. ⌜ (r ≡ true → q ≡ nearestRoot (n * 2 ^ 52)) ⌝ }

@@ -1,5 +1,6 @@
--- The laws of rows: the tests are the definition's, lengths and limits that are not wrong are those that the loops ask for, a stretch's coordinates are
--- written as its points, and a stretch more makes the row longer. Assumes nothing.
+-- The laws of rows: the tests are the definition's, lengths and limits that are not wrong are those that the loops
+-- ask for, a stretch's coordinates are written as its points, and a stretch more makes the row longer. Assumes
+-- nothing.
 use mathlib.Core.Path.{_≡_, refl, sym, ap, _∙_}
 use mathlib.Core.Bool.{Bool, true, false, cond, not, _||_, true≢false}
 use mathlib.Core.List.{List}

@@ -1,5 +1,5 @@
--- Whole rows of source points handed out by one fit: the refusal's number, or 0 with each point as `Pointed` writes one, row by row. A refusal
--- writes nothing. Assumes nothing.
+-- Whole rows of source points handed out by one fit: the refusal's number, or 0 with each point as `Pointed` writes
+-- one, row by row. A refusal writes nothing. Assumes nothing.
 use Prim.Native.Nat.{ℕ, _+_, _-_, _*_}
 use mathlib.Core.Bool.{Bool, cond, not, _||_}
 use mathlib.Core.List.{List}
@@ -24,7 +24,8 @@ putKept us vs first place i out = putPoint out ((place + i) * 24) (point (at us 
 
 -- column i of row j, of a window at x, y
 unfoldable pub putColumn : ℕ → ℕ → ℕ → Vector → ℤ → ℤ → ℕ → ℕ → ℕ → List ℕ → List ℕ
-putColumn kind order count coef x y j place i out = putPoint out ((place + i) * 24) (inverse kind order count coef (asked i x) (asked j y))
+putColumn kind order count coef x y j place i out =
+    putPoint out ((place + i) * 24) (inverse kind order count coef (asked i x) (asked j y))
 
 -- the row numbered r of those from `first` on
 unfoldable pub putRow : ℕ → ℕ → ℕ → Vector → ℤ → ℤ → ℕ → ℕ → ℕ → List ℕ → List ℕ

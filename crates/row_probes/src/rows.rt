@@ -1,5 +1,5 @@
-// Source points in bytes, whole rows of a window by one fit and worked as the call works them, in stretches: so that what is measured is what the product
-// does. Assumes nothing.
+// Source points in bytes, whole rows of a window by one fit and worked as the call works them, in stretches: so that
+// what is measured is what the product does. Assumes nothing.
 ghost use mathlib.Core.Path.{_≡_};
 ghost use Prim.Native.Nat.{_+_, _*_, _≤_, _<_};
 ghost use lib.IntN.{natAbs};
@@ -144,7 +144,8 @@ fn wrong_rows(width: u64, x: i64, y: i64, first: u64, rows: u64, out: usize) -> 
     (first + rows > 4096) | (out as u64 != rows * width * 24)
 }
 
-// The fit is refused as `probe_fit` refuses it, and then rows beyond the limits of a window, or lengths that do not fit, by 12.
+// The fit is refused as `probe_fit` refuses it, and then rows beyond the limits of a window, or lengths that do not
+// fit, by 12.
 #[no_mangle]
 pub extern "C" fn probe_rows(
     method: u64,

@@ -1,5 +1,5 @@
-// The colour at a source point, by the interpolation's code: one tap alone, the weighted mean of several, or the background. Assumes that the bytes are a
-// picture's, and that the point can be used.
+// The colour at a source point, by the interpolation's code: one tap alone, the weighted mean of several, or the
+// background. Assumes that the bytes are a picture's, and that the point can be used.
 ghost use mathlib.Core.Path.{_≡_};
 ghost use mathlib.Core.Bool.{true};
 ghost use Prim.Native.Nat.{_≤_, _<_};
@@ -118,7 +118,8 @@ pub fn interpolate(
     requires { ⌜ Picture (now picture) width height channels ⌝ }
     requires { ⌜ (p .usable ≡ true) × Points.Whole p ⌝ }
     ensures { λ r.
-        ⌜ r ≡ Interpolate.interpolate (now (picture .entry)) width height channels policy code background (p .u ⊖ half) (p .v ⊖ half) ⌝ }
+        ⌜ r ≡ Interpolate.interpolate (now (picture .entry)) width height channels policy code background (p .u ⊖ half)
+        (p .v ⊖ half) ⌝ }
 {
     interpolate_at(
         picture,

@@ -1,5 +1,5 @@
--- Lists that a loop fills: a store more makes the part that is done longer by one; and so a stretch of source points grows by the coordinates of one more.
--- Assumes nothing.
+-- Lists that a loop fills: a store more makes the part that is done longer by one; and so a stretch of source points
+-- grows by the coordinates of one more. Assumes nothing.
 use mathlib.Core.Path.{_≡_, sym, _∙_}
 use mathlib.Core.Logic.{_≢_}
 use mathlib.Core.List.{List}

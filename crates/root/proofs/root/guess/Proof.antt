@@ -1,5 +1,6 @@
--- `root::root::guess` is safe: half of a seed's pattern can be taken from the constant, and what is left is below the infinity's pattern. Its result is the
--- float expression that the definition writes out; nothing rests on how close that is. Assumes nothing.
+-- `root::root::guess` is safe: half of a seed's pattern can be taken from the constant, and what is left is below the
+-- infinity's pattern. Its result is the float expression that the definition writes out; nothing rests on how close
+-- that is. Assumes nothing.
 use Prim.Native.Nat.{_-_, _/_}
 use native.Mathlib.Omega.{arith}
 use lib.Ieee.{binary64, toBits}

@@ -1,5 +1,5 @@
--- `root::root::settles` meets its contract: the products fit, and where all tests pass no difference wrapped, so that the last one says that q is the
--- nearest root (`RootSettle.antt`). Assumes nothing.
+-- `root::root::settles` meets its contract: the products fit, and where all tests pass no difference wrapped, so that
+-- the last one says that q is the nearest root (`RootSettle.antt`). Assumes nothing.
 use mathlib.Core.Path.{_≡_, refl}
 use mathlib.Core.Bool.{Bool, true, false, _&&_, false≢true}
 use Prim.Native.Nat.{ℕ, _*_, _/_, _%_, _^_, _≤_, _<_}

@@ -3,16 +3,7 @@
 use std::env;
 use std::path::PathBuf;
 
-const ARCHIVES: [&str; 8] = [
-    "number_probes",
-    "fit_probes",
-    "window_probes",
-    "point_probes",
-    "row_probes",
-    "cubic_probes",
-    "probes",
-    "sample_probes",
-];
+const ARCHIVES: [&str; 4] = ["probe_number", "probe_fit", "probe_points", "probe_sampler"];
 
 fn main() {
     println!("cargo::rerun-if-env-changed=DIHYRAVO_PROBES");

@@ -1,10 +1,7 @@
 //! Writes the original's three files, unchanged, into OUT_DIR, each followed by our access functions, and a file
 //! that declares them as modules. Where the original is not there, the crate is built without it.
 
-#[path = "src/sha256.rs"]
-#[allow(dead_code)]
-mod sha256;
-
+use sha2::{Digest, Sha256};
 use std::path::{Path, PathBuf};
 use std::{env, fs};
 
@@ -14,7 +11,6 @@ fn main() {
     println!("cargo::rustc-check-cfg=cfg(reference_present)");
     println!("cargo::rerun-if-env-changed=DIHYRAVO_REFERENCE");
     println!("cargo::rerun-if-changed=build.rs");
-    println!("cargo::rerun-if-changed=src/sha256.rs");
     println!("cargo::rerun-if-changed=access");
 
     let folder = folder();
@@ -57,8 +53,8 @@ fn write_modules(sources: &[PathBuf; 3]) {
         // `include!` refuses a file that starts with `//!`; a module file does not.
         modules += &format!("#[allow(warnings)]\n#[path = {target:?}]\npub(crate) mod {name};\n");
         originals += &format!(
-            "(\"{name}.rs\", \"{}\", {}, include_str!({target:?})),\n",
-            sha256::hex(original.as_bytes()),
+            "(\"{name}.rs\", \"{:x}\", {}, include_str!({target:?})),\n",
+            Sha256::digest(&original),
             original.len()
         );
     }

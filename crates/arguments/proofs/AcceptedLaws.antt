@@ -1,5 +1,5 @@
--- What a fit may take for granted: where none of the refusals 3 to 7 applies, each of the table's tests failed, and each that
--- failed says something of the method, the count, the numbers, the order and the pairs. Assumes nothing.
+-- What a fit may take for granted: where none of the refusals 3 to 7 applies, each of the table's tests failed, and
+-- each that failed says something of the method, the count, the numbers, the order and the pairs. Assumes nothing.
 use mathlib.Core.Path.{_≡_, subst}
 use mathlib.Core.Logic.{_⊎_, ⊎-elim}
 use mathlib.Core.Bool.{Bool, true, false, not, _&&_, _||_}
@@ -10,10 +10,31 @@ use lib.Dec.{eqb, ltb}
 use lib.ListN.{length}
 use borrow.Author.Tests.{ltb-false, eqb-true, not-false}
 use Rattle.endian.specs.Bytes.{argumentAt}
-use Rattle.arguments.specs.Method.{affineProjection, perspectiveProjection, polynomial, barrel, barrelInverse, present, pairMethod, skip, leastPairs}
+use Rattle.arguments.specs.Method.{
+  affineProjection,
+  perspectiveProjection,
+  polynomial,
+  barrel,
+  barrelInverse,
+  present,
+  pairMethod,
+  skip,
+  leastPairs,
+}
 use Rattle.arguments.specs.Order.{goodOrder}
 use Rattle.arguments.specs.Store.{countOf, orderOf}
-use Rattle.arguments.specs.Refusal.{badValues, badFor, badCount, goodNumber, badNumber, badOrder, pairsOf, fewPairs, refusals, refusal}
+use Rattle.arguments.specs.Refusal.{
+  badValues,
+  badFor,
+  badCount,
+  goodNumber,
+  badNumber,
+  badOrder,
+  pairsOf,
+  fewPairs,
+  refusals,
+  refusal,
+}
 use Rattle.exact.proofs.TableLaws.{row-failed}
 use Rattle.arguments.proofs.NumberLaws.{all-good}
 use Rattle.arguments.proofs.CountLaws.{neither, values-count, pairs-after}
@@ -27,7 +48,8 @@ pub record Accepted (m : ℕ) (bytes : List ℕ) : Type 0 where
   pub six : m ≡ affineProjection → countOf bytes ≡ 6
   pub eight : m ≡ perspectiveProjection → countOf bytes ≡ 8
   pub three : (m ≡ barrel) ⊎ (m ≡ barrelInverse) → 3 ≤ countOf bytes
-  pub pairs : pairMethod m ≡ true → (countOf bytes ≡ skip m + 4 * pairsOf m bytes) × ((1 ≤ pairsOf m bytes) × (pairsOf m bytes ≤ 64))
+  pub pairs : pairMethod m ≡ true → (countOf bytes ≡ skip m + 4 * pairsOf m bytes)
+      × ((1 ≤ pairsOf m bytes) × (pairsOf m bytes ≤ 64))
   pub enough : leastPairs m (orderOf bytes) ≤ pairsOf m bytes
   -- each finite and within the limit, and a polynomial's order from 1 to 5
   pub numbers : (k : ℕ) → k < countOf bytes → goodNumber (argumentAt bytes k) ≡ true
@@ -40,7 +62,8 @@ eights n e = omega arith
 equal : (n c : ℕ) → not (eqb n c) ≡ false → n ≡ c
 equal n c e = eqb-true n c (not-false (eqb n c) e)
 
-counted : (s n : ℕ) → (s ≤ n) × (badValues (n - s) ≡ false) → (n ≡ s + 4 * ((n - s) / 4)) × ((1 ≤ (n - s) / 4) × ((n - s) / 4 ≤ 64))
+counted : (s n : ℕ) → (s ≤ n) × (badValues (n - s) ≡ false) → (n ≡ s + 4 * ((n - s) / 4))
+    × ((1 ≤ (n - s) / 4) × ((n - s) / 4 ≤ 64))
 counted s n h = let v = values-count (n - s) (h .1) in (omega arith, v .1)
 
 -- a test of the method m, at the code k that m is
@@ -49,7 +72,8 @@ at m k test e q = subst (λ (x : ℕ). test x ≡ false) q e
 
 module _ (m : ℕ) (bytes : List ℕ) where
   -- from the tests one by one, for a table that has more rows than these
-  pub accepted-tests : present m ≡ true → badCount m bytes ≡ false → badNumber bytes ≡ false → badOrder m bytes ≡ false → fewPairs m bytes ≡ false → Accepted m bytes
+  pub accepted-tests : present m ≡ true → badCount m bytes ≡ false → badNumber bytes ≡ false → badOrder m bytes ≡ false
+      → fewPairs m bytes ≡ false → Accepted m bytes
   unfolding badCount badFor badOrder pairsOf fewPairs
   accepted-tests here count number order few =
       let n = countOf bytes in
@@ -66,7 +90,8 @@ module _ (m : ℕ) (bytes : List ℕ) where
         pairs = λ e. counted (skip m) n (pairs-after m n e (t .1));
         enough = ltb-false (pairsOf m bytes) (leastPairs m (orderOf bytes)) few;
         numbers = all-good bytes number;
-        order = λ e. not-false (goodOrder (orderOf bytes)) (at m polynomial (λ (x : ℕ). eqb x polynomial && not (goodOrder (orderOf bytes))) order e);
+        order = λ e. not-false (goodOrder (orderOf bytes))
+            (at m polynomial (λ (x : ℕ). eqb x polynomial && not (goodOrder (orderOf bytes))) order e);
       }
 
   pub accepted : refusal m bytes ≡ 0 → Accepted m bytes

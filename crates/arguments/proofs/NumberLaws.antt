@@ -1,5 +1,5 @@
--- Where refusal 5 does not apply every argument is good, and a good number is finite. One bad number would have made the test
--- false for good, since a turn never makes it true again. Assumes nothing.
+-- Where refusal 5 does not apply every argument is good, and a good number is finite. One bad number would have made
+-- the test false for good, since a turn never makes it true again. Assumes nothing.
 use mathlib.Core.Path.{_≡_, refl, sym, ap, _∙_, subst}
 use mathlib.Core.Bool.{Bool, true, false, _&&_, true≢false}
 use mathlib.Core.List.{List}

@@ -1,5 +1,5 @@
--- The degree of an order is one of 1 to 5, and its terms are from 3 to 21, whatever the order: by the cases of the tests.
--- Assumes nothing.
+-- The degree of an order is one of 1 to 5, and its terms are from 3 to 21, whatever the order: by the cases of the
+-- tests. Assumes nothing.
 use mathlib.Core.Bool.{Bool, true, false, cond}
 use Prim.Native.Nat.{ℕ, _+_, _*_, _/_, _≤_}
 use lib.Dec.{lit≤}

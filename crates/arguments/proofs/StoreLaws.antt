@@ -1,5 +1,5 @@
--- The store: it has room for what it is said to hold, below its count stand the arguments and above it zeros. A turn of its
--- loop writes one place, so what stands elsewhere is kept. Assumes nothing.
+-- The store: it has room for what it is said to hold, below its count stand the arguments and above it zeros. A turn of
+-- its loop writes one place, so what stands elsewhere is kept. Assumes nothing.
 use mathlib.Core.Path.{_≡_, refl, sym, ap, _∙_}
 use mathlib.Core.Bool.{Bool, true, false, cond}
 use mathlib.Core.List.{List}
@@ -34,7 +34,8 @@ held-some bytes h = omega arith
 -- what was written is kept, and so is the length
 after : (bytes : List ℕ) (n : ℕ) → length (upTo (keep bytes) 0 n zeros) ≡ 257
 unfolding keep zeros
-after bytes n = upTo-keep (keep bytes) 0 zeros (λ (l : List Float). length l ≡ 257) n zero-le (λ j l a b h. length-set l j (argumentAt bytes j) ∙ h) refl
+after bytes n = upTo-keep (keep bytes) 0 zeros (λ (l : List Float). length l ≡ 257) n zero-le
+    (λ j l a b h. length-set l j (argumentAt bytes j) ∙ h) refl
 
 pub values-length : (bytes : List ℕ) → length (valuesOf bytes) ≡ 257
 unfolding valuesOf zeros
@@ -45,12 +46,15 @@ pub value-at : (bytes : List ℕ) (k : ℕ) (d : Float) → k < heldOf bytes →
 unfolding valuesOf keep zeros
 value-at bytes k d h =
     ap (λ (l : List Float). getD l k d) (upTo-join (keep bytes) 0 zeros (k + 1) (heldOf bytes) zero-le (omega arith))
-    ∙ upTo-keep (keep bytes) (k + 1) (upTo (keep bytes) 0 (k + 1) zeros) (λ (l : List Float). getD l k d ≡ argumentAt bytes k) (heldOf bytes) (omega arith)
+    ∙ upTo-keep (keep bytes) (k + 1) (upTo (keep bytes) 0 (k + 1) zeros)
+    (λ (l : List Float). getD l k d ≡ argumentAt bytes k) (heldOf bytes) (omega arith)
     (λ j l a b p. getD-set-other l j k (argumentAt bytes j) d (λ e. omega arith) ∙ p)
     (ap (λ (l : List Float). getD l k d) (sym (upTo-next (keep bytes) 0 zeros k zero-le refl))
-    ∙ getD-set-same (upTo (keep bytes) 0 k zeros) k (argumentAt bytes k) d (omega (arith, after bytes k, held-room bytes)))
+    ∙ getD-set-same (upTo (keep bytes) 0 k zeros) k (argumentAt bytes k) d
+    (omega (arith, after bytes k, held-room bytes)))
 
-pub value-past : (bytes : List ℕ) (k : ℕ) (d : Float) → heldOf bytes ≤ k → k < 257 → getD (valuesOf bytes) k d ≡ ofBits binary64 0
+pub value-past : (bytes : List ℕ) (k : ℕ) (d : Float) → heldOf bytes ≤ k → k < 257
+    → getD (valuesOf bytes) k d ≡ ofBits binary64 0
 unfolding valuesOf keep zeros
 value-past bytes k d h r =
     upTo-keep (keep bytes) 0 zeros (λ (l : List Float). getD l k d ≡ ofBits binary64 0) (heldOf bytes) zero-le
@@ -58,10 +62,11 @@ value-past bytes k d h r =
     (getD-replicate 257 k (ofBits binary64 0) d r)
 
 -- a polynomial's order is the store's first number, whatever the bytes
-pub order-value : (bytes : List ℕ) → orderOf bytes ≡ getD (valuesOf bytes) 0 (ofBits binary64 0)
+pub order-value : (bytes : List ℕ) (d : Float) → orderOf bytes ≡ getD (valuesOf bytes) 0 d
 unfolding orderOf
-order-value bytes = go (eqb (countOf bytes) 0) refl
+order-value bytes d = go (eqb (countOf bytes) 0) refl
   where
-    go : (b : Bool) → eqb (countOf bytes) 0 ≡ b → cond b (ofBits binary64 0) (argumentAt bytes 0) ≡ getD (valuesOf bytes) 0 (ofBits binary64 0)
-    go true e = sym (value-past bytes 0 (ofBits binary64 0) (held-none bytes (eqb-true (countOf bytes) 0 e)) (lit< tt))
-    go false e = sym (value-at bytes 0 (ofBits binary64 0) (held-some bytes (eqb-false (countOf bytes) 0 e)))
+    go : (b : Bool) → eqb (countOf bytes) 0 ≡ b
+        → cond b (ofBits binary64 0) (argumentAt bytes 0) ≡ getD (valuesOf bytes) 0 d
+    go true e = sym (value-past bytes 0 d (held-none bytes (eqb-true (countOf bytes) 0 e)) (lit< tt))
+    go false e = sym (value-at bytes 0 d (held-some bytes (eqb-false (countOf bytes) 0 e)))

@@ -1,4 +1,5 @@
--- No premise is empty: a call that no refusal applies to, and one for each number, computed from one table. Assumes nothing.
+-- No premise is empty: a call that no refusal applies to, and one for each number, computed from one table. Assumes
+-- nothing.
 use mathlib.Core.Path.{_≡_, refl}
 use mathlib.Core.List.{List, [], _∷_, _++_, map}
 use Prim.Native.Nat.{ℕ, _*_}
@@ -11,7 +12,18 @@ use Rattle.endian.specs.Bytes.{numberAt}
 use Rattle.arguments.specs.Method.{affine, polynomial, present, skip, leastPairs}
 use Rattle.arguments.specs.Order.{bilinearOrder, degree, termsOf, goodOrder}
 use Rattle.arguments.specs.Store.{orderOf}
-use Rattle.arguments.specs.Refusal.{badValues, badFor, badCount, goodNumber, stillGood, badNumber, badOrder, pairsOf, fewPairs, refusal}
+use Rattle.arguments.specs.Refusal.{
+  badValues,
+  badFor,
+  badCount,
+  goodNumber,
+  stillGood,
+  badNumber,
+  badOrder,
+  pairsOf,
+  fewPairs,
+  refusal,
+}
 
 -- the bytes of 0.0, n times, and of a float whose lower six bytes are 0
 abbrev pub zeros : ℕ → List ℕ
@@ -31,5 +43,7 @@ calls =
     ∷ [])))))
 
 pub answers : map (λ (c : ℕ × List ℕ). refusal (c .0) (c .1)) calls ≡ 0 ∷ (3 ∷ (4 ∷ (5 ∷ (6 ∷ (7 ∷ [])))))
-unfolding refusal firstOf present badCount badFor badValues badNumber stillGood goodNumber upTo turns within abs le numberAt ofBits ofFields odd badOrder pairsOf fewPairs skip leastPairs orderOf goodOrder termsOf bilinearOrder degree lt sub add neg sum round units size span climb
+unfolding refusal firstOf present badCount badFor badValues badNumber stillGood goodNumber upTo turns within abs le
+    numberAt ofBits ofFields odd badOrder pairsOf fewPairs skip leastPairs orderOf goodOrder termsOf bilinearOrder
+    degree lt sub add neg sum round units size span climb
 answers = refl

@@ -1,5 +1,6 @@
--- The methods by their codes, which count from 0 in the order of the Rust enum's declaration; the four that are absent have
--- theirs too. Then what each method states: its least pair count and its term count. Assumes nothing.
+-- The methods by their codes, which count from 0 in the order of the Rust enum's declaration; the four that are absent
+-- have theirs too. Then what each method states: its least pair count and its term count. Specification 1.2, 3.2.
+-- Assumes nothing.
 use Prim.Native.Nat.{ℕ}
 use mathlib.Core.Bool.{Bool, not, _&&_, _||_, cond}
 use lib.Dec.{eqb, ltb, leb}
@@ -43,7 +44,8 @@ present m = leb m 13 && not (eqb m 2) && (ltb m 8 || ltb 10 m)
 -- the methods that take pairs
 unfoldable pub pairMethod : ℕ → Bool
 pairMethod m =
-    eqb m affine || eqb m perspective || eqb m bilinearReverse || eqb m bilinearForward || eqb m polynomial || eqb m shepards
+    eqb m affine || eqb m perspective || eqb m bilinearReverse || eqb m bilinearForward || eqb m polynomial
+    || eqb m shepards
 
 -- how many arguments stand before the pairs: a polynomial's order
 unfoldable pub skip : ℕ → ℕ

@@ -1,4 +1,5 @@
--- The order of a polynomial: how many terms it has, and up to which degree. Judged here alone. Assumes nothing.
+-- The order of a polynomial: how many terms it has, and up to which degree. Judged here alone. Specification 3.2.
+-- Assumes nothing.
 use Prim.Native.Nat.{ℕ, _+_, _*_, _/_}
 use mathlib.Core.Bool.{Bool, _&&_, cond}
 use lib.Ieee.{Float, binary64, ofBits, lt, le}

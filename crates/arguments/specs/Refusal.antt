@@ -1,5 +1,5 @@
--- Refusals 3 to 7 over a method and its arguments alone, as document 01's table has them: each test by itself, then the table.
--- A test stands on its own and may be asked out of turn; the table's order says which number a caller gets. Assumes nothing.
+-- Refusals 3 to 7 over a method and its arguments alone (specification 2): each test by itself, then the table. A test
+-- stands on its own and may be asked out of turn; the table's order says which number a caller gets. Assumes nothing.
 use Prim.Native.Nat.{ℕ, _-_, _/_, _%_}
 use mathlib.Core.Bool.{Bool, true, not, _&&_, _||_, cond}
 use mathlib.Core.List.{List, [], _∷_}
@@ -10,7 +10,16 @@ use Rattle.exact.specs.Loop.{upTo}
 use Rattle.exact.specs.Table.{firstOf}
 use Rattle.endian.specs.Bytes.{argumentAt}
 use Rattle.number.specs.Magnitude.{within}
-use Rattle.arguments.specs.Method.{affineProjection, perspectiveProjection, polynomial, barrel, barrelInverse, present, skip, leastPairs}
+use Rattle.arguments.specs.Method.{
+  affineProjection,
+  perspectiveProjection,
+  polynomial,
+  barrel,
+  barrelInverse,
+  present,
+  skip,
+  leastPairs,
+}
 use Rattle.arguments.specs.Order.{goodOrder}
 use Rattle.arguments.specs.Store.{countOf, orderOf}
 
@@ -49,9 +58,12 @@ unfoldable pub badOrder : ℕ → List ℕ → Bool
 badOrder m bytes = eqb m polynomial && not (goodOrder (orderOf bytes))
 
 -- ---- 7, few
--- how many pairs the arguments of a pair method are
+-- how many pairs n arguments of a pair method are
+abbrev pub pairsIn : ℕ → ℕ → ℕ
+pairsIn m n = (n - skip m) / 4
+
 unfoldable pub pairsOf : ℕ → List ℕ → ℕ
-pairsOf m bytes = (countOf bytes - skip m) / 4
+pairsOf m bytes = pairsIn m (countOf bytes)
 
 -- under the method's least pairs. (For `Affine` and `Shepards` it is 1, so what is under that is refused by 4 already.)
 unfoldable pub fewPairs : ℕ → List ℕ → Bool
@@ -60,7 +72,12 @@ fewPairs m bytes = ltb (pairsOf m bytes) (leastPairs m (orderOf bytes))
 -- ---- the table
 abbrev pub refusals : ℕ → List ℕ → List (ℕ × Bool)
 refusals m bytes =
-    (3, not (present m)) ∷ ((4, badCount m bytes) ∷ ((5, badNumber bytes) ∷ ((6, badOrder m bytes) ∷ ((7, fewPairs m bytes) ∷ []))))
+    (3, not (present m))
+    ∷ ((4, badCount m bytes)
+    ∷ ((5, badNumber bytes)
+    ∷ ((6, badOrder m bytes)
+    ∷ ((7, fewPairs m bytes)
+    ∷ []))))
 
 unfoldable pub refusal : ℕ → List ℕ → ℕ
 refusal m bytes = firstOf (refusals m bytes)

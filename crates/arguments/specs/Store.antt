@@ -1,4 +1,5 @@
--- The argument store: 257 numbers, zero at first, filled from the caller's bytes, with the count beside them. Assumes nothing.
+-- The argument store: 257 numbers, zero at first, filled from the caller's bytes, with the count beside them.
+-- Specification 3.1. Assumes nothing.
 use Prim.Native.Nat.{ℕ, _/_, min}
 use mathlib.Core.Bool.{cond}
 use mathlib.Core.List.{List}

@@ -13,17 +13,24 @@ ghost use mathlib.Core.Path.{_≡_};
 ghost use Rattle.arguments.specs.Method as Method;
 ghost use Rattle.arguments.specs.Method.{present, leastPairs};
 
-// Whether a code is one of the ten methods that are here: 2, 8, 9 and 10 are absent, and 13 is the last.
+// The codes of the methods that are absent; that of `Polar` stands between the last two.
+const SCALE_ROTATE_TRANSLATE: u64 = 2;
+
+const ARC: u64 = 8;
+
+const DE_POLAR: u64 = 10;
+
+// Whether a code is one of the ten methods that are here. `Shepards` is the last.
 pub fn is_present(code: u64) -> bool
     ensures { λ r. ⌜ r ≡ present code ⌝ }
 {
-    if 13 < code {
+    if Shepards::CODE < code {
         return false;
     }
-    if code == 2 {
+    if code == SCALE_ROTATE_TRANSLATE {
         return false;
     }
-    code < 8 || 10 < code
+    code < ARC || DE_POLAR < code
 }
 
 // The least pairs, 0 where the method takes none, and for a code that is none.

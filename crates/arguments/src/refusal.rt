@@ -1,5 +1,5 @@
-// Refusals 3 to 7 of a method and its arguments: each test by itself, for every method code and every byte slice, then the
-// first number that applies. Assumes nothing.
+// Refusals 3 to 7 of a method and its arguments: each test by itself, for every method code and every byte slice, then
+// the first number that applies. Assumes nothing.
 use crate::code;
 use crate::method::AffineProjection;
 use crate::method::Barrel;
@@ -8,7 +8,7 @@ use crate::method::PerspectiveProjection;
 use crate::method::Polynomial;
 use crate::store;
 ghost use mathlib.Core.Path.{_≡_};
-ghost use Rattle.arguments.specs.Refusal.{badValues, badFor, badCount, badNumber, badOrder, pairsOf, fewPairs};
+ghost use Rattle.arguments.specs.Refusal.{badValues, badFor, badCount, badNumber, badOrder, pairsIn, fewPairs};
 ghost use Rattle.arguments.specs.Refusal as Refusal;
 
 const MOST_ARGUMENTS: usize = 257;
@@ -90,11 +90,10 @@ pub fn bad_order(method: u64, arguments: &[u8]) -> bool
     false
 }
 
-// How many pairs the arguments are.
-pub fn pairs_of(method: u64, arguments: &[u8]) -> u64
-    ensures { λ r. ⌜ r ≡ pairsOf method (now (arguments .entry)) ⌝ }
+// How many pairs n arguments are.
+pub fn pairs_in(method: u64, n: u64) -> u64
+    ensures { λ r. ⌜ r ≡ pairsIn method n ⌝ }
 {
-    let n = store::count_of(arguments) as u64;
     let skip = code::skip(method);
     if n < skip { 0 } else { (n - skip) / 4 }
 }
@@ -104,7 +103,8 @@ pub fn few_pairs(method: u64, arguments: &[u8]) -> bool
     ensures { λ r. ⌜ r ≡ fewPairs method (now (arguments .entry)) ⌝ }
 {
     let order = store::order_of(arguments);
-    pairs_of(method, arguments) < code::least_pairs(method, order)
+    let n = store::count_of(arguments) as u64;
+    pairs_in(method, n) < code::least_pairs(method, order)
 }
 
 // The first number from 3 to 7 that applies, 0 where none does.

@@ -1,5 +1,5 @@
-// The argument store: 257 numbers, zero at first, filled from the caller's bytes, with the count beside them. Arguments for
-// which it has no room are passed over; refusal 4 keeps such calls away. Assumes nothing.
+// The argument store: 257 numbers, zero at first, filled from the caller's bytes, with the count beside them. Arguments
+// for which it has no room are passed over; refusal 4 keeps such calls away. Assumes nothing.
 ghost use mathlib.Core.Path.{_≡_};
 ghost use Rattle.arguments.specs.Store.{countOf, heldOf, valuesOf, orderOf};
 

@@ -1,2 +1,5 @@
--- The laws of the band.
-pub mod StretchLaws
+-- The laws of pixels stored one after another, a file for each subject.
+pub mod JoinedLaws
+pub mod LengthLaws
+pub mod PixelLaws
+pub mod RowLaws

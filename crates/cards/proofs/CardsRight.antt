@@ -6,11 +6,11 @@ use lib.IntN.{pos, negsuc}
 use lib.Ieee.{add, sub, mul, div, neg, sum, round, ofBits, lt, le, ofInt, isNan}
 use Rattle.exact.specs.Loop.{turns, upTo}
 use Rattle.exact.specs.Table.{firstOf}
-use Rattle.endian.specs.Bytes.{numberAt, putNumber}
+use Rattle.endian.specs.Bytes.{numberAt, storeNumber}
 use Rattle.number.specs.Floor.{floorI64, floorF64, floorℤ, inDomain, isZero}
 use Rattle.number.specs.Magnitude as Magnitude
 use Rattle.number.specs.Narrow.{narrow}
-use Rattle.root.specs.Root as Root
+use Rattle.number.specs.Root as Root
 use Rattle.arguments.specs.Method as Method
 use Rattle.arguments.specs.Order as Order
 use Rattle.arguments.specs.Refusal as Arguments
@@ -18,30 +18,52 @@ use Rattle.arguments.specs.Store as Store
 use Rattle.fit.specs.Affine as Affine
 use Rattle.fit.specs.Barrel as Barrel
 use Rattle.inverse.specs.Barrel as Points
-use Rattle.build.specs.Build as Build
-use Rattle.matrix.specs.Invert as Invert
+use Rattle.fit.specs.Build as Build
+use Rattle.linear.specs.Invert as Invert
 use Rattle.mappings.specs.Mapping as Mappings
 use Rattle.mappings.specs.declared.mapping.Fitted.{Fitted}
 use Rattle.inverse.specs.Inverse as Inverse
 use Rattle.point.specs.Point as Point
-use Rattle.pixels.specs.At.{at}
+use Rattle.picture.specs.At.{at}
 use Rattle.cubic.specs.Cubic.{catrom, pieces}
 use Rattle.policies.specs.Index as Index
-use Rattle.blend.specs.Interpolate.{interpolate}
-use Rattle.cell.specs.Interpolation.{interpolation}
+use Rattle.sampler.specs.Interpolate.{interpolate}
+use Rattle.taps.specs.Interpolation.{interpolation}
 use Rattle.policies.specs.Named.{named, policy}
-use Rattle.pixels.specs.Pixel.{widened, pixelAt}
+use Rattle.picture.specs.Pixel.{widened, pixelAt}
 use Rattle.taps.specs.Taps.{taps}
-use Rattle.weighted.specs.Weighted.{weighted, mean, added, quotient}
+use Rattle.taps.specs.Weighted.{weighted, mean, added, quotient}
 use Rattle.policies.specs.declared.named.Tap.the-variants as Tap
-use Rattle.bestfit.specs.Bestfit as Bestfit
+use Rattle.window.specs.Bestfit as Bestfit
 use Rattle.window.specs.Ceil as Ceil
-use Rattle.bestfit.specs.Edges as Edges
-use Rattle.window.specs.Span as Span
+use Rattle.window.specs.Edges as Edges
+use Rattle.window.specs.Extent as Extent
 use Rattle.window.specs.Window as Window
 use Rattle.window.specs.declared.window.Placed.the-variants as Placed
 use Rattle.distort.specs.Refusal as Refusal
-use Rattle.cards.specs.Cards.{Named, Weights, Colour, Source, table, Right, Each, onColumn, onChecker, single, double, halfClear, grey, image, given, asked, singular, identity, ninePairs, f64s, barrelAt}
+use Rattle.cards.specs.Cards.{
+  Named,
+  Weights,
+  Colour,
+  Source,
+  table,
+  Right,
+  Each,
+  onColumn,
+  onChecker,
+  single,
+  double,
+  halfClear,
+  grey,
+  image,
+  given,
+  asked,
+  singular,
+  identity,
+  ninePairs,
+  f64s,
+  barrelAt,
+}
 use Rattle.cards.specs.Cards as Cards
 
 -- ---- the policies' indexes
@@ -86,31 +108,91 @@ catrom-0 : Weights (catrom (single 0)) ≡ Weights (single 0 ∷ single 0x3f80_0
 unfolding add sub mul div neg sum round ofBits lt le Magnitude.abs pieces
 catrom-0 = refl
 
-catrom-half : Weights (catrom (single 0x3f00_0000)) ≡ Weights (single 0xbd80_0000 ∷ single 0x3f10_0000 ∷ single 0x3f10_0000 ∷ single 0xbd80_0000 ∷ [])
+catrom-half : Weights (catrom (single 0x3f00_0000)) ≡ Weights (single 0xbd80_0000 ∷ single 0x3f10_0000
+    ∷ single 0x3f10_0000 ∷ single 0xbd80_0000 ∷ [])
 unfolding add sub mul div neg sum round ofBits lt le Magnitude.abs pieces
 catrom-half = refl
 
-half-clear : Colour (interpolate halfClear 2 1 4 0 5 (grey 0 0) (double 0x3fe0_0000_0000_0000) (double 0)) ≡ Colour (grey 0x3f80_0000 0x3f00_0000)
-unfolding interpolate interpolation at named policy Index.within Index.clamped pixelAt widened numberAt putNumber floorI64 floorF64 floorℤ inDomain isZero narrow taps weighted mean added quotient upTo turns add sub mul div neg sum round ofBits ofInt lt le Magnitude.abs
+half-clear : Colour (interpolate halfClear 2 1 4 0 5 (grey 0 0) (double 0x3fe0_0000_0000_0000) (double 0)) ≡ Colour
+    (grey 0x3f80_0000 0x3f00_0000)
+unfolding interpolate interpolation at named policy Index.within Index.clamped pixelAt widened numberAt storeNumber
+    floorI64 floorF64 floorℤ inDomain isZero narrow taps weighted mean added quotient upTo turns add sub mul div neg
+    sum round ofBits ofInt lt le Magnitude.abs
 half-clear = refl
 
 -- ---- the fit, the window and the source point
-singular-8 : Cards.Refusal (Refusal.refusal (asked (image 1 1 4) (given Method.affineProjection singular 0))) ≡ Cards.Refusal 8
-unfolding Refusal.refusal firstOf Refusal.badSize Refusal.badSide Refusal.badChannels Refusal.badStock Refusal.badCode Method.present Arguments.badCount Arguments.badFor Refusal.badNumber Arguments.badNumber Arguments.stillGood Arguments.goodNumber Refusal.large Arguments.badOrder Arguments.fewPairs Arguments.pairsOf Method.skip Method.leastPairs Refusal.degenerate Refusal.fitOf Build.build Build.made Arguments.refusal Store.valuesOf Store.keep Store.zeros Store.heldOf Store.orderOf Affine.affineProjection Invert.invertAffine Mappings.solvedOr8 Mappings.refused numberAt putNumber upTo turns add sub mul div neg sum round ofBits lt le Magnitude.abs Magnitude.within
+singular-8 : Cards.Refusal (Refusal.refusal (asked (image 1 1 4) (given Method.affineProjection singular 0))) ≡
+    Cards.Refusal 8
+unfolding Refusal.refusal firstOf Refusal.badSize Refusal.badSide Refusal.badChannels Refusal.badStock Refusal.badCode
+    Method.present Arguments.badCount Arguments.badFor Refusal.badNumber Arguments.badNumber Arguments.stillGood
+    Arguments.goodNumber Refusal.large Arguments.badOrder Arguments.fewPairs Arguments.pairsOf Method.skip
+    Method.leastPairs Refusal.degenerate Refusal.fitOf Build.build Build.made Arguments.refusal Store.valuesOf
+    Store.keep Store.zeros Store.heldOf Store.orderOf Affine.affineProjection Invert.invertAffine Mappings.solvedOr8
+    Mappings.refused numberAt storeNumber upTo turns add sub mul div neg sum round ofBits lt le Magnitude.abs
+    Magnitude.within
 singular-8 = refl
 
-identity-box : Cards.Window (Refusal.windowOf (image 4 3 48) (given Method.affineProjection identity 1)) ≡ Cards.Window (Placed.Window 6 5 (negsuc 0) (negsuc 0))
-unfolding Refusal.windowOf Refusal.fitOf Build.build Build.made Method.present Arguments.badCount Arguments.badFor Arguments.badNumber Arguments.stillGood Arguments.goodNumber Arguments.badOrder Arguments.fewPairs Arguments.pairsOf Method.skip Method.leastPairs Arguments.refusal firstOf Store.valuesOf Store.keep Store.zeros Store.heldOf Store.orderOf Affine.affineProjection Invert.invertAffine Mappings.solvedOr8 Mappings.mapping numberAt putNumber upTo turns add sub mul div neg sum round ofBits ofInt lt le Magnitude.abs Magnitude.within Magnitude.fmin Magnitude.fmax Window.window Window.judged Window.joined Bestfit.bestfit Bestfit.affineFound Edges.boxed Edges.grown Edges.unbounded Span.fitted Span.reach Span.held Span.atLeastOne Span.goodOffset Span.goodLength floorℤ Ceil.ceilℤ isNan
+identity-box : Cards.Window (Refusal.windowOf (image 4 3 48) (given Method.affineProjection identity 1)) ≡ Cards.Window
+    (Placed.Window 6 5 (negsuc 0) (negsuc 0))
+unfolding Refusal.windowOf Refusal.fitOf Build.build Build.made Method.present Arguments.badCount Arguments.badFor
+    Arguments.badNumber Arguments.stillGood Arguments.goodNumber Arguments.badOrder Arguments.fewPairs
+    Arguments.pairsOf Method.skip Method.leastPairs Arguments.refusal firstOf Store.valuesOf Store.keep Store.zeros
+    Store.heldOf Store.orderOf Affine.affineProjection Invert.invertAffine Mappings.solvedOr8 Mappings.mapping numberAt
+    storeNumber upTo turns add sub mul div neg sum round ofBits ofInt lt le Magnitude.abs Magnitude.within
+    Magnitude.fmin Magnitude.fmax Window.window Window.judged Window.joined Bestfit.bestfit Bestfit.affineFound
+    Edges.boxed Edges.grown Edges.unbounded Extent.fitted Extent.reach Extent.held Extent.atLeastOne Extent.goodOffset
+    Extent.goodLength floorℤ Ceil.ceilℤ isNan
 identity-box = refl
 
-barrel-stays : Source (barrelAt 0x3fe0_0000_0000_0000 0x3fe0_0000_0000_0000 (Build.build Method.barrel (f64s (0 ∷ 0 ∷ 0 ∷ [])) 4 4 .mapping)) ≡ Source (record { u = double 0x3fe0_0000_0000_0000; v = double 0x3fe0_0000_0000_0000; usable = true })
-unfolding Build.build Build.made Method.present Arguments.badCount Arguments.badFor Arguments.badNumber Arguments.stillGood Arguments.goodNumber Arguments.badOrder Arguments.fewPairs Arguments.pairsOf Method.skip Method.leastPairs Arguments.refusal firstOf Store.valuesOf Store.keep Store.zeros Store.heldOf Store.orderOf Barrel.barrel Barrel.givenOr Mappings.mapping numberAt putNumber upTo turns add sub mul div neg sum round ofBits ofInt lt le Magnitude.abs Magnitude.within Magnitude.fmin Inverse.inverse Points.barrelFrom Point.usable Root.root Root.rootOf Root.nearestRoot Root.wholeRoot isNan
+barrel-stays : Source (barrelAt 0x3fe0_0000_0000_0000 0x3fe0_0000_0000_0000
+    (Build.build Method.barrel (f64s (0 ∷ 0 ∷ 0 ∷ [])) 4 4 .mapping)) ≡ Source
+    (record { u = double 0x3fe0_0000_0000_0000; v = double 0x3fe0_0000_0000_0000; usable = true })
+unfolding Build.build Build.made Method.present Arguments.badCount Arguments.badFor Arguments.badNumber
+    Arguments.stillGood Arguments.goodNumber Arguments.badOrder Arguments.fewPairs Arguments.pairsOf Method.skip
+    Method.leastPairs Arguments.refusal firstOf Store.valuesOf Store.keep Store.zeros Store.heldOf Store.orderOf
+    Barrel.barrel Barrel.givenOr Mappings.mapping numberAt storeNumber upTo turns add sub mul div neg sum round ofBits
+    ofInt lt le Magnitude.abs Magnitude.within Magnitude.fmin Inverse.inverse Points.barrelFrom Point.usable Root.root
+    Root.rootOf Root.nearestRoot Root.wholeRoot isNan
 barrel-stays = refl
 
-nine-pairs-7 : Cards.Refusal (Refusal.refusal (asked (image 1 1 4) (given Method.polynomial ninePairs 0))) ≡ Cards.Refusal 7
-unfolding Refusal.refusal firstOf Refusal.badSize Refusal.badSide Refusal.badChannels Refusal.badStock Refusal.badCode Method.present Arguments.badCount Arguments.badFor Arguments.badValues Refusal.badNumber Arguments.badNumber Arguments.stillGood Arguments.goodNumber Refusal.large Arguments.badOrder Order.goodOrder Arguments.fewPairs Arguments.pairsOf Method.skip Method.leastPairs Order.termsOf Order.bilinearOrder Order.degree Store.orderOf numberAt putNumber upTo turns add sub mul div neg sum round ofBits lt le Magnitude.abs Magnitude.within
+nine-pairs-7 : Cards.Refusal (Refusal.refusal (asked (image 1 1 4) (given Method.polynomial ninePairs 0))) ≡
+    Cards.Refusal 7
+unfolding Refusal.refusal firstOf Refusal.badSize Refusal.badSide Refusal.badChannels Refusal.badStock Refusal.badCode
+    Method.present Arguments.badCount Arguments.badFor Arguments.badValues Refusal.badNumber Arguments.badNumber
+    Arguments.stillGood Arguments.goodNumber Refusal.large Arguments.badOrder Order.goodOrder Arguments.fewPairs
+    Arguments.pairsOf Method.skip Method.leastPairs Order.termsOf Order.bilinearOrder Order.degree Store.orderOf
+    numberAt storeNumber upTo turns add sub mul div neg sum round ofBits lt le Magnitude.abs Magnitude.within
 nine-pairs-7 = refl
 
 pub cards-right : Each Right table
-cards-right =
-    (mirror-1, (mirror-5, (mirror+4, (mirror+8, (tile-1, (tile+4, (checker-right, (checker-left, (checker-corner, (catrom-0, (catrom-half, (half-clear, (singular-8, (identity-box, (barrel-stays, (nine-pairs-7, tt))))))))))))))))
+cards-right = (
+  mirror-1,
+  (
+    mirror-5,
+    (
+      mirror+4,
+      (
+        mirror+8,
+        (
+          tile-1,
+          (
+            tile+4,
+            (
+              checker-right,
+              (
+                checker-left,
+                (
+                  checker-corner,
+                  (
+                    catrom-0,
+                    (catrom-half, (half-clear, (singular-8, (identity-box, (barrel-stays, (nine-pairs-7, tt)))))),
+                  ),
+                ),
+              ),
+            ),
+          ),
+        ),
+      ),
+    ),
+  ),
+)

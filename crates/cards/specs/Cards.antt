@@ -1,4 +1,6 @@
--- Document 01's trial cards that are proved, as rows of one table: what the definitions give, and what the card says. Assumes nothing.
+-- The trial cards that are proved (specification 12.2), as rows of one table: what the definitions give, and what the
+-- card says.
+-- Assumes nothing.
 use Prim.Native.Nat.{ℕ}
 use mathlib.Core.Path.{_≡_}
 use mathlib.Core.Bool.{true}
@@ -6,17 +8,17 @@ use mathlib.Core.List.{List, [], _∷_, _++_}
 use lib.IntN.{ℤ, pos, negsuc}
 use lib.ListN.{replicate}
 use lib.Ieee.{Float, binary32, binary64, ofBits}
-use Rattle.endian.specs.Bytes.{putU32, putU64}
+use Rattle.endian.specs.Bytes.{storeU32, storeU64}
 use Rattle.arguments.specs.Method as Method
-use Rattle.build.specs.Build.{build}
+use Rattle.fit.specs.Build.{build}
 use Rattle.mappings.specs.declared.mapping.Fitted.{Fitted}
 use Rattle.mappings.specs.declared.mapping.Mapping.{Mapping}
 use Rattle.inverse.specs.Inverse.{inverse}
 use Rattle.point.specs.declared.point.Point.{Point}
 use Rattle.cubic.specs.Cubic.{catrom}
-use Rattle.blend.specs.Interpolate.{interpolate}
+use Rattle.sampler.specs.Interpolate.{interpolate}
 use Rattle.policies.specs.Named.{named}
-use Rattle.pixels.specs.declared.colour.Rgba.{Rgba}
+use Rattle.picture.specs.declared.colour.Rgba.{Rgba}
 use Rattle.policies.specs.declared.named.Tap.{Tap}
 use Rattle.policies.specs.declared.named.Tap.the-variants as Tap
 use Rattle.window.specs.declared.window.Placed.{Placed}
@@ -36,11 +38,11 @@ pub data Shown : Type 0 where
 -- ---- bytes and floats by their bits
 abbrev pub f64s : List ℕ → List ℕ
 f64s [] = []
-f64s (b ∷ bs) = putU64 (replicate 8 0) 0 b ++ f64s bs
+f64s (b ∷ bs) = storeU64 (replicate 8 0) 0 b ++ f64s bs
 
 abbrev pub f32s : List ℕ → List ℕ
 f32s [] = []
-f32s (b ∷ bs) = putU32 (replicate 4 0) 0 b ++ f32s bs
+f32s (b ∷ bs) = storeU32 (replicate 4 0) 0 b ++ f32s bs
 
 abbrev pub double : ℕ → Float
 double = ofBits binary64
@@ -121,15 +123,29 @@ table =
     ∷ ((onChecker (pos 2) (pos 2), Named (Tap.Pixel 0 0))
     -- `Catrom` at 0: 0, 1, 0, 0; at 0.5: -0.0625, 0.5625, 0.5625, -0.0625
     ∷ ((Weights (catrom (single 0)), Weights (single 0 ∷ single 0x3f80_0000 ∷ single 0 ∷ single 0 ∷ []))
-    ∷ ((Weights (catrom (single 0x3f00_0000)), Weights (single 0xbd80_0000 ∷ single 0x3f10_0000 ∷ single 0x3f10_0000 ∷ single 0xbd80_0000 ∷ []))
+    ∷ ((
+      Weights (catrom (single 0x3f00_0000)),
+      Weights (single 0xbd80_0000 ∷ single 0x3f10_0000 ∷ single 0x3f10_0000
+          ∷ single 0xbd80_0000 ∷ []),
+    )
     -- halfway between opaque 1 and a clear pixel: colour 1, alpha 0.5
-    ∷ ((Colour (interpolate halfClear 2 1 4 0 5 (grey 0 0) (double 0x3fe0_0000_0000_0000) (double 0)), Colour (grey 0x3f80_0000 0x3f00_0000))
+    ∷ ((
+      Colour (interpolate halfClear 2 1 4 0 5 (grey 0 0) (double 0x3fe0_0000_0000_0000) (double 0)),
+      Colour (grey 0x3f80_0000 0x3f00_0000),
+    )
     -- `AffineProjection` 1, 2, 2, 4, 0, 0: refusal 8
     ∷ ((Refusal (refusal (asked (image 1 1 4) (given Method.affineProjection singular 0))), Refusal 8)
     -- identity bestfit on 4 by 3: 6 by 5 at -1, -1
-    ∷ ((Window (windowOf (image 4 3 48) (given Method.affineProjection identity 1)), Window (Placed.Window 6 5 (negsuc 0) (negsuc 0)))
+    ∷ ((
+      Window (windowOf (image 4 3 48) (given Method.affineProjection identity 1)),
+      Window (Placed.Window 6 5 (negsuc 0) (negsuc 0)),
+    )
     -- `Barrel` 0, 0, 0 on 4 by 4 at 0.5, 0.5: itself
-    ∷ ((Source (barrelAt 0x3fe0_0000_0000_0000 0x3fe0_0000_0000_0000 (build Method.barrel (f64s (0 ∷ 0 ∷ 0 ∷ [])) 4 4 .mapping)), Source (record { u = double 0x3fe0_0000_0000_0000; v = double 0x3fe0_0000_0000_0000; usable = true }))
+    ∷ ((
+      Source (barrelAt 0x3fe0_0000_0000_0000 0x3fe0_0000_0000_0000
+          (build Method.barrel (f64s (0 ∷ 0 ∷ 0 ∷ [])) 4 4 .mapping)),
+      Source (record { u = double 0x3fe0_0000_0000_0000; v = double 0x3fe0_0000_0000_0000; usable = true }),
+    )
     -- order 2.5 with 9 pairs: refusal 7
     ∷ ((Refusal (refusal (asked (image 1 1 4) (given Method.polynomial ninePairs 0))), Refusal 7)
     ∷ [])))))))))))))))

@@ -1,17 +1,25 @@
-// Runs trial cards through the distort call and prints how many came out right: the limits of refusals 1, 4 and 5 on both sides, and those cards of the proved
-// table that are calls. Each asks for no rows of a grey picture of zeros, under `Edge` and `Nearest`.
+// A program that tests/cards runs: it runs trial cards through the distort call (specification 12.2) and prints how
+// many came out right: the limits of refusals 1, 4 and 5 on both sides, and those cards of the proved table that are
+// calls. Each asks for no rows of a grey picture of zeros, under `Edge` and `Nearest`.
 ghost use mathlib.Core.Path.{_≡_};
 ghost use mathlib.Core.List.{[]};
 ghost use Prim.Native.Nat.{_≤_};
 ghost use lib.IntN.{pos};
-ghost use Rattle.distort.specs.Call.{answer, numberOf, putAnswer};
+ghost use Rattle.distort.specs.Call.{answer, numberOf, storeAnswer};
 ghost use Rattle.distort.specs.Job.{callOf};
 ghost use Rattle.cards.specs.Cards.{opaqueBlack};
-use distort::answer::put_answer;
+use band::rows::Rows;
+use distort::answer::store_answer;
 use distort::call::distort;
-use endian::bytes::put_u64;
+use distort::job::Job;
+use distort::job::yes;
+use endian::bytes::store_u64;
 use endian::bytes::u64_at;
 use libc::STDOUT_FILENO;
+use picture::shape::Shape;
+use policies::policy::EDGE;
+use taps::interpolation::NEAREST;
+use window::view::View;
 
 const AFFINE_PROJECTION: u64 = 1;
 
@@ -38,39 +46,45 @@ fn ask(
     out: &mut [u8; 48],
 ) -> u64
     ensures { λ r.
-        ⌜ (r ≡ numberOf (answer (callOf (now (picture .entry)) width height 1 method (now (arguments .entry)) 0 1 opaqueBlack opaqueBlack bestfit 0 0 0 (pos 0) (pos 0) 0 0 []))) × (now (out .exit) ≡ putAnswer (answer (callOf (now (picture .entry)) width height 1 method (now (arguments .entry)) 0 1 opaqueBlack opaqueBlack bestfit 0 0 0 (pos 0) (pos 0) 0 0 [])) (now (out .entry))) ⌝ }
+        ⌜ (r ≡ numberOf (answer (callOf (now (picture .entry)) width height 1 method (now (arguments .entry)) 0 1
+        opaqueBlack opaqueBlack bestfit 0 0 0 (pos 0) (pos 0) 0 0 [])))
+        × (now (out .exit) ≡ storeAnswer
+        (answer (callOf (now (picture .entry)) width height 1 method (now (arguments .entry)) 0 1 opaqueBlack
+        opaqueBlack bestfit 0 0 0 (pos 0) (pos 0) 0 0 [])) (now (out .entry))) ⌝ }
 {
     let mut band = [0u8; 0];
-    let answered = distort(
-        picture,
+    let shape = Shape {
         width,
         height,
-        1,
+        channels: 1,
+    };
+    let view = View {
+        bestfit: yes(bestfit),
+        given: false,
+        width: 0,
+        height: 0,
+        x: 0,
+        y: 0,
+    };
+    let rows = Rows { first: 0, count: 0 };
+    let job = Job {
+        shape,
         method,
-        arguments,
-        0,
-        1,
-        &BLACK,
-        &BLACK,
-        bestfit,
-        0,
-        0,
-        0,
-        0,
-        0,
-        0,
-        0,
-        &mut band,
-    );
-    put_answer(answered, out)
+        policy: EDGE,
+        interpolation: NEAREST,
+        view,
+        rows,
+    };
+    let answered = distort(picture, arguments, &BLACK, &BLACK, job, &mut band);
+    store_answer(answered, out)
 }
 
 // The arguments 1, 0, 0, 1, 0, last by their bits, into the first 48 bytes.
 fn projection(last: u64) -> [u8; 48] {
     let mut bytes = [0u8; 48];
-    put_u64(&mut bytes, 0, ONE);
-    put_u64(&mut bytes, 24, ONE);
-    put_u64(&mut bytes, 40, last);
+    store_u64(&mut bytes, 0, ONE);
+    store_u64(&mut bytes, 24, ONE);
+    store_u64(&mut bytes, 40, last);
     bytes
 }
 
@@ -127,10 +141,10 @@ fn singular_card() -> bool {
     let picture = [0u8; 4];
     let mut out = [0u8; 48];
     let mut arguments = [0u8; 48];
-    put_u64(&mut arguments, 0, ONE);
-    put_u64(&mut arguments, 8, 0x4000_0000_0000_0000);
-    put_u64(&mut arguments, 16, 0x4000_0000_0000_0000);
-    put_u64(&mut arguments, 24, 0x4010_0000_0000_0000);
+    store_u64(&mut arguments, 0, ONE);
+    store_u64(&mut arguments, 8, 0x4000_0000_0000_0000);
+    store_u64(&mut arguments, 16, 0x4000_0000_0000_0000);
+    store_u64(&mut arguments, 24, 0x4010_0000_0000_0000);
     ask(&picture, 1, 1, AFFINE_PROJECTION, &arguments, 0, &mut out) == 8
 }
 
@@ -139,7 +153,7 @@ fn order_card() -> bool {
     let picture = [0u8; 4];
     let mut out = [0u8; 48];
     let mut arguments = [0u8; 296];
-    put_u64(&mut arguments, 0, 0x4004_0000_0000_0000);
+    store_u64(&mut arguments, 0, 0x4004_0000_0000_0000);
     ask(&picture, 1, 1, POLYNOMIAL, &arguments, 0, &mut out) == 7
 }
 

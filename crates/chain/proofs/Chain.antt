@@ -1,6 +1,7 @@
--- The third demand, by induction over the list of calls: whatever comes, the calls that wait are accepted ones, and the chain's picture is faithful to the exact chain of the
--- warps found so far. A refused call changes nothing; a call that waits changes no picture; a warp, whole or joined, is one faithful picture more.
--- Provides: `each-last`, `exact-last` (of one warp more); `third-demand`, `no-warps`. Assumes nothing.
+-- The third demand, by induction over the list of calls: whatever comes, the calls that wait are accepted ones, and the
+-- chain's picture is faithful to the exact chain of the warps found so far. A refused call changes nothing; a call that
+-- waits changes no picture; a warp, whole or joined, is one faithful picture more. Provides: `each-last`, `exact-last`
+-- (of one warp more); `third-demand`, `no-warps`. Assumes nothing.
 use mathlib.Core.Path.{_≡_, refl, sym, ap, _∙_, subst, subst₂}
 use mathlib.Core.Bool.{Bool, true, false, not, cond}
 use mathlib.Core.List.{List, [], _∷_, _++_}
@@ -17,7 +18,23 @@ use Rattle.distort.proofs.AcceptedLaws.{accepted-call}
 use Rattle.distort.proofs.CallLaws.{answer-accepted, left-accepted}
 use Rattle.chain.specs.Demand.{First, Conditions, Lent, Each, ThirdDemand, NoWarps}
 use Rattle.chain.specs.Exact.{ExactImage, exactly, exactWarp, exactChain}
-use Rattle.chain.specs.Warps.{heightIn, pictured, accepted, allRows, together, Warp, State, start, group, completes, warped, waits, step, run, after}
+use Rattle.chain.specs.Warps.{
+  heightIn,
+  pictured,
+  accepted,
+  allRows,
+  together,
+  Warp,
+  State,
+  start,
+  group,
+  completes,
+  warped,
+  waits,
+  step,
+  run,
+  after,
+}
 use Rattle.chain.proofs.Faithful.{Faithful, first-faithful}
 use Rattle.chain.proofs.JoinLaws.{Every, every-append, IsAccepted, together-is}
 use Rattle.chain.proofs.SameLaws.{both-hold}
@@ -28,7 +45,8 @@ pub each-last : (P : Warp → Type 0) (ws : List Warp) (w : Warp) → Each P (ws
 each-last P [] w h = (tt, h .0)
 each-last P (v ∷ ws) w h = let r = each-last P ws w (h .1) in ((h .0, r .0), r .1)
 
-pub exact-last : (q : ExactImage) (ws : List Warp) (w : Warp) → exactChain q (ws ++ (w ∷ [])) ≡ exactWarp (exactChain q ws) (w .given) (w .answered)
+pub exact-last : (q : ExactImage) (ws : List Warp) (w : Warp)
+    → exactChain q (ws ++ (w ∷ [])) ≡ exactWarp (exactChain q ws) (w .given) (w .answered)
 unfolding exactChain
 exact-last q [] w = refl
 exact-last q (v ∷ ws) w = exact-last (exactWarp q (v .given) (v .answered)) ws w
@@ -42,7 +60,8 @@ never-none ws w e = absurd (go (length ws) (sym (length-append ws (w ∷ [])) �
 module _ (first : Image) where
   record Sound (s : State) : Type 0 where
     waiting : Every IsAccepted (s .waiting)
-    faithful : First first → Each Lent (s .warps) → Each Conditions (s .warps) → Faithful (s .image) (exactChain (exactly first) (s .warps)) (length (s .warps))
+    faithful : First first → Each Lent (s .warps) → Each Conditions (s .warps)
+        → Faithful (s .image) (exactChain (exactly first) (s .warps)) (length (s .warps))
     none : s .warps ≡ [] → s .image ≡ first
 
   -- ---- one warp more
@@ -63,28 +82,45 @@ module _ (first : Image) where
       none = λ z. absurd (never-none (s .warps) made z);
     }
       where
-        go : First first → (Each Lent (s .warps) × Lent made) → (Each Conditions (s .warps) × Conditions made) → Faithful (pictured (answer c) bytes) (exactChain (exactly first) (s .warps ++ (made ∷ []))) (length (s .warps ++ (made ∷ [])))
+        go : First first → (Each Lent (s .warps) × Lent made) → (Each Conditions (s .warps) × Conditions made)
+            → Faithful (pictured (answer c) bytes) (exactChain (exactly first) (s .warps ++ (made ∷ [])))
+            (length (s .warps ++ (made ∷ [])))
         go G L C =
             let Q : ExactImage = exactChain (exactly first) (s .warps) in
-            let F : Faithful (c .image) Q (length (s .warps)) = subst (λ (p : Image). Faithful p Q (length (s .warps))) (sym (L .1)) (S .faithful G (L .0) (C .0)) in
-            let K : Conditions (warpOf (c .image) (c .given) count) = subst₂ (λ (a : Answer) (p : Image). Conditions (record { given = c .given; answered = a; lent = c .image; chain = p })) (answer-accepted c e) (sym (L .1)) (C .1) in
-            let R : Faithful (pictured (answer c) bytes) (exactWarp Q (c .given) (answer c)) (length (s .warps) + 1) = subst₂ (λ (a : Answer) (b : List ℕ). Faithful (pictured a b) (exactWarp Q (c .given) a) (length (s .warps) + 1)) (sym (answer-accepted c e)) (sym is) (warp-faithful (c .image) (c .given) count (accepted-call c e .job) K Q (length (s .warps)) F) in
-            subst₂ (λ (q : ExactImage) (n : ℕ). Faithful (pictured (answer c) bytes) q n) (sym (exact-last (exactly first) (s .warps) made)) (sym (length-append (s .warps) (made ∷ []))) R
+            let F : Faithful (c .image) Q (length (s .warps)) =
+            subst (λ (p : Image). Faithful p Q (length (s .warps))) (sym (L .1)) (S .faithful G (L .0) (C .0)) in
+            let K : Conditions (warpOf (c .image) (c .given) count) =
+            subst₂ (λ (a : Answer) (p : Image).
+            Conditions (record { given = c .given; answered = a; lent = c .image; chain = p }))
+            (answer-accepted c e) (sym (L .1)) (C .1) in
+            let R : Faithful (pictured (answer c) bytes) (exactWarp Q (c .given) (answer c)) (length (s .warps) + 1) =
+            subst₂ (λ (a : Answer) (b : List ℕ). Faithful (pictured a b) (exactWarp Q (c .given) a)
+            (length (s .warps) + 1)) (sym (answer-accepted c e)) (sym is)
+            (warp-faithful (c .image) (c .given) count (accepted-call c e .job) K Q (length (s .warps)) F) in
+            subst₂ (λ (q : ExactImage) (n : ℕ). Faithful (pictured (answer c) bytes) q n)
+            (sym (exact-last (exactly first) (s .warps) made)) (sym (length-append (s .warps) (made ∷ []))) R
 
     all-rows : allRows c ≡ true → left c ≡ whole
     unfolding allRows
     all-rows h =
         let b = both-hold (eqb (c .first) 0) (eqb (c .rows) (heightIn (answer c))) h in
         left-accepted c e
-        ∙ (λ i. rowsOf (c .image) (c .given) (eqb-true (c .first) 0 (b .0) i) ((eqb-true (c .rows) (heightIn (answer c)) (b .1) ∙ ap heightIn (answer-accepted c e)) i))
+        ∙ (λ i. rowsOf (c .image) (c .given) (eqb-true (c .first) 0 (b .0) i)
+        ((eqb-true (c .rows) (heightIn (answer c)) (b .1) ∙ ap heightIn (answer-accepted c e)) i))
 
     waits-sound : Sound (waits s c)
-    waits-sound = record { waiting = every-append IsAccepted (s .waiting) (c ∷ []) (S .waiting) (e, tt); faithful = S .faithful; none = S .none }
+    waits-sound = record {
+      waiting = every-append IsAccepted (s .waiting) (c ∷ []) (S .waiting) (e, tt);
+      faithful = S .faithful;
+      none = S .none;
+    }
 
-    taken-sound : Sound (cond (allRows c) (warped s c (left c)) (cond (completes s c) (warped s c (together (answer c) (group s c))) (waits s c)))
+    taken-sound : Sound (cond (allRows c) (warped s c (left c))
+        (cond (completes s c) (warped s c (together (answer c) (group s c))) (waits s c)))
     taken-sound = go (allRows c) refl (completes s c) refl
       where
-        go : (t : Bool) → allRows c ≡ t → (u : Bool) → completes s c ≡ u → Sound (cond t (warped s c (left c)) (cond u (warped s c (together (answer c) (group s c))) (waits s c)))
+        go : (t : Bool) → allRows c ≡ t → (u : Bool) → completes s c ≡ u
+            → Sound (cond t (warped s c (left c)) (cond u (warped s c (together (answer c) (group s c))) (waits s c)))
         go true f u h = warped-sound (left c) (all-rows f)
         go false f true h = warped-sound (together (answer c) (group s c)) (together-is s c e (S .waiting) h)
         go false f false h = waits-sound
@@ -94,7 +130,9 @@ module _ (first : Image) where
   unfolding step accepted
   step-sound s c S = go (eqb (refusal c) 0) refl
     where
-      go : (t : Bool) → eqb (refusal c) 0 ≡ t → Sound (cond (not t) s (cond (allRows c) (warped s c (left c)) (cond (completes s c) (warped s c (together (answer c) (group s c))) (waits s c))))
+      go : (t : Bool) → eqb (refusal c) 0 ≡ t
+          → Sound (cond (not t) s (cond (allRows c) (warped s c (left c))
+          (cond (completes s c) (warped s c (together (answer c) (group s c))) (waits s c))))
       go true e = taken-sound s c S (eqb-true (refusal c) 0 e)
       go false e = S
 

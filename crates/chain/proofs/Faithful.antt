@@ -1,5 +1,6 @@
--- What an induction over the warps carries: beside the claim, that the exact picture's own samples are from 0 to 1 and its alphas 1, so that the law of one warp applies again.
--- Provides: `Faithful`; `first-faithful` (a first picture and its own fractions, no warp made); `held-unit`, `opaque-picture` (in the sampler's words). Assumes nothing.
+-- What an induction over the warps carries: beside the claim, that the exact picture's own samples are from 0 to 1 and
+-- its alphas 1, so that the law of one warp applies again. Provides: `Faithful`; `first-faithful` (a first picture and
+-- its own fractions, no warp made); `held-unit`, `opaque-picture` (in the sampler's words). Assumes nothing.
 use mathlib.Core.Path.{_≡_, refl, sym, ap, _∙_, subst}
 use mathlib.Core.Logic.{_⊎_}
 use mathlib.Core.List.{List}
@@ -14,9 +15,9 @@ use Rattle.exact.proofs.Near.{within-same}
 use Rattle.exact.proofs.Products.{eq-refl}
 use Rattle.exact.proofs.Samples.{one-value}
 use Rattle.endian.specs.Bytes.{sampleAt, u32At}
-use Rattle.pixels.specs.Colour.{one}
+use Rattle.picture.specs.Colour.{one}
 use Rattle.sampler.specs.Opaque.{OpaquePicture}
-use Rattle.pixels.specs.Pixel.{Picture}
+use Rattle.picture.specs.Pixel.{Picture}
 use Rattle.distort.specs.Job.{Image}
 use Rattle.chain.specs.Demand.{InUnit, First, Near, sampleOf}
 use Rattle.chain.specs.Exact.{ExactImage, place, exactly}
@@ -37,11 +38,13 @@ opaque-value x e = subst (λ (z : Float). value z ≈ frac 1 1) (sym e) one-valu
 
 module _ (p : Image) (F : First p) where
   sample-in : (i j k : ℕ) → i < p .width → j < p .height → k < p .channels → InUnit (sampleOf p i j k)
-  sample-in i j k hi hj hk = F .samples (place (p .width) (p .channels) i j k) (place-lt (p .width) (p .height) (p .channels) i j k hi hj hk)
+  sample-in i j k hi hj hk =
+      F .samples (place (p .width) (p .channels) i j k) (place-lt (p .width) (p .height) (p .channels) i j k hi hj hk)
 
   alpha-in : p .channels ≡ 4 → (i j : ℕ) → i < p .width → j < p .height → sampleOf p i j 3 ≡ one
   alpha-in e i j hi hj =
-      ap (λ (c : ℕ). sampleAt (p .bytes) ((j * p .width + i) * c + 3)) e ∙ F .alphas e (j * p .width + i) (pixel-lt (p .width) (p .height) i j hi hj)
+      ap (λ (c : ℕ). sampleAt (p .bytes) ((j * p .width + i) * c + 3)) e
+      ∙ F .alphas e (j * p .width + i) (pixel-lt (p .width) (p .height) i j hi hj)
 
   pub first-faithful : Faithful p (exactly p) 0
   first-faithful = record {
@@ -52,7 +55,8 @@ module _ (p : Image) (F : First p) where
       whole = F .whole;
       samples = λ (i j k : ℕ) hi hj hk. record {
         is = sample-in i j k hi hj hk;
-        near = within-same (value (sampleOf p i j k)) (value (sampleOf p i j k)) (frac 0 524288) (eq-refl (value (sampleOf p i j k))) (error-nonneg 0);
+        near = within-same (value (sampleOf p i j k)) (value (sampleOf p i j k)) (frac 0 524288)
+            (eq-refl (value (sampleOf p i j k))) (error-nonneg 0);
       };
       alphas = alpha-in;
     };
@@ -65,7 +69,8 @@ module _ (p : Image) (F : First p) where
 pub held-unit : (bytes : List ℕ) (k : ℕ) → InUnit (sampleAt bytes k) → Unit32 (sampleAt bytes k)
 held-unit bytes k u = record { number = u .number; held = ofBits-fits binary32 (u32At bytes (4 * k)); unit = u .unit }
 
-module _ (p : Image) (q : ExactImage) (n : ℕ) (F : Faithful p q n) (P : Picture (p .bytes) (p .width) (p .height) (p .channels)) where
+module _ (p : Image) (q : ExactImage) (n : ℕ) (F : Faithful p q n)
+    (P : Picture (p .bytes) (p .width) (p .height) (p .channels)) where
   abbrev w : ℕ
   w = p .width
 
@@ -82,7 +87,8 @@ module _ (p : Image) (q : ExactImage) (n : ℕ) (F : Faithful p q n) (P : Pictur
     samples = λ (m : ℕ) l.
         held-unit (p .bytes) m
         (subst (λ (k : ℕ). InUnit (sampleAt (p .bytes) k)) (placed w c m)
-        (F .near .samples (m / c % w) (m / c / w) (m % c) (column-lt w c m (P .sizes .wide)) (row-lt w c m h (P .sizes .wide) (P .channels-least) l) (channel-lt w c m (P .channels-least)) .is));
+        (F .near .samples (m / c % w) (m / c / w) (m % c) (column-lt w c m (P .sizes .wide))
+        (row-lt w c m h (P .sizes .wide) (P .channels-least) l) (channel-lt w c m (P .channels-least)) .is));
     alphas = λ e (m : ℕ) l. alpha-at m e l;
   }
     where
@@ -90,4 +96,5 @@ module _ (p : Image) (q : ExactImage) (n : ℕ) (F : Faithful p q n) (P : Pictur
       alpha-at m e l =
           ap (λ (k : ℕ). sampleAt (p .bytes) (m * k + 3)) (sym e)
           ∙ ap (λ (k : ℕ). sampleAt (p .bytes) (k * c + 3)) (sym (div-add-mod' m w))
-          ∙ F .near .alphas e (m % w) (m / w) (mod-lt m (P .sizes .wide)) (div-lt-iff-lt-mul (P .sizes .wide) .1 (omega arith))
+          ∙ F .near .alphas e (m % w) (m / w) (mod-lt m (P .sizes .wide))
+          (div-lt-iff-lt-mul (P .sizes .wide) .1 (omega arith))

@@ -1,5 +1,6 @@
--- Where the chain's picture lies whole, its bytes are read: at first by the premise, and every event that keeps the words on sharing keeps it so. A whole warp has just
--- written them there; any other call writes apart from them, or nothing. Assumes nothing.
+-- Where the chain's picture lies whole, its bytes are read: at first by the premise, and every event that keeps the
+-- words on sharing keeps it so. A whole warp has just written them there; any other call writes apart from them, or
+-- nothing. Assumes nothing.
 use mathlib.Core.Path.{_≡_, sym, _∙_, subst, subst₂}
 use mathlib.Core.Bool.{true, false}
 use mathlib.Core.List.{List, [], _∷_}
@@ -9,7 +10,24 @@ use lib.ListN.{length}
 use Rattle.distort.specs.Call.{left}
 use Rattle.distort.specs.Job.{Image, Call}
 use Rattle.chain.specs.Warps.{State, accepted, waits, warped, step}
-use Rattle.chain.specs.Memory.{Memory, read, written, Asked, callIn, Event, Calls, Writes, Lies, Home, Nowhere, At, World, homeAfter, happens, lived}
+use Rattle.chain.specs.Memory.{
+  Memory,
+  read,
+  written,
+  Asked,
+  callIn,
+  Event,
+  Calls,
+  Writes,
+  Lies,
+  Home,
+  Nowhere,
+  At,
+  World,
+  homeAfter,
+  happens,
+  lived,
+}
 use Rattle.chain.specs.Memory.{size, InBuffer, KeptCall, Kept, AllKept, born}
 use Rattle.chain.proofs.LengthLaws.{keeps-length}
 use Rattle.chain.proofs.ReadLaws.{read-length, read-same, read-back, read-apart}
@@ -24,11 +42,13 @@ abbrev pub AtHome : World → Type 0
 AtHome w = Holds (w .memory) (w .chain) (w .home)
 
 -- what is kept of each address of the buffer, at an address
-in-buffer : (w : World) (P : ℕ → Type 0) (from : ℕ) → w .home ≡ At from → InBuffer w (w .home) P → (a : ℕ) → from ≤ a → a < from + size w → P a
+in-buffer : (w : World) (P : ℕ → Type 0) (from : ℕ) → w .home ≡ At from → InBuffer w (w .home) P → (a : ℕ) → from ≤ a
+    → a < from + size w → P a
 in-buffer w P from e h = subst (λ (home : Home). InBuffer w home P) e h
 
 -- the same bytes there, the same picture
-still : (w : World) (m : Memory) → ((from : ℕ) → w .home ≡ At from → (a : ℕ) → from ≤ a → a < from + size w → m a ≡ w .memory a)
+still : (w : World) (m : Memory)
+    → ((from : ℕ) → w .home ≡ At from → (a : ℕ) → from ≤ a → a < from + size w → m a ≡ w .memory a)
     → AtHome w → Holds m (w .chain) (w .home)
 still w m same home from e = read-same m (w .memory) from (size w) (same from e) ∙ home from e
 
@@ -45,7 +65,8 @@ module _ (w : World) (a : Asked) (kept : KeptCall w a) (home : AtHome w) where
 
   made : {t : State} {to : ℕ → Home → Home} → Makes (w .chain) c t to → Holds after t (to (a .band) (w .home))
       → Holds after (step (w .chain) c) (homeAfter (w .chain) c (a .band) (w .home))
-  made k h = subst₂ (λ (s : State) (at : Home). Holds after s at) (sym (k .chain)) (sym (k .place (a .band) (w .home))) h
+  made k h = subst₂ (λ (s : State) (at : Home). Holds after s at) (sym (k .chain)) (sym (k .place (a .band) (w .home)))
+      h
 
   -- refused: no byte is changed
   nothing : accepted c ≡ false → Holds after (w .chain) (w .home)
@@ -54,14 +75,16 @@ module _ (w : World) (a : Asked) (kept : KeptCall w a) (home : AtHome w) where
 
   -- a whole warp's picture has just been written
   fresh : Holds after (warped (w .chain) c (left c)) (At (a .band))
-  fresh from e = subst (λ (at : ℕ). read after at (length (left c)) ≡ left c) (cc) (read-back (w .memory) (a .band) (left c))
+  fresh from e = subst (λ (at : ℕ). read after at (length (left c)) ≡ left c) (cc)
+      (read-back (w .memory) (a .band) (left c))
 
   -- an accepted call's band is apart
   apart : accepted c ≡ true → Holds after (waits (w .chain) c) (w .home)
   apart e from q =
       let long : length (left c) ≡ a .bandLength = keeps-length c ∙ read-length (w .memory) (a .band) (a .bandLength) in
       read-apart (w .memory) (a .band) (left c) from (size w)
-      (λ b l u k v. in-buffer w (λ (b : ℕ). a .band ≤ b → b < a .band + a .bandLength → ⊥) from q (kept .apart e) b l u k (omega arith))
+      (λ b l u k v. in-buffer w (λ (b : ℕ). a .band ≤ b → b < a .band + a .bandLength → ⊥) from q (kept .apart e) b l u
+      k (omega arith))
       ∙ home from q
 
   call-home : AtHome (happens w (Calls a))
@@ -79,8 +102,10 @@ pub kept-home : (w : World) (e : Event) → Kept w e → AtHome w → AtHome (ha
 unfolding happens
 kept-home w (Calls a) kept home = call-home w a kept home
 kept-home w (Writes from bytes) kept home =
-    still w (written (w .memory) from bytes) (λ at q. in-buffer w (λ (b : ℕ). written (w .memory) from bytes b ≡ w .memory b) at q kept) home
-kept-home w (Lies from) kept home = λ at q. subst (λ (k : ℕ). read (w .memory) k (size w) ≡ w .chain .image .bytes) (cc) kept
+    still w (written (w .memory) from bytes)
+    (λ at q. in-buffer w (λ (b : ℕ). written (w .memory) from bytes b ≡ w .memory b) at q kept) home
+kept-home w (Lies from) kept home =
+    λ at q. subst (λ (k : ℕ). read (w .memory) k (size w) ≡ w .chain .image .bytes) (cc) kept
 
 pub all-home : (w : World) (events : List Event) → AllKept w events → AtHome w → AtHome (lived w events)
 unfolding AllKept lived
@@ -88,5 +113,6 @@ all-home w [] kept home = home
 all-home w (e ∷ es) kept home = all-home (happens w e) es (kept .1) (kept-home w e (kept .0) home)
 
 -- ---- at first
-pub born-home : (m : Memory) (first : Image) (from : ℕ) → read m from (length (first .bytes)) ≡ first .bytes → AtHome (born m first from)
+pub born-home : (m : Memory) (first : Image) (from : ℕ) → read m from (length (first .bytes)) ≡ first .bytes
+    → AtHome (born m first from)
 born-home m first from e at q = subst (λ (k : ℕ). read m k (length (first .bytes)) ≡ first .bytes) (cc) e

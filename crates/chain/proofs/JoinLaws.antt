@@ -1,6 +1,6 @@
--- Calls for fewer rows that complete a warp leave, put together, what that warp leaves. Those that are alike to the last of them ask of one job; each that is accepted
--- holds rows of that job's warp, and every row is held by one of them.
--- Provides: `Every`, `every-append`, `IsAccepted`; `together-is`. Assumes nothing.
+-- Calls for fewer rows that complete a warp leave, put together, what that warp leaves. Those that are alike to the
+-- last of them ask of one job; each that is accepted holds rows of that job's warp, and every row is held by one of
+-- them. Provides: `Every`, `every-append`, `IsAccepted`; `together-is`. Assumes nothing.
 use mathlib.Core.Path.{_≡_, refl, sym, ap, _∙_, subst}
 use mathlib.Core.Bool.{Bool, true, false, false≢true, cond, _&&_, _||_}
 use mathlib.Core.List.{List, [], _∷_, _++_}
@@ -11,17 +11,31 @@ use lib.Dec.{leb, ltb}
 use lib.ListN.{take, drop}
 use borrow.Author.Tests.{leb-true, leb-false, ltb-true}
 use Rattle.exact.specs.Loop.{turns, upTo}
-use Rattle.put.specs.Band.{rowBytes, rowsBytes}
+use Rattle.band.specs.Band.{rowBytes, rowsBytes}
 use Rattle.distort.specs.Call.{outWidth, outHeight, frameOf, sourceOf, rowsOf, answer, left}
 use Rattle.distort.specs.Job.{Image, Given, Call}
-use Rattle.put.specs.Joined.{joined}
+use Rattle.band.specs.Joined.{joined}
 use Rattle.distort.specs.Refusal.{channelsOf, refusal}
 use Rattle.distort.specs.declared.answer.Answer.{Answer}
-use Rattle.put.proofs.LengthLaws.{row-length}
+use Rattle.band.proofs.LengthLaws.{row-length}
 use Rattle.distort.proofs.BandLaws.{rowLength}
 use Rattle.distort.proofs.CallLaws.{size, answer-accepted, left-accepted}
-use Rattle.put.proofs.JoinedLaws.{joined-none, joined-next, joined-same, joined-part}
-use Rattle.chain.specs.Warps.{alike, sameImage, heightIn, holds, anyHolds, everyRow, rowIn, alikeTo, rowSize, together, State, group, completes}
+use Rattle.band.proofs.JoinedLaws.{joined-none, joined-next, joined-same, joined-part}
+use Rattle.chain.specs.Warps.{
+  alike,
+  sameImage,
+  heightIn,
+  holds,
+  anyHolds,
+  everyRow,
+  rowIn,
+  alikeTo,
+  rowSize,
+  together,
+  State,
+  group,
+  completes,
+}
 use Rattle.chain.proofs.SameLaws.{both-hold, alike-same}
 
 -- ---- P of each call
@@ -47,12 +61,14 @@ unfolding alikeTo
 alike-kin c [] h = tt
 alike-kin c (d ∷ ds) h = go (alike c d) refl (alike-kin c ds (h .1))
   where
-    go : (t : Bool) → alike c d ≡ t → Every (Kin c) (alikeTo c ds) → Every (Kin c) (cond t (d ∷ alikeTo c ds) (alikeTo c ds))
+    go : (t : Bool) → alike c d ≡ t → Every (Kin c) (alikeTo c ds)
+        → Every (Kin c) (cond t (d ∷ alikeTo c ds) (alikeTo c ds))
     go true e k = let s = alike-same c d e in (record { accepted = h .0; image = sym (s .0); given = sym (s .1) }, k)
     go false e k = k
 
 -- ---- every row is held
-all-held : (f : ℕ → Bool) (n : ℕ) → turns (λ (r : ℕ) (t : Bool). t && f r) 0 n true ≡ true → (r : ℕ) → r < n → f r ≡ true
+all-held : (f : ℕ → Bool) (n : ℕ) → turns (λ (r : ℕ) (t : Bool). t && f r) 0 n true ≡ true → (r : ℕ) → r < n
+    → f r ≡ true
 unfolding turns
 all-held f zero e r h = absurd (omega arith)
 all-held f (suc n) e r h =
@@ -62,13 +78,15 @@ all-held f (suc n) e r h =
     last : r < suc n → n < suc r → 0 + n ≡ r
     last a b = omega arith
 
-    go : f (0 + n) ≡ true → (r < n → f r ≡ true) → (t : Bool) → (t ≡ true → suc r ≤ n) → (t ≡ false → n < suc r) → f r ≡ true
+    go : f (0 + n) ≡ true → (r < n → f r ≡ true) → (t : Bool) → (t ≡ true → suc r ≤ n) → (t ≡ false → n < suc r)
+        → f r ≡ true
     go e k true a b = k (a refl)
     go e k false a b = sym (ap f (last h (b refl))) ∙ e
 
 held : (n : ℕ) (cs : List Call) → everyRow n cs ≡ true → (r : ℕ) → r < n → anyHolds r cs ≡ true
 unfolding everyRow upTo
-held n cs e = all-held (λ (r : ℕ). anyHolds r cs) n (subst (λ (m : ℕ). turns (λ (r : ℕ) (t : Bool). t && anyHolds r cs) 0 m true ≡ true) (less-zero n) e)
+held n cs e = all-held (λ (r : ℕ). anyHolds r cs) n
+    (subst (λ (m : ℕ). turns (λ (r : ℕ) (t : Bool). t && anyHolds r cs) 0 m true ≡ true) (less-zero n) e)
   where
     less-zero : (n : ℕ) → n - 0 ≡ n
     less-zero n = omega arith
@@ -78,13 +96,18 @@ abbrev rowAt : Image → Given → ℕ → List ℕ
 rowAt p g r = rowBytes (sourceOf p g) (frameOf p g) (channelsOf p g) (outWidth p g) r
 
 -- row r out of some rows from `first` on
-rows-at : (p : Image) (g : Given) (first rows r : ℕ) → first ≤ r → r < first + rows → take (rowLength p g) (drop ((r - first) * rowLength p g) (rowsOf p g first rows)) ≡ rowAt p g r
+rows-at : (p : Image) (g : Given) (first rows r : ℕ) → first ≤ r → r < first + rows
+    → take (rowLength p g) (drop ((r - first) * rowLength p g) (rowsOf p g first rows)) ≡ rowAt p g r
 unfolding rowsOf rowsBytes
 rows-at p g first rows r h l =
-    ap (λ (n : ℕ). take n (drop ((r - first) * rowLength p g) (joined (λ (k : ℕ). rowAt p g (first + k)) rows))) (sym (one-mul (rowLength p g)))
-    ∙ joined-part (λ (k : ℕ). rowAt p g (first + k)) (rowLength p g) (λ (k : ℕ). row-length (sourceOf p g) (frameOf p g) (channelsOf p g) (outWidth p g) (first + k)) (r - first) 1 rows (inside first rows r h l)
+    ap (λ (n : ℕ). take n (drop ((r - first) * rowLength p g) (joined (λ (k : ℕ). rowAt p g (first + k)) rows)))
+    (sym (one-mul (rowLength p g)))
+    ∙ joined-part (λ (k : ℕ). rowAt p g (first + k)) (rowLength p g)
+    (λ (k : ℕ). row-length (sourceOf p g) (frameOf p g) (channelsOf p g) (outWidth p g) (first + k)) (r - first) 1
+    rows (inside first rows r h l)
     ∙ joined-next (λ (k : ℕ). rowAt p g (first + (r - first + k))) 0
-    ∙ ap (λ (xs : List ℕ). xs ++ rowAt p g (first + (r - first + 0))) (joined-none (λ (k : ℕ). rowAt p g (first + (r - first + k))))
+    ∙ ap (λ (xs : List ℕ). xs ++ rowAt p g (first + (r - first + 0)))
+    (joined-none (λ (k : ℕ). rowAt p g (first + (r - first + k))))
     ∙ ap (rowAt p g) (back first r h)
   where
     inside : (first rows r : ℕ) → first ≤ r → r < first + rows → r - first + 1 ≤ rows
@@ -100,19 +123,23 @@ rowOf c r = rowAt (c .image) (c .given) r
 abbrev sizeOf : Call → ℕ
 sizeOf c = rowLength (c .image) (c .given)
 
-kin-row : (c d : Call) → Kin c d → (r : ℕ) → holds r d ≡ true → take (sizeOf c) (drop ((r - d .first) * sizeOf c) (left d)) ≡ rowOf c r
+kin-row : (c d : Call) → Kin c d → (r : ℕ) → holds r d ≡ true
+    → take (sizeOf c) (drop ((r - d .first) * sizeOf c) (left d)) ≡ rowOf c r
 unfolding holds
 kin-row c d k r e =
     let b = both-hold (leb (d .first) r) (ltb r (d .first + d .rows)) e in
-    ap (λ (bytes : List ℕ). take (sizeOf c) (drop ((r - d .first) * sizeOf c) bytes)) (left-accepted d (k .accepted) ∙ (λ i. rowsOf (k .image i) (k .given i) (d .first) (d .rows)))
+    ap (λ (bytes : List ℕ). take (sizeOf c) (drop ((r - d .first) * sizeOf c) bytes)) (left-accepted d (k .accepted)
+    ∙ (λ i. rowsOf (k .image i) (k .given i) (d .first) (d .rows)))
     ∙ rows-at (c .image) (c .given) (d .first) (d .rows) r (leb-true _ _ (b .0)) (ltb-true _ _ (b .1))
 
-row-found : (c : Call) (r : ℕ) (cs : List Call) → Every (Kin c) cs → anyHolds r cs ≡ true → rowIn (sizeOf c) r cs ≡ rowOf c r
+row-found : (c : Call) (r : ℕ) (cs : List Call) → Every (Kin c) cs → anyHolds r cs ≡ true
+    → rowIn (sizeOf c) r cs ≡ rowOf c r
 unfolding rowIn anyHolds
 row-found c r [] k e = absurd (false≢true e)
 row-found c r (d ∷ ds) k e = go (holds r d) refl e (row-found c r ds (k .1))
   where
-    go : (t : Bool) → holds r d ≡ t → (t || anyHolds r ds) ≡ true → (anyHolds r ds ≡ true → rowIn (sizeOf c) r ds ≡ rowOf c r)
+    go : (t : Bool) → holds r d ≡ t → (t || anyHolds r ds) ≡ true
+        → (anyHolds r ds ≡ true → rowIn (sizeOf c) r ds ≡ rowOf c r)
         → cond t (take (sizeOf c) (drop ((r - d .first) * sizeOf c) (left d))) (rowIn (sizeOf c) r ds) ≡ rowOf c r
     go true h e f = kin-row c d (k .0) r h
     go false h e f = f e
@@ -122,8 +149,13 @@ pub together-is : (s : State) (c : Call) → refusal c ≡ 0 → Every IsAccepte
 unfolding completes together rowSize rowsOf rowsBytes
 together-is s c e w h =
     let A : Answer = size c in
-    let rows : everyRow (heightIn A) (group s c) ≡ true = subst (λ (a : Answer). everyRow (heightIn a) (group s c) ≡ true) (answer-accepted c e) (both-hold (sameImage (c .image) (s .image)) (everyRow (heightIn (answer c)) (group s c)) h .1) in
-    let kin : Every (Kin c) (group s c) = alike-kin c (s .waiting ++ (c ∷ [])) (every-append IsAccepted (s .waiting) (c ∷ []) w (e, tt)) in
+    let rows : everyRow (heightIn A) (group s c) ≡ true =
+    subst (λ (a : Answer). everyRow (heightIn a) (group s c) ≡ true) (answer-accepted c e)
+    (both-hold (sameImage (c .image) (s .image)) (everyRow (heightIn (answer c)) (group s c)) h .1) in
+    let kin : Every (Kin c) (group s c) =
+    alike-kin c (s .waiting ++ (c ∷ [])) (every-append IsAccepted (s .waiting) (c ∷ []) w (e, tt)) in
     ap (λ (a : Answer). joined (λ (r : ℕ). rowIn (rowSize a) r (group s c)) (heightIn a)) (answer-accepted c e)
-    ∙ joined-same (λ (r : ℕ). rowIn (sizeOf c) r (group s c)) (λ (r : ℕ). rowOf c (0 + r)) (outHeight (c .image) (c .given))
-    (λ (r : ℕ) l. row-found c r (group s c) kin (held (heightIn A) (group s c) rows r l) ∙ ap (rowOf c) (sym (zero-add r)))
+    ∙ joined-same (λ (r : ℕ). rowIn (sizeOf c) r (group s c)) (λ (r : ℕ). rowOf c (0 + r))
+    (outHeight (c .image) (c .given))
+    (λ (r : ℕ) l. row-found c r (group s c) kin (held (heightIn A) (group s c) rows r l)
+    ∙ ap (rowOf c) (sym (zero-add r)))

@@ -1,4 +1,5 @@
--- A call leaves its band as long as it was: an accepted one's band is as long as its rows, by the table's last row, and a refused one's is left. Assumes nothing.
+-- A call leaves its band as long as it was: an accepted one's band is as long as its rows, by the table's last row, and
+-- a refused one's is left. Assumes nothing.
 use mathlib.Core.Path.{_≡_, refl, sym, ap, _∙_}
 use mathlib.Core.Bool.{Bool, true, false}
 use lib.Dec.{eqb}
@@ -20,5 +21,6 @@ keeps-length c = by (eqb (refusal c) 0) refl
     by : (t : Bool) → eqb (refusal c) 0 ≡ t → length (left c) ≡ length (c .band)
     by true e =
         let z : refusal c ≡ 0 = eqb-true (refusal c) 0 e in
-        ap length (left-accepted c z) ∙ rows-length (c .image) (c .given) (c .first) (c .rows) ∙ sym (accepted-call c z .band)
+        ap length (left-accepted c z) ∙ rows-length (c .image) (c .given) (c .first) (c .rows)
+        ∙ sym (accepted-call c z .band)
     by false e = ap length (refused-left c e)

@@ -1,22 +1,38 @@
--- The third demand, proved.
+-- The third demand, proved; and lists of calls worked out that meet its premises, by each of its methods, one of which
+-- exceeds a smaller bound.
 pub mod ApartLaws
+pub mod BestfitExample
+pub mod BoundExample
 pub mod Chain
+pub mod Closed
+pub mod ConditionsExamples
 pub mod EveryList
+pub mod EveryMethod
+pub mod Example
+pub mod Fair
 pub mod Faithful
 pub mod HomeLaws
 pub mod JoinLaws
 pub mod LengthLaws
 pub mod LentLaws
 pub mod MemoryCovers
+pub mod MemoryExample
 pub mod MemoryLaws
+pub mod MonomialsNear
+pub mod Opened
+pub mod PerspectiveExample
 pub mod PixelLaws
 pub mod PlaceLaws
 pub mod PlaneLaws
+pub mod PointNear
+pub mod PolynomialExample
 pub mod ReadLaws
 pub mod RefusedLaws
 pub mod SameLaws
 pub mod Scenes
+pub mod Small
 pub mod TurnLaws
 pub mod TwoBands
 pub mod TwoBuffers
 pub mod WarpLaws
+pub mod Worked

@@ -1,6 +1,7 @@
--- The third demand of memory from that of values: the calls among the events are a list whose machine is the world's, its warps are lent what they should be, and what
--- lies at the picture's place is the machine's picture.
--- Provides: `callsOf`, `lived-run`; `chain-near` (of the chain's picture, wherever its rows are), `memory-from-values`, `memory-demand`, `memory-no-warps`. Assumes nothing.
+-- The third demand of memory from that of values: the calls among the events are a list whose machine is the world's,
+-- its warps are lent what they should be, and what lies at the picture's place is the machine's picture. Provides:
+-- `callsOf`, `lived-run`; `chain-near` (of the chain's picture, wherever its rows are), `memory-from-values`,
+-- `memory-demand`, `memory-no-warps`. Assumes nothing.
 use mathlib.Core.Path.{_≡_, refl, sym, ap, _∙_, subst}
 use mathlib.Core.List.{List, [], _∷_}
 use Prim.Native.Nat.{ℕ}
@@ -8,7 +9,24 @@ use lib.ListN.{length}
 use Rattle.distort.specs.Job.{Image, Call}
 use Rattle.chain.specs.Demand.{First, Lent, Conditions, Each, Near, ThirdDemand}
 use Rattle.chain.specs.Exact.{exactly, exactChain}
-use Rattle.chain.specs.Memory.{Memory, read, callIn, Event, Calls, Writes, Lies, At, World, happens, lived, AllKept, born, lying, Claimed, MemoryDemand}
+use Rattle.chain.specs.Memory.{
+  Memory,
+  read,
+  callIn,
+  Event,
+  Calls,
+  Writes,
+  Lies,
+  At,
+  World,
+  happens,
+  lived,
+  AllKept,
+  born,
+  lying,
+  Claimed,
+  MemoryDemand,
+}
 use Rattle.chain.specs.Warps.{State, run, after}
 use Rattle.chain.proofs.Chain.{third-demand, no-warps}
 use Rattle.chain.proofs.HomeLaws.{AtHome, all-home, born-home}
@@ -30,7 +48,12 @@ lived-run w (Lies from ∷ es) = lived-run (happens w (Lies from)) es
 
 -- ---- what lies at home is the chain's picture
 pub lying-is : (w : World) (to : ℕ) → AtHome w → w .home ≡ At to → lying w to ≡ w .chain .image
-lying-is w to home e = λ i. record { bytes = home to e i; width = w .chain .image .width; height = w .chain .image .height; channels = w .chain .image .channels }
+lying-is w to home e = λ i. record {
+  bytes = home to e i;
+  width = w .chain .image .width;
+  height = w .chain .image .height;
+  channels = w .chain .image .channels;
+}
 
 -- ---- the demand
 module _ (third : ThirdDemand) where
@@ -39,11 +62,13 @@ module _ (third : ThirdDemand) where
     w = lived (born m first from) events
 
     -- of the chain's picture, wherever its rows are
-    pub chain-near : read m from (length (first .bytes)) ≡ first .bytes → First first → AllKept (born m first from) events
+    pub chain-near : read m from (length (first .bytes)) ≡ first .bytes → First first
+        → AllKept (born m first from) events
         → Each Conditions (w .chain .warps) → Claimed first (w .chain) (w .chain .image)
     chain-near there is kept conditions =
         subst (λ (s : State). Claimed first s (s .image)) (sym same)
-        (third first calls is (subst (λ (s : State). Each Lent (s .warps)) same lent) (subst (λ (s : State). Each Conditions (s .warps)) same conditions))
+        (third first calls is (subst (λ (s : State). Each Lent (s .warps)) same lent)
+        (subst (λ (s : State). Each Conditions (s .warps)) same conditions))
       where
         calls : List Call
         calls = callsOf (born m first from) events
@@ -65,7 +90,8 @@ pub memory-demand : MemoryDemand
 memory-demand = memory-from-values third-demand
 
 -- with no warps the first picture lies there, byte for byte
-pub memory-no-warps : (m : Memory) (first : Image) (from : ℕ) (events : List Event) → read m from (length (first .bytes)) ≡ first .bytes
+pub memory-no-warps : (m : Memory) (first : Image) (from : ℕ) (events : List Event)
+    → read m from (length (first .bytes)) ≡ first .bytes
     → AllKept (born m first from) events → lived (born m first from) events .chain .warps ≡ []
     → (to : ℕ) → lived (born m first from) events .home ≡ At to → lying (lived (born m first from) events) to ≡ first
 memory-no-warps m first from events there kept empty to e =
@@ -73,4 +99,5 @@ memory-no-warps m first from events there kept empty to e =
     let calls : List Call = callsOf (born m first from) events in
     let same : w .chain ≡ after first calls = lived-run (born m first from) events in
     let home : AtHome w = all-home (born m first from) events kept (born-home m first from there) in
-    lying-is w to home e ∙ ap (λ (s : State). s .image) same ∙ no-warps first calls (sym (ap (λ (s : State). s .warps) same) ∙ empty) .0
+    lying-is w to home e ∙ ap (λ (s : State). s .image) same
+    ∙ no-warps first calls (sym (ap (λ (s : State). s .warps) same) ∙ empty) .0

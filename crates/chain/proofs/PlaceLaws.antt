@@ -1,5 +1,6 @@
--- Samples by number and by place: a place inside a picture has a number inside its bytes, and each number is that of one place. By division with rest.
--- Provides: `place-lt`, `placed`, `column-lt`, `row-lt`, `channel-lt`; `pixel-lt`. Assumes nothing.
+-- Samples by number and by place: a place inside a picture has a number inside its bytes, and each number is that of
+-- one place. By division with rest. Provides: `place-lt`, `placed`, `column-lt`, `row-lt`, `channel-lt`; `pixel-lt`.
+-- Assumes nothing.
 use mathlib.Core.Path.{_≡_, ap, _∙_}
 use Prim.Native.Nat.{ℕ, suc, _+_, _*_, _/_, _%_, _≤_, _<_}
 use native.Mathlib.Nat.{mul-le-mul-right, div-lt-iff-lt-mul, div-add-mod', mod-lt}

@@ -1,6 +1,6 @@
--- A faithful picture in opaque surroundings is near the exact one over the whole plane: a policy names the same pixel or colour in both, a pixel that is named lies inside
--- the picture, and a colour is its own fractions.
--- Provides: `opaque-place`, `exact`, `plane-units`, `plane-near`, `plane-unit`, `plane-alpha`. Assumes nothing.
+-- A faithful picture in opaque surroundings is near the exact one over the whole plane: a policy names the same pixel
+-- or colour in both, a pixel that is named lies inside the picture, and a colour is its own fractions. Provides:
+-- `opaque-place`, `exact`, `plane-units`, `plane-near`, `plane-unit`, `plane-alpha`. Assumes nothing.
 use mathlib.Core.Path.{_≡_, refl, sym, ap, _∙_, subst}
 use mathlib.Core.Bool.{Bool, true, false, false≢true}
 use mathlib.Core.List.{List, [], _∷_}
@@ -16,13 +16,13 @@ use Rattle.exact.specs.Fraction.{Fraction, frac, value, _≈_, Within, Unit01}
 use Rattle.exact.proofs.Near.{within-same}
 use Rattle.exact.proofs.Products.{eq-refl, back, unit-one, unit-same}
 use Rattle.endian.specs.Bytes.{sampleAt}
-use Rattle.pixels.specs.At.{samples, at}
-use Rattle.pixels.specs.Colour as Colour
+use Rattle.picture.specs.At.{tapSamples, at}
+use Rattle.picture.specs.Colour as Colour
 use Rattle.policies.specs.Named.{Policy, Transparent, policies, policy, named, Lies}
 use Rattle.sampler.specs.Opaque.{OpaquePlace, Exact, UnitExact, NearExact}
-use Rattle.pixels.specs.Pixel.{Picture, widened, pixelAt}
-use Rattle.weighted.specs.Weighted.{Opaque}
-use Rattle.pixels.specs.declared.colour.Rgba.{Rgba}
+use Rattle.picture.specs.Pixel.{Picture, widened, pixelAt}
+use Rattle.taps.specs.Weighted.{Opaque}
+use Rattle.picture.specs.declared.colour.Rgba.{Rgba}
 use Rattle.policies.specs.declared.named.Tap.{Tap}
 use Rattle.policies.specs.declared.named.Tap.the-variants as Tap
 use Rattle.sampler.proofs.AtOpaque.{at-opaque}
@@ -58,11 +58,14 @@ module _ (bytes : List ℕ) (w x y : ℕ) where
   four (suc (suc (suc zero))) h = refl
   four (suc (suc (suc (suc n)))) h = absurd (omega arith)
 
-  pixel-sample : (c : ℕ) → (c ≡ 3) ⊎ (c ≡ 4) → (k : ℕ) → k < c → component (pixelAt bytes w c x y) k ≡ sampleAt bytes (place w c x y k)
+  pixel-sample : (c : ℕ) → (c ≡ 3) ⊎ (c ≡ 4) → (k : ℕ) → k < c
+      → component (pixelAt bytes w c x y) k ≡ sampleAt bytes (place w c x y k)
   pixel-sample c s k h = ⊎-elim (λ (e : c ≡ 3). along 3 e (three k)) (λ (e : c ≡ 4). along 4 e (four k)) s
     where
-      along : (d : ℕ) → c ≡ d → (k < d → component (pixelAt bytes w d x y) k ≡ sampleAt bytes (place w d x y k)) → component (pixelAt bytes w c x y) k ≡ sampleAt bytes (place w c x y k)
-      along d e f = subst (λ (n : ℕ). k < n → component (pixelAt bytes w n x y) k ≡ sampleAt bytes (place w n x y k)) (sym e) f h
+      along : (d : ℕ) → c ≡ d → (k < d → component (pixelAt bytes w d x y) k ≡ sampleAt bytes (place w d x y k))
+          → component (pixelAt bytes w c x y) k ≡ sampleAt bytes (place w c x y k)
+      along d e f = subst (λ (n : ℕ). k < n → component (pixelAt bytes w n x y) k ≡ sampleAt bytes (place w n x y k))
+          (sym e) f h
 
 -- ---- opaque colours
 part-unit : (c : Rgba) → Opaque c → (k : ℕ) → Unit01 (part c k)
@@ -74,7 +77,12 @@ part-unit c o (suc (suc (suc n))) = unit-same (back (opaque-value (c .a) (o .alp
 -- a colour read from bytes has f32 components
 colour-opaque : (bytes : List ℕ) → OpaqueColour (colourOf bytes) → Opaque (colourOf bytes)
 unfolding pixelAt widened
-colour-opaque bytes o = record { red = held-unit bytes 0 (o .red); green = held-unit bytes 1 (o .green); blue = held-unit bytes 2 (o .blue); alpha = o .alpha }
+colour-opaque bytes o = record {
+  red = held-unit bytes 0 (o .red);
+  green = held-unit bytes 1 (o .green);
+  blue = held-unit bytes 2 (o .blue);
+  alpha = o .alpha;
+}
 
 -- ---- the policy that is shut out is the one with its code
 abbrev clear : Policy → Bool
@@ -112,29 +120,38 @@ solid-code (suc (suc (suc zero))) f e = false≢true (ap clear e)
 solid-code (suc (suc (suc (suc zero)))) f e = false≢true (ap clear e)
 solid-code (suc (suc (suc (suc (suc zero))))) f e = f refl
 solid-code (suc (suc (suc (suc (suc (suc n)))))) f e =
-    false≢true (sym (firm-at (drop 6 policies) (refl, (refl, (refl, (refl, (refl, (refl, (refl, (refl, tt)))))))) n) ∙ ap clear e)
+    false≢true (sym (firm-at (drop 6 policies) (refl, (refl, (refl, (refl, (refl, (refl, (refl, (refl, tt)))))))) n)
+    ∙ ap clear e)
 
 -- ---- the plane
-module _ (p : Image) (q : ExactImage) (n : ℕ) (F : Faithful p q n) (P : Picture (p .bytes) (p .width) (p .height) (p .channels)) (g : Given)
+module _ (p : Image) (q : ExactImage) (n : ℕ) (F : Faithful p q n)
+    (P : Picture (p .bytes) (p .width) (p .height) (p .channels)) (g : Given)
     (B : OpaqueColour (colourOf (g .background))) (S : g .policy ≡ transparent → ⊥) where
   abbrev background : Rgba
   background = colourOf (g .background)
 
   abbrev named-colour : Tap → Rgba
-  named-colour t = samples (p .bytes) (p .width) (p .channels) background t
+  named-colour t = tapSamples (p .bytes) (p .width) (p .channels) background t
 
   pub opaque-place : OpaquePlace (p .bytes) (p .width) (p .height) (p .channels) (g .policy) background
-  opaque-place = record { inside = opaque-picture p q n F P; around = colour-opaque (g .background) B; solid = solid-code (g .policy) S }
+  opaque-place = record {
+    inside = opaque-picture p q n F P;
+    around = colour-opaque (g .background) B;
+    solid = solid-code (g .policy) S;
+  }
 
   -- what is named, in both pictures
   own : (c : Rgba) (k : ℕ) → Within (value (component c k)) (part c k) (frac n 524288)
   own c k =
       subst (λ (x : Fraction). Within (value (component c k)) x (frac n 524288)) (part-value c k)
-      (within-same (value (component c k)) (value (component c k)) (frac n 524288) (eq-refl (value (component c k))) (error-nonneg n))
+      (within-same (value (component c k)) (value (component c k)) (frac n 524288) (eq-refl (value (component c k)))
+      (error-nonneg n))
 
-  tap-near : (k : ℕ) → k < p .channels → (t : Tap) → Lies (p .width) (p .height) t → Within (value (component (named-colour t) k)) (tapped q background k t) (frac n 524288)
+  tap-near : (k : ℕ) → k < p .channels → (t : Tap) → Lies (p .width) (p .height) t
+      → Within (value (component (named-colour t) k)) (tapped q background k t) (frac n 524288)
   tap-near k h (Tap.Pixel x y) l =
-      subst (λ (z : Float). Within (value z) (q .sample x y k) (frac n 524288)) (sym (pixel-sample (p .bytes) (p .width) x y (p .channels) (F .colours) k h))
+      subst (λ (z : Float). Within (value z) (q .sample x y k) (frac n 524288))
+      (sym (pixel-sample (p .bytes) (p .width) x y (p .channels) (F .colours) k h))
       (F .near .samples x y k (l .0) (l .1) h .near)
   tap-near k h Tap.Background l = own background k
   tap-near k h Tap.Black l = own (Colour.grey Colour.zero Colour.one) k
@@ -142,7 +159,8 @@ module _ (p : Image) (q : ExactImage) (n : ℕ) (F : Faithful p q n) (P : Pictur
   tap-near k h Tap.Gray l = own (Colour.grey Colour.half Colour.one) k
   tap-near k h Tap.Transparent l = own (Colour.grey Colour.zero Colour.zero) k
 
-  tap-unit : (k : ℕ) → k < p .channels → (t : Tap) → Lies (p .width) (p .height) t → Opaque (named-colour t) → Unit01 (tapped q background k t)
+  tap-unit : (k : ℕ) → k < p .channels → (t : Tap) → Lies (p .width) (p .height) t → Opaque (named-colour t)
+      → Unit01 (tapped q background k t)
   tap-unit k h (Tap.Pixel x y) l o = F .units x y k (l .0) (l .1) h
   tap-unit k h Tap.Background l o = part-unit background o k
   tap-unit k h Tap.Black l o = part-unit (Colour.grey Colour.zero Colour.one) o k
@@ -150,7 +168,8 @@ module _ (p : Image) (q : ExactImage) (n : ℕ) (F : Faithful p q n) (P : Pictur
   tap-unit k h Tap.Gray l o = part-unit (Colour.grey Colour.half Colour.one) o k
   tap-unit k h Tap.Transparent l o = part-unit (Colour.grey Colour.zero Colour.zero) o k
 
-  tap-alpha : p .channels ≡ 4 → (t : Tap) → Lies (p .width) (p .height) t → Opaque (named-colour t) → tapped q background 3 t ≈ frac 1 1
+  tap-alpha : p .channels ≡ 4 → (t : Tap) → Lies (p .width) (p .height) t → Opaque (named-colour t)
+      → tapped q background 3 t ≈ frac 1 1
   tap-alpha e (Tap.Pixel x y) l o = F .opaque e x y (l .0) (l .1)
   tap-alpha e Tap.Background l o = opaque-value (background .a) (o .alpha)
   tap-alpha e Tap.Black l o = opaque-value Colour.one (o .alpha)
@@ -181,13 +200,17 @@ module _ (p : Image) (q : ExactImage) (n : ℕ) (F : Faithful p q n) (P : Pictur
     pub plane-alpha : p .channels ≡ 4 → plane q g 3 i j ≈ frac 1 1
     plane-alpha e = subst (λ (x : Fraction). x ≈ frac 1 1) (same 3) (tap-alpha e here lies solid-here)
 
-    near-here : (k : ℕ) → k < p .channels → Within (value (component (at (p .bytes) (p .width) (p .height) (p .channels) (g .policy) background i j) k)) (plane q g k i j) (frac n 524288)
+    near-here : (k : ℕ) → k < p .channels
+        → Within (value (component (at (p .bytes) (p .width) (p .height) (p .channels) (g .policy) background i j) k))
+        (plane q g k i j) (frac n 524288)
     unfolding at
-    near-here k h = subst (λ (x : Fraction). Within (value (component (named-colour here) k)) x (frac n 524288)) (same k) (tap-near k h here lies)
+    near-here k h = subst (λ (x : Fraction). Within (value (component (named-colour here) k)) x (frac n 524288))
+        (same k) (tap-near k h here lies)
 
   -- ---- in the sampler's words
   colour-lt : (k : ℕ) → k < 3 → k < p .channels
-  colour-lt k h = ⊎-elim (λ (e : p .channels ≡ 3). go (p .channels) e) (λ (e : p .channels ≡ 4). go-4 (p .channels) e) (F .colours)
+  colour-lt k h = ⊎-elim (λ (e : p .channels ≡ 3). go (p .channels) e) (λ (e : p .channels ≡ 4). go-4 (p .channels) e)
+      (F .colours)
     where
       go : (c : ℕ) → c ≡ 3 → k < c
       go c e = omega arith
@@ -205,7 +228,8 @@ module _ (p : Image) (q : ExactImage) (n : ℕ) (F : Faithful p q n) (P : Pictur
     blue = λ (i j : ℤ). plane-unit i j 2 (colour-lt 2 (lit≤ tt));
   }
 
-  pub plane-near : NearExact (at (p .bytes) (p .width) (p .height) (p .channels) (g .policy) background) exact (frac n 524288)
+  pub plane-near : NearExact (at (p .bytes) (p .width) (p .height) (p .channels) (g .policy) background) exact
+      (frac n 524288)
   plane-near = record {
     red = λ (i j : ℤ). record { is = opaque-at i j .red; near = near-here i j 0 (colour-lt 0 (lit≤ tt)) };
     green = λ (i j : ℤ). record { is = opaque-at i j .green; near = near-here i j 1 (colour-lt 1 (lit≤ tt)) };

@@ -1,5 +1,6 @@
--- One memory, read and written: a read is as long as it was asked for and settled by the bytes of its range; what was written is read back, a write apart leaves a
--- read as it was, and writing back what was read changes no byte. Assumes nothing.
+-- One memory, read and written: a read is as long as it was asked for and settled by the bytes of its range; what was
+-- written is read back, a write apart leaves a read as it was, and writing back what was read changes no byte. Assumes
+-- nothing.
 use mathlib.Core.Path.{_≡_, refl, sym, ap, ap₂, _∙_}
 use mathlib.Core.Bool.{Bool, true, false, _&&_, cond}
 use mathlib.Core.Logic.{_⊎_, inl, inr, ⊎-elim}
@@ -24,27 +25,32 @@ pub read-at : (m : Memory) (from n i : ℕ) → i < n → getD (read m from n) i
 unfolding read
 read-at m from zero i h = absurd (not-suc-le-zero h)
 read-at m from (suc n) zero h = ap m (sym (add-zero from))
-read-at m from (suc n) (suc i) h = read-at m (suc from) n i (le-of-suc-le-suc h) ∙ ap m (suc-add from i ∙ sym (add-suc from i))
+read-at m from (suc n) (suc i) h = read-at m (suc from) n i (le-of-suc-le-suc h)
+    ∙ ap m (suc-add from i ∙ sym (add-suc from i))
 
 -- it depends on the bytes of its range alone
-pub read-same : (m p : Memory) (from n : ℕ) → ((a : ℕ) → from ≤ a → a < from + n → m a ≡ p a) → read m from n ≡ read p from n
+pub read-same : (m p : Memory) (from n : ℕ) → ((a : ℕ) → from ≤ a → a < from + n → m a ≡ p a)
+    → read m from n ≡ read p from n
 unfolding read
 read-same m p from zero h = refl
 read-same m p from (suc n) h =
-    ap₂ (λ (x : ℕ) (xs : List ℕ). x ∷ xs) (h from (omega arith) (omega arith)) (read-same m p (suc from) n (λ a l u. h a (omega arith) (omega arith)))
+    ap₂ (λ (x : ℕ) (xs : List ℕ). x ∷ xs) (h from (omega arith) (omega arith))
+    (read-same m p (suc from) n (λ a l u. h a (omega arith) (omega arith)))
 
 -- two reads in a row are one
 pub read-on : (m : Memory) (from n k : ℕ) → read m from (n + k) ≡ read m from n ++ read m (from + n) k
 unfolding read
 read-on m from zero k = rw (zero-add, add-zero)
-read-on m from (suc n) k = rw suc-add (ap (λ (xs : List ℕ). m from ∷ xs) (read-on m (suc from) n k ∙ rw (suc-add, add-suc)))
+read-on m from (suc n) k =
+    rw suc-add (ap (λ (xs : List ℕ). m from ∷ xs) (read-on m (suc from) n k ∙ rw (suc-add, add-suc)))
 
 -- ---- whether an address is among the written
 inside : (from n a : ℕ) → ((from ≤ a) × (a < from + n)) ⊎ (from ≤ a → a < from + n → ⊥)
 inside from n a = ⊎-elim (λ (h : a < from). inr (λ l u. omega arith)) upper (lt-or-le a from)
   where
     upper : from ≤ a → ((from ≤ a) × (a < from + n)) ⊎ (from ≤ a → a < from + n → ⊥)
-    upper l = ⊎-elim (λ (u : a < from + n). inl (l, u)) (λ (u : from + n ≤ a). inr (λ k v. omega arith)) (lt-or-le a (from + n))
+    upper l = ⊎-elim (λ (u : a < from + n). inl (l, u)) (λ (u : from + n ≤ a). inr (λ k v. omega arith))
+        (lt-or-le a (from + n))
 
 among-true : (from n a : ℕ) → from ≤ a → a < from + n → among from n a ≡ true
 unfolding among
@@ -66,7 +72,8 @@ module _ (m : Memory) (from : ℕ) (bytes : List ℕ) where
 
   pub written-elsewhere : (a : ℕ) → (from ≤ a → a < from + length bytes → ⊥) → written m from bytes a ≡ m a
   unfolding written
-  written-elsewhere a h = ap (λ (t : Bool). cond t (getD bytes (a - from) 0) (m a)) (among-false from (length bytes) a h)
+  written-elsewhere a h = ap (λ (t : Bool). cond t (getD bytes (a - from) 0) (m a))
+      (among-false from (length bytes) a h)
 
   pub read-back : read (written m from bytes) from (length bytes) ≡ bytes
   read-back = ext-getD 0 (read (written m from bytes) from (length bytes)) bytes long at
@@ -77,14 +84,16 @@ module _ (m : Memory) (from : ℕ) (bytes : List ℕ) where
       back : (i : ℕ) → from + i - from ≡ i
       back i = omega arith
 
-      at : (i : ℕ) → i < length (read (written m from bytes) from (length bytes)) → getD (read (written m from bytes) from (length bytes)) i 0 ≡ getD bytes i 0
+      at : (i : ℕ) → i < length (read (written m from bytes) from (length bytes))
+          → getD (read (written m from bytes) from (length bytes)) i 0 ≡ getD bytes i 0
       at i h =
           let s : i < length bytes = omega (arith, long) in
           read-at (written m from bytes) from (length bytes) i s
           ∙ written-there (from + i) (omega arith) (omega arith)
           ∙ ap (λ (k : ℕ). getD bytes k 0) (back i)
 
-  pub read-apart : (at n : ℕ) → ((a : ℕ) → at ≤ a → a < at + n → from ≤ a → a < from + length bytes → ⊥) → read (written m from bytes) at n ≡ read m at n
+  pub read-apart : (at n : ℕ) → ((a : ℕ) → at ≤ a → a < at + n → from ≤ a → a < from + length bytes → ⊥)
+      → read (written m from bytes) at n ≡ read m at n
   read-apart at n h = read-same (written m from bytes) m at n (λ a l u. written-elsewhere a (h a l u))
 
 -- writing back what was read

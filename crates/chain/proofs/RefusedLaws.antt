@@ -1,5 +1,6 @@
--- A refused call changes nothing: its band afterwards is what was read there, so no byte of memory moves, and neither the machine nor the picture's place does.
--- So it may stand anywhere among the events, with its picture and its band anywhere. Assumes nothing.
+-- A refused call changes nothing: its band afterwards is what was read there, so no byte of memory moves, and neither
+-- the machine nor the picture's place does. So it may stand anywhere among the events, with its picture and its band
+-- anywhere. Assumes nothing.
 use mathlib.Core.Path.{_≡_, sym, ap, _∙_, fun-ext, subst}
 use mathlib.Core.Bool.{true, false, false≢true}
 use mathlib.Core.List.{List, _∷_}
@@ -36,7 +37,10 @@ module _ (w : World) (a : Asked) (refused : accepted (callIn (w .memory) a) ≡ 
 
   pub refused-kept : (events : List Event) → AllKept w events → AllKept w (Calls a ∷ events)
   unfolding AllKept
-  refused-kept events kept = (record { apart = λ e. absurd (never e); lent = λ e. absurd (never e) }, subst (λ (v : World). AllKept v events) (sym refused-changes-nothing) kept)
+  refused-kept events kept = (
+    record { apart = λ e. absurd (never e); lent = λ e. absurd (never e) },
+    subst (λ (v : World). AllKept v events) (sym refused-changes-nothing) kept,
+  )
     where
       never : accepted (callIn (w .memory) a) ≡ true → ⊥
       never e = false≢true (sym refused ∙ e)

@@ -1,5 +1,6 @@
--- Calls that are the same by their bytes and numbers are equal: a test that passes is an equation, and a record is equal field by field.
--- Provides: `both-hold`, `bytes-same`, `whole-same`, `image-same`, `given-same`, `alike-same`. Assumes nothing.
+-- Calls that are the same by their bytes and numbers are equal: a test that passes is an equation, and a record is
+-- equal field by field. Provides: `both-hold`, `bytes-same`, `whole-same`, `image-same`, `given-same`, `alike-same`.
+-- Assumes nothing.
 use mathlib.Core.Path.{_≡_, refl, ap}
 use mathlib.Core.Bool.{Bool, true, false, false≢true, _&&_}
 use mathlib.Core.List.{List, [], _∷_}

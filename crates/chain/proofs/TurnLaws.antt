@@ -1,5 +1,5 @@
--- One call by cases: refused, a whole warp, the last of the calls that together are a warp, or alone; what it makes of the machine, and of the place where the
--- chain's picture lies. Assumes nothing.
+-- One call by cases: refused, a whole warp, the last of the calls that together are a warp, or alone; what it makes of
+-- the machine, and of the place where the chain's picture lies. Assumes nothing.
 use mathlib.Core.Path.{_≡_, refl}
 use mathlib.Core.Bool.{Bool, true, false}
 use Prim.Native.Nat.{ℕ}
@@ -17,7 +17,8 @@ pub record Makes (s : State) (c : Call) (t : State) (to : ℕ → Home → Home)
 pub data Turn (s : State) (c : Call) : Type 0 where
   is-refused : accepted c ≡ false → Makes s c s (λ band home. home) → Turn s c
   is-whole : accepted c ≡ true → allRows c ≡ true → Makes s c (warped s c (left c)) (λ band home. At band) → Turn s c
-  is-joined : accepted c ≡ true → completes s c ≡ true → Makes s c (warped s c (together (answer c) (group s c))) (λ band home. Nowhere) → Turn s c
+  is-joined : accepted c ≡ true → completes s c ≡ true
+      → Makes s c (warped s c (together (answer c) (group s c))) (λ band home. Nowhere) → Turn s c
   is-alone : accepted c ≡ true → Makes s c (waits s c) (λ band home. home) → Turn s c
 
 module _ (s : State) (c : Call) where
@@ -29,11 +30,13 @@ module _ (s : State) (c : Call) where
   unfolding step homeAfter
   whole-makes e f = record { chain = rw (e, f); place = λ band home. rw (e, f) }
 
-  pub joined-makes : accepted c ≡ true → allRows c ≡ false → completes s c ≡ true → Makes s c (warped s c (together (answer c) (group s c))) (λ band home. Nowhere)
+  pub joined-makes : accepted c ≡ true → allRows c ≡ false → completes s c ≡ true
+      → Makes s c (warped s c (together (answer c) (group s c))) (λ band home. Nowhere)
   unfolding step homeAfter
   joined-makes e f g = record { chain = rw (e, f, g); place = λ band home. rw (e, f, g) }
 
-  pub alone-makes : accepted c ≡ true → allRows c ≡ false → completes s c ≡ false → Makes s c (waits s c) (λ band home. home)
+  pub alone-makes : accepted c ≡ true → allRows c ≡ false → completes s c ≡ false
+      → Makes s c (waits s c) (λ band home. home)
   unfolding step homeAfter
   alone-makes e f g = record { chain = rw (e, f, g); place = λ band home. rw (e, f, g) }
 

@@ -1,5 +1,6 @@
--- Events that keep the words on sharing: a warp in two bands out of one buffer, each of which the host puts where it belongs, until the picture lies whole. Of the
--- calls only what they answer is taken as known, and that both together are the rows in order. Assumes nothing.
+-- Events that keep the words on sharing: a warp in two bands out of one buffer, each of which the host puts where it
+-- belongs, until the picture lies whole. Of the calls only what they answer is taken as known, and that both together
+-- are the rows in order. Assumes nothing.
 use mathlib.Core.Path.{_≡_, refl, sym, ap, ap₂, _∙_, subst⁻¹}
 use mathlib.Core.Logic.{inr}
 use mathlib.Core.Bool.{true, false}
@@ -9,7 +10,29 @@ use native.Mathlib.Omega.{arith}
 use lib.ListN.{length, length-append}
 use Rattle.distort.specs.Call.{answer, left}
 use Rattle.distort.specs.Job.{Image, Given, Call}
-use Rattle.chain.specs.Memory.{Memory, read, written, Asked, callIn, Event, Calls, Writes, Lies, Home, Nowhere, At, World, happens, lived, size, InBuffer, KeptCall, Kept, AllKept, born}
+use Rattle.chain.specs.Memory.{
+  Memory,
+  read,
+  written,
+  Asked,
+  callIn,
+  Event,
+  Calls,
+  Writes,
+  Lies,
+  Home,
+  Nowhere,
+  At,
+  World,
+  happens,
+  lived,
+  size,
+  InBuffer,
+  KeptCall,
+  Kept,
+  AllKept,
+  born,
+}
 use Rattle.chain.specs.Warps.{State, start, accepted, allRows, completes, group, together, warped, waits}
 use Rattle.chain.proofs.ApartLaws.{asking, apart-by, write-by}
 use Rattle.chain.proofs.LengthLaws.{keeps-length}
@@ -61,7 +84,8 @@ module _ (m : Memory) (first : Image) (A B P n k r q : ℕ) (g : Given) where
     makes-top : Makes (start first) c (waits (start first) c) (λ band home. home)
     makes-top = alone-makes (start first) c (t .top-accepted) (t .top-some) (t .top-waits)
 
-    makes-bottom : Makes (w2 .chain) d (warped (w2 .chain) d (together (answer d) (group (w2 .chain) d))) (λ band home. Nowhere)
+    makes-bottom : Makes (w2 .chain) d (warped (w2 .chain) d (together (answer d) (group (w2 .chain) d)))
+        (λ band home. Nowhere)
     makes-bottom = joined-makes (w2 .chain) d (t .bottom-accepted) (t .bottom-some) (t .bottom-joins)
 
     top-long : length (left c) ≡ n
@@ -110,7 +134,8 @@ module _ (m : Memory) (first : Image) (A B P n k r q : ℕ) (g : Given) where
     home3 = makes-bottom .place B (w2 .home)
 
     kept-second : Kept w3 (Writes (P + n) (left d))
-    kept-second = subst⁻¹ (λ (home : Home). InBuffer w3 home (λ (b : ℕ). written (w3 .memory) (P + n) (left d) b ≡ w3 .memory b)) home3 tt
+    kept-second = subst⁻¹ (λ (home : Home).
+        InBuffer w3 home (λ (b : ℕ). written (w3 .memory) (P + n) (left d) b ≡ w3 .memory b)) home3 tt
 
     bytes4 : w4 .chain .image .bytes ≡ left c ++ left d
     unfolding happens

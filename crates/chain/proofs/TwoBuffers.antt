@@ -1,5 +1,5 @@
--- Events that keep the words on sharing: two warps with two buffers in turn, the host writing over the picture that was read in between. Of the calls only what they
--- answer is taken as known. Assumes nothing.
+-- Events that keep the words on sharing: two warps with two buffers in turn, the host writing over the picture that was
+-- read in between. Of the calls only what they answer is taken as known. Assumes nothing.
 use mathlib.Core.Path.{_≡_, refl, sym, ap, _∙_}
 use mathlib.Core.Logic.{inl, inr}
 use mathlib.Core.Bool.{true}
@@ -8,7 +8,23 @@ use Prim.Native.Nat.{ℕ, _+_, _≤_}
 use lib.ListN.{length}
 use Rattle.distort.specs.Call.{answer, left}
 use Rattle.distort.specs.Job.{Image, Given, Call}
-use Rattle.chain.specs.Memory.{Memory, Asked, callIn, Event, Calls, Writes, At, World, happens, lived, size, KeptCall, Kept, AllKept, born}
+use Rattle.chain.specs.Memory.{
+  Memory,
+  Asked,
+  callIn,
+  Event,
+  Calls,
+  Writes,
+  At,
+  World,
+  happens,
+  lived,
+  size,
+  KeptCall,
+  Kept,
+  AllKept,
+  born,
+}
 use Rattle.chain.specs.Warps.{State, start, pictured, accepted, allRows, warped}
 use Rattle.chain.proofs.ApartLaws.{asking, apart-by, write-by}
 use Rattle.chain.proofs.LengthLaws.{keeps-length}
@@ -96,4 +112,5 @@ module _ (m : Memory) (first : Image) (A B n k r q : ℕ) (g h : Given) (bytes :
 
     pub in-turn-warps : length (lived (born m first A) inTurn .chain .warps) ≡ 2
     unfolding lived happens
-    in-turn-warps = ap (λ (s : State). length (s .warps)) (makes-back .chain) ∙ ap (λ (s : State). length (warped s d (left d) .warps)) then-chain
+    in-turn-warps = ap (λ (s : State). length (s .warps)) (makes-back .chain)
+        ∙ ap (λ (s : State). length (warped s d (left d) .warps)) then-chain

@@ -1,6 +1,6 @@
--- One whole warp: each sample of the new picture is a component of a pixel that is near the new exact one, so a faithful picture is followed by a faithful one, with one
--- warp more.
--- Provides: `answerOf`, `warpOf`, `warp-faithful`. Assumes nothing.
+-- One whole warp: each sample of the new picture is a component of a pixel that is near the new exact one, so a
+-- faithful picture is followed by a faithful one, with one warp more. Provides: `answerOf`, `warpOf`, `warp-faithful`.
+-- Assumes nothing.
 use mathlib.Core.Path.{_≡_, refl, sym, ap, _∙_, subst}
 use mathlib.Core.List.{List}
 use mathlib.Core.Logic.{_⊎_}
@@ -11,12 +11,12 @@ use lib.Ieee.{Float}
 use Rattle.exact.specs.Fraction.{frac}
 use Rattle.exact.specs.Weighted.{Unit32, Sample}
 use Rattle.endian.specs.Bytes.{sampleAt}
-use Rattle.pixels.specs.Colour.{one}
+use Rattle.picture.specs.Colour.{one}
 use Rattle.sampler.specs.Finite.{BoundedPicture}
-use Rattle.pixels.specs.Pixel.{Picture}
-use Rattle.pixels.specs.declared.colour.Rgba.{Rgba}
+use Rattle.picture.specs.Pixel.{Picture}
+use Rattle.picture.specs.declared.colour.Rgba.{Rgba}
 use Rattle.window.specs.Window.{xOf, yOf}
-use Rattle.put.specs.Band.{colourAt}
+use Rattle.band.specs.Band.{colourAt}
 use Rattle.distort.specs.Call.{outWidth, outHeight, frameOf, sourceOf, rowsOf}
 use Rattle.distort.specs.Job.{Image, Given}
 use Rattle.distort.specs.Refusal.{windowOf, channelsOf}
@@ -37,13 +37,15 @@ unit-of u = record { number = u .number; unit = u .unit }
 
 -- the answer of an accepted call, whose band has so many matte pixels
 abbrev pub answerOf : Image → Given → ℕ → Answer
-answerOf p g count = Accepted (outWidth p g) (outHeight p g) (xOf (windowOf p g)) (yOf (windowOf p g)) (channelsOf p g) count
+answerOf p g count = Accepted (outWidth p g) (outHeight p g) (xOf (windowOf p g)) (yOf (windowOf p g)) (channelsOf p g)
+    count
 
 -- a warp that is lent the chain's picture
 abbrev pub warpOf : Image → Given → ℕ → Warp
 warpOf p g count = record { given = g; answered = answerOf p g count; lent = p; chain = p }
 
-module _ (p : Image) (g : Given) (count : ℕ) (J : AcceptedJob p g) (C : Conditions (warpOf p g count)) (q : ExactImage) (n : ℕ) (F : Faithful p q n) where
+module _ (p : Image) (g : Given) (count : ℕ) (J : AcceptedJob p g) (C : Conditions (warpOf p g count)) (q : ExactImage)
+    (n : ℕ) (F : Faithful p q n) where
   abbrev A : Answer
   A = answerOf p g count
 
@@ -82,19 +84,25 @@ module _ (p : Image) (g : Given) (count : ℕ) (J : AcceptedJob p g) (C : Condit
 
     shown-near : (k : ℕ) → k < D → Sample (component it k) (warpedSample q g A i j k) (frac (n + 1) 524288)
     shown-near k hk =
-        pixel-near p q n F P g (C .background) (C .policy) i j count (C .interpolation) (less i W hi (J .across .most)) (less j H hj (J .down .most)) (J .across .near) (J .down .near) (C .pixels i j hi hj) k (own k hk)
+        pixel-near p q n F P g (C .background) (C .policy) i j count (C .interpolation) (less i W hi (J .across .most))
+        (less j H hj (J .down .most)) (J .across .near) (J .down .near) (C .pixels i j hi hj) k (own k hk)
 
     shown-alpha : it .a ≡ one
     shown-alpha =
-        pixel-alpha p q n F P g (C .background) (C .policy) i j count (C .interpolation) (less i W hi (J .across .most)) (less j H hj (J .down .most)) (J .across .near) (J .down .near) (C .pixels i j hi hj)
+        pixel-alpha p q n F P g (C .background) (C .policy) i j count (C .interpolation)
+        (less i W hi (J .across .most)) (less j H hj (J .down .most)) (J .across .near) (J .down .near)
+        (C .pixels i j hi hj)
 
     -- it is what the bytes hold there
     read : (k : ℕ) → k < D → sampleAt bytes (place W D i j k) ≡ component it k
-    read k hk = sample-at p g P 0 H i j hi hj colours k hk ∙ ap (λ (r : ℕ). component (colourAt (sourceOf p g) (frameOf p g) i r) k) (zero-add j)
+    read k hk = sample-at p g P 0 H i j hi hj colours k hk
+        ∙ ap (λ (r : ℕ). component (colourAt (sourceOf p g) (frameOf p g) i r) k) (zero-add j)
 
     near-sample : (k : ℕ) → k < D → NearSample (pictured A bytes) (exactWarp q g A) (n + 1) i j k
     near-sample k hk =
-        let s : Sample (sampleAt bytes (place W D i j k)) (warpedSample q g A i j k) (frac (n + 1) 524288) = subst (λ (x : Float). Sample x (warpedSample q g A i j k) (frac (n + 1) 524288)) (sym (read k hk)) (shown-near k hk) in
+        let s : Sample (sampleAt bytes (place W D i j k)) (warpedSample q g A i j k) (frac (n + 1) 524288) =
+        subst (λ (x : Float). Sample x (warpedSample q g A i j k) (frac (n + 1) 524288)) (sym (read k hk))
+        (shown-near k hk) in
         record { is = unit-of (s .is); near = s .near }
 
     alpha-read : D ≡ 4 → sampleAt bytes (place W D i j 3) ≡ one

@@ -1,4 +1,5 @@
--- The third demand, in document 01's words: the chain conditions, and what is claimed of the picture after a list of calls. Assumes nothing.
+-- The third demand: the chain conditions (specification 11.2), and what is claimed of the picture after a list of calls
+-- (11.4). Assumes nothing.
 use Prim.Native.Nat.{ℕ, _+_, _*_, _<_}
 use mathlib.Core.Path.{_≡_}
 use mathlib.Core.Logic.{_⊎_}
@@ -14,9 +15,9 @@ use Rattle.endian.specs.Bytes.{sampleAt}
 use Rattle.arguments.specs.Method as Method
 use Rattle.mappings.specs.declared.mapping.Fitted.{Fitted}
 use Rattle.mappings.specs.declared.mapping.Mapping.{Mapping}
-use Rattle.nearness.specs.Conditions.{Meets}
-use Rattle.pixels.specs.Colour.{one}
-use Rattle.pixels.specs.declared.colour.Rgba.{Rgba}
+use Rattle.chain.specs.Conditions.{Meets}
+use Rattle.picture.specs.Colour.{one}
+use Rattle.picture.specs.declared.colour.Rgba.{Rgba}
 use Rattle.distort.specs.Job.{Image, Given, Call, colourOf}
 use Rattle.distort.specs.Refusal.{transparent, fitOf}
 use Rattle.distort.specs.declared.answer.Answer.{Answer}
@@ -56,16 +57,19 @@ pub data Chained : ℕ → Type 0 where
 abbrev pub bilinear : ℕ
 bilinear = 5
 
--- of a warp: method, interpolation, policy, background, and the sums at every output pixel, with the fit's own coefficients
+-- of a warp: method, interpolation, policy, background, and the sums at every output pixel, with the fit's own
+-- coefficients
 pub record Conditions (w : Warp) : Type 0 where
   pub method : Chained (w .given .method)
   pub interpolation : w .given .interpolation ≡ bilinear
   pub policy : w .given .policy ≡ transparent → ⊥
   pub background : OpaqueColour (colourOf (w .given .background))
   pub pixels : (i j : ℕ) → i < widthIn (w .answered) → j < heightIn (w .answered)
-      → Meets (fitOf (w .chain) (w .given) .mapping .kind) (fitOf (w .chain) (w .given) .mapping .order) (fitOf (w .chain) (w .given) .mapping .coef) (askedF i (xIn (w .answered))) (askedF j (yIn (w .answered)))
+      → Meets (fitOf (w .chain) (w .given) .mapping .kind) (fitOf (w .chain) (w .given) .mapping .order)
+      (fitOf (w .chain) (w .given) .mapping .coef) (askedF i (xIn (w .answered))) (askedF j (yIn (w .answered)))
 
--- a warp is lent the whole band of the last warp before it, with the size and channels from that one's answer, or the first picture where there was none
+-- a warp is lent the whole band of the last warp before it, with the size and channels from that one's answer, or the
+-- first picture where there was none
 abbrev pub Lent : Warp → Type 0
 Lent w = w .lent ≡ w .chain
 
@@ -78,7 +82,8 @@ Each P (w ∷ ws) = P w × Each P ws
 abbrev pub sampleOf : Image → ℕ → ℕ → ℕ → Float
 sampleOf p i j k = sampleAt (p .bytes) (place (p .width) (p .channels) i j k)
 
--- the sample of channel k at column i and row j: a number from 0 to 1, and at most n/524,288 from the exact one at its place
+-- the sample of channel k at column i and row j: a number from 0 to 1, and at most n/524,288 from the exact one at its
+-- place
 pub record NearSample (p : Image) (q : ExactImage) (n i j k : ℕ) : Type 0 where
   pub is : InUnit (sampleOf p i j k)
   pub near : Within (value (sampleOf p i j k)) (q .sample i j k) (frac n 524288)
@@ -98,7 +103,8 @@ warpsOf first calls = after first calls .warps
 
 abbrev pub ThirdDemand : Type 0
 ThirdDemand =
-    (first : Image) (calls : List Call) → First first → Each Lent (warpsOf first calls) → Each Conditions (warpsOf first calls)
+    (first : Image) (calls : List Call) → First first → Each Lent (warpsOf first calls)
+    → Each Conditions (warpsOf first calls)
     → Near (after first calls .image) (exactChain (exactly first) (warpsOf first calls)) (length (warpsOf first calls))
 
 -- with no warps both pictures are equal

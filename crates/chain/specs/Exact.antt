@@ -1,5 +1,5 @@
--- The exact chain: the same list worked in fractions, without rounding after the fit. It is fed the first picture and, for each warp, its answer and all that it
--- is given except picture and band. Assumes nothing.
+-- The exact chain: the same list worked in fractions, without rounding after the fit. It is fed the first picture and,
+-- for each warp, its answer and all that it is given except picture and band. Specification 11.3. Assumes nothing.
 use Prim.Native.Nat.{ℕ, zero, suc, _+_, _*_}
 use mathlib.Core.List.{List, [], _∷_}
 use lib.IntN.{ℤ}
@@ -7,13 +7,13 @@ use Rattle.exact.specs.Fraction.{Fraction, frac, value, _-F_}
 use Rattle.exact.specs.Sums.{askedF}
 use Rattle.exact.specs.Warp.{exactSample}
 use Rattle.endian.specs.Bytes.{sampleAt}
-use Rattle.build.specs.Build.{build}
+use Rattle.fit.specs.Build.{build}
 use Rattle.mappings.specs.declared.mapping.Fitted.{Fitted}
 use Rattle.mappings.specs.declared.mapping.Mapping.{Mapping}
-use Rattle.nearness.specs.ExactPoint.{exactPoint}
-use Rattle.pixels.specs.Colour as Colour
+use Rattle.chain.specs.ExactPoint.{exactPoint}
+use Rattle.picture.specs.Colour as Colour
 use Rattle.policies.specs.Named.{named}
-use Rattle.pixels.specs.declared.colour.Rgba.{Rgba}
+use Rattle.picture.specs.declared.colour.Rgba.{Rgba}
 use Rattle.policies.specs.declared.named.Tap.{Tap}
 use Rattle.policies.specs.declared.named.Tap.the-variants.{Pixel, Background, Black, White, Gray, Transparent}
 use Rattle.distort.specs.Job.{Image, Given, colourOf}
@@ -68,9 +68,11 @@ mappingOf q g = build (g .method) (g .arguments) (q .width) (q .height) .mapping
 
 -- u and v of the pixel at column i and row j, with the answer's offset
 unfoldable pub source : ExactImage → Given → Answer → ℕ → ℕ → Fraction × Fraction
-source q g a i j = exactPoint (mappingOf q g .kind) (mappingOf q g .order) (mappingOf q g .coef) (askedF i (xIn a)) (askedF j (yIn a))
+source q g a i j = exactPoint (mappingOf q g .kind) (mappingOf q g .order) (mappingOf q g .coef) (askedF i (xIn a))
+    (askedF j (yIn a))
 
--- cell, four taps and weights by `Bilinear`'s own steps: half a pixel back, floor and fraction, the sum of the taps times their weights
+-- cell, four taps and weights by `Bilinear`'s own steps: half a pixel back, floor and fraction, the sum of the taps
+-- times their weights
 unfoldable pub warpedSample : ExactImage → Given → Answer → ℕ → ℕ → ℕ → Fraction
 unfolding plane source
 warpedSample q g a i j k = exactSample (plane q g k) (source q g a i j .0 -F frac 1 2) (source q g a i j .1 -F frac 1 2)

@@ -1,5 +1,7 @@
--- The third demand of memory: calls read and write ranges of one memory of bytes, and the host writes between them, under document 01's words on sharing. Calls come
--- one after the other, and a call's band overlaps nothing that it reads, by the entry's own rule, so that it does not matter in which order it reads and writes. What else is lent to a call, the answer's bytes among it, counts as written by the host. Assumes nothing.
+-- The third demand of memory: calls read and write ranges of one memory of bytes, and the host writes between them,
+-- under the premise on sharing (specification 11.4). Calls come one after the other, and a call's band overlaps nothing
+-- that it reads, by the entry's own rule, so that it does not matter in which order it reads and writes. What else is
+-- lent to a call, the answer's bytes among it, counts as written by the host. Assumes nothing.
 use Prim.Native.Nat.{ℕ, zero, suc, _+_, _-_, _≤_, _<_}
 use mathlib.Core.Path.{_≡_}
 use mathlib.Core.Bool.{Bool, true, _&&_, cond}
@@ -46,21 +48,27 @@ pub record Asked : Type 0 where
 
 abbrev pub callIn : Memory → Asked → Call
 callIn m a = record {
-  image = record { bytes = read m (a .picture) (a .pictureLength); width = a .width; height = a .height; channels = a .channels };
+  image = record {
+    bytes = read m (a .picture) (a .pictureLength);
+    width = a .width;
+    height = a .height;
+    channels = a .channels;
+  };
   given = a .given;
   first = a .first;
   rows = a .rows;
   band = read m (a .band) (a .bandLength);
 }
 
--- a call, which writes its band (the bytes of its answer are a write that follows it); the host writes bytes; the host says that the chain's picture, its rows put
--- together or copied, lies whole from an address on
+-- a call, which writes its band (the bytes of its answer are a write that follows it); the host writes bytes; the host
+-- says that the chain's picture, its rows put together or copied, lies whole from an address on
 pub data Event : Type 0 where
   Calls : Asked → Event
   Writes : ℕ → List ℕ → Event
   Lies : ℕ → Event
 
--- where the chain's picture lies whole: nowhere, between the last band of a warp in bands and the time that its rows lie together
+-- where the chain's picture lies whole: nowhere, between the last band of a warp in bands and the time that its rows
+-- lie together
 pub data Home : Type 0 where
   Nowhere : Home
   At : ℕ → Home
@@ -115,7 +123,8 @@ pub record KeptCall (w : World) (a : Asked) : Type 0 where
   pub apart : accepted (callIn (w .memory) a) ≡ true → Apart w a
   pub lent : accepted (callIn (w .memory) a) ≡ true → allRows (callIn (w .memory) a) ≡ true → LentHome w a
 
--- nobody else writes it; writing the bytes that are there already is no write. And where the host says that the picture lies, it does.
+-- nobody else writes it; writing the bytes that are there already is no write. And where the host says that the picture
+-- lies, it does.
 abbrev pub Kept : World → Event → Type 0
 Kept w (Calls a) = KeptCall w a
 Kept w (Writes from bytes) = InBuffer w (w .home) (λ (b : ℕ). written (w .memory) from bytes b ≡ w .memory b)
@@ -146,7 +155,9 @@ Claimed first s p = Near p (exactChain (exactly first) (s .warps)) (length (s .w
 -- of the chain's picture, wherever its rows are, and of what lies where it lies whole
 abbrev pub MemoryDemand : Type 0
 MemoryDemand =
-    (m : Memory) (first : Image) (from : ℕ) (events : List Event) → read m from (length (first .bytes)) ≡ first .bytes → First first
+    (m : Memory) (first : Image) (from : ℕ) (events : List Event) → read m from (length (first .bytes)) ≡ first .bytes
+    → First first
     → AllKept (born m first from) events → Each Conditions (lived (born m first from) events .chain .warps)
     → Claimed first (lived (born m first from) events .chain) (lived (born m first from) events .chain .image)
-    × ((to : ℕ) → lived (born m first from) events .home ≡ At to → Claimed first (lived (born m first from) events .chain) (lying (lived (born m first from) events) to))
+    × ((to : ℕ) → lived (born m first from) events .home ≡ At to
+    → Claimed first (lived (born m first from) events .chain) (lying (lived (born m first from) events) to))

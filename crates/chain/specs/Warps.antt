@@ -1,5 +1,6 @@
--- The warps of a list of calls, by document 01's rule, as a small machine over the list. Its state is the chain's picture, the accepted calls for fewer rows
--- made since the last warp or the start, and the warps found so far. Assumes nothing.
+-- The warps of a list of calls (specification 11.1), as a small machine over the list. Its state is the chain's
+-- picture, the accepted calls for fewer rows made since the last warp or the start, and the warps found so far. Assumes
+-- nothing.
 use Prim.Native.Nat.{ℕ, _+_, _-_, _*_}
 use mathlib.Core.Bool.{Bool, true, false, not, _&&_, _||_, cond}
 use mathlib.Core.List.{List, [], _∷_, _++_}
@@ -9,7 +10,7 @@ use lib.ListN.{take, drop}
 use Rattle.exact.specs.Loop.{upTo}
 use Rattle.distort.specs.Call.{answer, left}
 use Rattle.distort.specs.Job.{Image, Given, Call}
-use Rattle.put.specs.Joined.{joined}
+use Rattle.band.specs.Joined.{joined}
 use Rattle.distort.specs.Refusal.{refusal}
 use Rattle.distort.specs.declared.answer.Answer.{Answer}
 use Rattle.distort.specs.declared.answer.Answer.the-variants.{Accepted, Refused}
@@ -28,7 +29,8 @@ sameWhole (negsuc m) (pos n) = false
 sameWhole (negsuc m) (negsuc n) = eqb m n
 
 unfoldable pub sameImage : Image → Image → Bool
-sameImage p q = sameBytes (p .bytes) (q .bytes) && (eqb (p .width) (q .width) && (eqb (p .height) (q .height) && eqb (p .channels) (q .channels)))
+sameImage p q = sameBytes (p .bytes) (q .bytes)
+    && (eqb (p .width) (q .width) && (eqb (p .height) (q .height) && eqb (p .channels) (q .channels)))
 
 unfoldable pub sameGiven : Given → Given → Bool
 sameGiven g h =

@@ -1,5 +1,7 @@
--- No weight is above 1 in magnitude: below 1 the exact kernel is not negative, and the code's is at most 1; from 1 to 2 the exact one is at most 1/2 in magnitude, and the code's is near it.
--- Provides: `Shape` (of one kernel), `catrom-shape`, `spline-shape`; `kernel-bounded`, `weights-bounded` (`catrom-bounded`, `spline-bounded`), `product-bounded` (of two weights). Assumes nothing.
+-- No weight is above 1 in magnitude: below 1 the exact kernel is not negative, and the code's is at most 1; from 1 to 2
+-- the exact one is at most 1/2 in magnitude, and the code's is near it. Provides: `Shape` (of one kernel),
+-- `catrom-shape`, `spline-shape`; `kernel-bounded`, `weights-bounded` (`catrom-bounded`, `spline-bounded`),
+-- `product-bounded` (of two weights). Assumes nothing.
 use mathlib.Core.Path.{_≡_, refl, sym, ap, _∙_, subst}
 use mathlib.Core.List.{List, [], _∷_}
 use mathlib.Core.Logic.{⊎-elim}
@@ -21,13 +23,35 @@ use Rattle.exact.proofs.Magnitude.{abs-alike}
 use Rattle.exact.proofs.Bounds.{rounds-bound}
 use Rattle.exact.proofs.Sums.{step-fine}
 use Rattle.number.specs.Magnitude.{abs}
-use Rattle.cubic.specs.Cubic.{zero, half, one, two, six, nine, twelve, eighteen, nearPiece, farPiece, pieces, kernel, cubicWeights, catrom, spline}
+use Rattle.cubic.specs.Cubic.{
+  zero,
+  half,
+  one,
+  two,
+  six,
+  nine,
+  twelve,
+  eighteen,
+  nearPiece,
+  farPiece,
+  pieces,
+  kernel,
+  cubicWeights,
+  catrom,
+  spline,
+}
 use Rattle.cubic.specs.Mitchell.{lessF, nearF, farF, mitchell}
 use Rattle.cubic.specs.Bounded.{Bounded}
 use Rattle.cubic.proofs.Sizes.{abs-magnitude, mul-bounded}
 use Rattle.cubic.proofs.CubicExact.{true-less, mitchell-near, mitchell-far}
 use Rattle.cubic.proofs.CubicPieces.{parts}
-use Rattle.cubic.proofs.CubicKernel.{Coefficients, catrom-coefficients, spline-coefficients, same-less, kernel-close}
+use Rattle.cubic.proofs.CubicKernel.{
+  Coefficients,
+  catrom-coefficients,
+  spline-coefficients,
+  same-less,
+  kernel-close,
+}
 use Rattle.cubic.proofs.CubicShape.{catrom-nonneg, spline-nonneg, catrom-small, spline-small}
 use Rattle.cubic.proofs.CubicError.{one-more, one-less, two-less, plus-one, less-one, less-two}
 use Rattle.cubic.proofs.CubicOrder.{near-top}
@@ -40,7 +64,8 @@ pub record Shape (b c : Float) (B C : Fraction) : Type 0 where
   pub near-nonneg : (x : Fraction) → Unit01 x → frac 0 1 ≤F nearF B C x
   pub far-small : (x : Fraction) → frac 1 1 ≤F x → x ≤F frac 2 1 → absF (farF B C x) ≤F frac 3 1
 
-catrom-larger : absF (value (twelve ⊖ nine ⊗ zero ⊖ six ⊗ half)) ≤F absF (value (neg eighteen ⊕ twelve ⊗ zero ⊕ six ⊗ half))
+catrom-larger : absF (value (twelve ⊖ nine ⊗ zero ⊖ six ⊗ half)) ≤F absF
+    (value (neg eighteen ⊕ twelve ⊗ zero ⊕ six ⊗ half))
 unfolding add sub sum mul neg round ofBits absF
 catrom-larger = record { le = lit≤ tt }
 
@@ -63,7 +88,8 @@ spline-shape = record {
 }
 
 -- ---- the kernel
-module _ {b c : Float} {B C : Fraction} (K : Coefficients b c B C) (S : Shape b c B C) (x : Float) (t : T (finite x)) (h : absF (value x) ≤F frac 2 1) where
+module _ {b c : Float} {B C : Fraction} (K : Coefficients b c B C) (S : Shape b c B C) (x : Float) (t : T (finite x))
+    (h : absF (value x) ≤F frac 2 1) where
   abbrev w : Float
   w = kernel b c x
 
@@ -78,7 +104,9 @@ module _ {b c : Float} {B C : Fraction} (K : Coefficients b c B C) (S : Shape b 
 
   inner : size <F frac 1 1 → w ≡ nearPiece b c (abs x) ⊘ six
   unfolding pieces
-  inner l = ap (λ (s : Bool). cond s (nearPiece b c (abs x)) (cond (lt (abs x) two) (farPiece b c (abs x)) zero) ⊘ six) (same-less x t one (unfold ofBits in tt) (frac 1 1) (unfold ofBits in record { eq = refl }) ∙ yes (lessF size (frac 1 1)) (true-less size (frac 1 1) l))
+  inner l = ap (λ (s : Bool). cond s (nearPiece b c (abs x)) (cond (lt (abs x) two) (farPiece b c (abs x)) zero) ⊘ six)
+      (same-less x t one (unfold ofBits in tt) (frac 1 1) (unfold ofBits in record { eq = refl })
+      ∙ yes (lessF size (frac 1 1)) (true-less size (frac 1 1) l))
     where
       yes : (s : Bool) → T s → s ≡ true
       yes true k = refl
@@ -90,7 +118,8 @@ module _ {b c : Float} {B C : Fraction} (K : Coefficients b c B C) (S : Shape b 
   -- a number that is near one that is not negative
   above : (v X e : Fraction) → Within v X e → frac 0 1 ≤F X → negF v ≤F e
   above v X e k l =
-      common (v ∷ X ∷ e ∷ []) (λ D D0 ((_, _, Y), ((_, _, Z), ((_, _, E), _))). let m = within-at D D0 Y Z E k in let n = le-at D D0 (at-zero D) Z l in at-le D D0 (at-neg Y) E (omega arith))
+      common (v ∷ X ∷ e ∷ []) (λ D D0 ((_, _, Y), ((_, _, Z), ((_, _, E), _))). let m = within-at D D0 Y Z E k in
+      let n = le-at D D0 (at-zero D) Z l in at-le D D0 (at-neg Y) E (omega arith))
 
   below-one : size <F frac 1 1 → absF (value w) ≤F frac 1 1
   below-one l =
@@ -98,18 +127,24 @@ module _ {b c : Float} {B C : Fraction} (K : Coefficients b c B C) (S : Shape b 
       let u : Unit01 size = (size-nonneg, lt-le size (frac 1 1) l) in
       abs-close (value w) (frac 1 1)
       (subst (λ (z : Float). value z ≤F frac 1 1) (sym (inner l))
-      (near-top (twelve ⊖ nine ⊗ b ⊖ six ⊗ c) (neg eighteen ⊕ twelve ⊗ b ⊕ six ⊗ c) (six ⊖ two ⊗ b) (abs x) (sizes (K .near-3)) (sizes (K .near-2)) (sizes (K .near-0)) (m .0) (unit-same (back (m .1)) u) (S .larger) (S .down) (S .last)
+      (near-top (twelve ⊖ nine ⊗ b ⊖ six ⊗ c) (neg eighteen ⊕ twelve ⊗ b ⊕ six ⊗ c) (six ⊖ two ⊗ b) (abs x)
+      (sizes (K .near-3)) (sizes (K .near-2)) (sizes (K .near-0)) (m .0) (unit-same (back (m .1)) u) (S .larger)
+      (S .down) (S .last)
       (subst (λ (z : Float). T (finite z)) (inner l) (close .number))))
       (le-trans (negF (value w)) (parts 41) (frac 1 1)
-      (above (value w) (mitchell B C (value x)) (parts 41) (close .near) (le-same (eq-refl (frac 0 1)) (back (mitchell-near B C (value x) (u .1))) (nonneg-mul (record { le = lit≤ tt }) (S .near-nonneg size u))))
+      (above (value w) (mitchell B C (value x)) (parts 41) (close .near)
+      (le-same (eq-refl (frac 0 1)) (back (mitchell-near B C (value x) (u .1)))
+      (nonneg-mul (record { le = lit≤ tt }) (S .near-nonneg size u))))
       (record { le = lit≤ tt }))
 
   from-one : frac 1 1 ≤F size → absF (value w) ≤F frac 1 1
   from-one l =
       le-trans (absF (value w)) (frac 1 6 *F frac 3 1 +F parts 41) (frac 1 1)
       (abs-near (value w) (mitchell B C (value x)) (parts 41) (frac 1 6 *F frac 3 1) (close .near)
-      (le-trans (absF (mitchell B C (value x))) (absF (frac 1 6 *F farF B C size)) (frac 1 6 *F frac 3 1) (abs-alike (mitchell B C (value x)) (frac 1 6 *F farF B C size) (mitchell-far B C (value x) l h))
-      (abs-mul (frac 1 6) (farF B C size) (frac 1 6) (frac 3 1) (abs-self (frac 1 6) (record { le = lit≤ tt })) (S .far-small size l h))))
+      (le-trans (absF (mitchell B C (value x))) (absF (frac 1 6 *F farF B C size)) (frac 1 6 *F frac 3 1)
+      (abs-alike (mitchell B C (value x)) (frac 1 6 *F farF B C size) (mitchell-far B C (value x) l h))
+      (abs-mul (frac 1 6) (farF B C size) (frac 1 6) (frac 3 1) (abs-self (frac 1 6) (record { le = lit≤ tt }))
+      (S .far-small size l h))))
       (unfold _+F_ _*F_ in record { le = lit≤ tt })
 
   pub kernel-bounded : Bounded (frac 1 1) w
@@ -120,7 +155,8 @@ abbrev pub BoundedEach : List Float → Type 0
 BoundedEach [] = Unit {0}
 BoundedEach (w ∷ ws) = Bounded (frac 1 1) w × BoundedEach ws
 
-pub weights-bounded : {b c : Float} {B C : Fraction} → Coefficients b c B C → Shape b c B C → (t : Float) → Unit32 t → BoundedEach (cubicWeights t b c)
+pub weights-bounded : {b c : Float} {B C : Fraction} → Coefficients b c B C → Shape b c B C → (t : Float) → Unit32 t
+    → BoundedEach (cubicWeights t b c)
 weights-bounded K S t u =
     let p = rounds-bound (one-more t (u .number)) 150 2 1 1 (2 ^ 24) tt (plus-one (value t) (u .unit) .1) in
     let q = rounds-bound (one-less t (u .number)) 149 1 1 1 (2 ^ 25) tt (less-one (value t) (u .unit)) in
@@ -128,7 +164,10 @@ weights-bounded K S t u =
       kernel-bounded K S (t ⊕ one) (p .number) (p .small),
       (
         kernel-bounded K S t (u .number) (two-at-least t (abs-unit (value t) (u .unit))),
-        (kernel-bounded K S (t ⊖ one) (q .number) (two-at-least (t ⊖ one) (q .small)), (kernel-bounded K S (t ⊖ two) (r .number) (r .small), tt)),
+        (
+          kernel-bounded K S (t ⊖ one) (q .number) (two-at-least (t ⊖ one) (q .small)),
+          (kernel-bounded K S (t ⊖ two) (r .number) (r .small), tt),
+        ),
       ),
     )
   where
@@ -143,4 +182,5 @@ spline-bounded t u = weights-bounded spline-coefficients spline-shape t u
 
 -- a product of two weights, as the sixteen taps have, is no larger
 pub product-bounded : (v w : Float) → Bounded (frac 1 1) v → Bounded (frac 1 1) w → Bounded (frac 1 1) (v ⊗ w)
-product-bounded v w p q = mul-bounded (step-fine binary32 149 1 1 1 (2 ^ 25) tt) p q (unfold _*F_ in record { le = lit≤ tt })
+product-bounded v w p q =
+    mul-bounded (step-fine binary32 149 1 1 1 (2 ^ 25) tt) p q (unfold _*F_ in record { le = lit≤ tt })

@@ -5,7 +5,19 @@ use mathlib.Core.List.{List, [], _∷_}
 use lib.Ieee.{Float, lt}
 use Rattle.exact.specs.Single.{_⊕_, _⊖_, _⊘_}
 use Rattle.number.specs.Magnitude.{abs}
-use Rattle.cubic.specs.Cubic.{zero, one, two, six, nearPiece, farPiece, pieces, outer, between, middle, cubicWeights}
+use Rattle.cubic.specs.Cubic.{
+  zero,
+  one,
+  two,
+  six,
+  nearPiece,
+  farPiece,
+  pieces,
+  outer,
+  between,
+  middle,
+  cubicWeights,
+}
 
 both : (a b : Bool) → (a && b) ≡ true → (a ≡ true) × (b ≡ true)
 both true b h = (refl, h)
@@ -24,7 +36,8 @@ far-chosen b c x h = go (lt x one) (lt x two) h
     go false true e = refl
     go false false e = absurd (true≢false (sym e))
 
-pub middle-weights : (b c t p q r s : Float) (u : Bool) {w : List Float} → p ≡ abs (t ⊕ one) → q ≡ abs t → r ≡ abs (t ⊖ one) → s ≡ abs (t ⊖ two) → u ≡ between p q r s → u ≡ true
+pub middle-weights : (b c t p q r s : Float) (u : Bool) {w : List Float} → p ≡ abs (t ⊕ one) → q ≡ abs t
+    → r ≡ abs (t ⊖ one) → s ≡ abs (t ⊖ two) → u ≡ between p q r s → u ≡ true
     → w ≡ middle b c p q r s → w ≡ cubicWeights t b c
 unfolding between
 middle-weights b c t p q r s u ep eq er es e h g =
@@ -32,5 +45,7 @@ middle-weights b c t p q r s u ep eq er es e h g =
     let m = both (outer p) (lt q one) (l .0) in
     let n = both (lt r one) (outer s) (l .1) in
     g
-    ∙ sym (λ i. (far-chosen b c p (m .0) i ⊘ six) ∷ (near-chosen b c q (m .1) i ⊘ six) ∷ (near-chosen b c r (n .0) i ⊘ six) ∷ (far-chosen b c s (n .1) i ⊘ six) ∷ [])
-    ∙ (λ i. (pieces b c (ep i) ⊘ six) ∷ (pieces b c (eq i) ⊘ six) ∷ (pieces b c (er i) ⊘ six) ∷ (pieces b c (es i) ⊘ six) ∷ [])
+    ∙ sym (λ i. (far-chosen b c p (m .0) i ⊘ six) ∷ (near-chosen b c q (m .1) i ⊘ six)
+    ∷ (near-chosen b c r (n .0) i ⊘ six) ∷ (far-chosen b c s (n .1) i ⊘ six) ∷ [])
+    ∙ (λ i. (pieces b c (ep i) ⊘ six) ∷ (pieces b c (eq i) ⊘ six) ∷ (pieces b c (er i) ⊘ six)
+    ∷ (pieces b c (es i) ⊘ six) ∷ [])

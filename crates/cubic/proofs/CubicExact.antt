@@ -1,5 +1,6 @@
--- The exact kernel: its test is the order of fractions; its pieces meet at 1 and the outer one ends in 0 at 2, so that each piece may be used with both ends of its range.
--- Provides: `less-true`, `less-not` (the test), `alike-near`, `alike-far` (equal arguments), `mitchell-near` (up to 1), `mitchell-far` (from 1 to 2). Assumes nothing.
+-- The exact kernel: its test is the order of fractions; its pieces meet at 1 and the outer one ends in 0 at 2, so that
+-- each piece may be used with both ends of its range. Provides: `less-true`, `less-not` (the test), `alike-near`,
+-- `alike-far` (equal arguments), `mitchell-near` (up to 1), `mitchell-far` (from 1 to 2). Assumes nothing.
 use mathlib.Core.Path.{_≡_, refl, subst}
 use mathlib.Core.List.{[], _∷_}
 use mathlib.Core.Bool.{Bool, true, false, not, cond}
@@ -11,7 +12,22 @@ use Rattle.exact.specs.Fraction.{Fraction, over, frac, _≤F_, _<F_, _≈_, _+F
 use Rattle.exact.proofs.Scale.{At, at-eq, at-more, at-neg, at-add, at-sub, at-mul, common}
 use Rattle.exact.proofs.Near.{le-antisym, add-same}
 use Rattle.exact.proofs.Products.{eq-refl, _⨟_, back, at-zero, at-one, mul-same, lt-le-trans, le-lt-trans}
-use Rattle.cubic.specs.Mitchell.{lessF, times, withoutLinearF, withLinearF, near3, near2, near0, nearF, far3, far2, far1, far0, farF, mitchell}
+use Rattle.cubic.specs.Mitchell.{
+  lessF,
+  times,
+  withoutLinearF,
+  withLinearF,
+  near3,
+  near2,
+  near0,
+  nearF,
+  far3,
+  far2,
+  far1,
+  far0,
+  farF,
+  mitchell,
+}
 
 -- ---- the test
 pub less-true : (x y : Fraction) → T (lessF x y) → x <F y
@@ -36,14 +52,16 @@ cube-same h = mul-same (square-same h) h
 pub alike-near : (a b d : Fraction) {x y : Fraction} → x ≈ y → withoutLinearF a b d x ≈ withoutLinearF a b d y
 alike-near a b d {x} {y} h =
     add-same (a *F (x *F x *F x) +F b *F (x *F x)) (a *F (y *F y *F y) +F b *F (y *F y)) d d
-    (add-same (a *F (x *F x *F x)) (a *F (y *F y *F y)) (b *F (x *F x)) (b *F (y *F y)) (mul-same (eq-refl a) (cube-same h)) (mul-same (eq-refl b) (square-same h)))
+    (add-same (a *F (x *F x *F x)) (a *F (y *F y *F y)) (b *F (x *F x)) (b *F (y *F y))
+    (mul-same (eq-refl a) (cube-same h)) (mul-same (eq-refl b) (square-same h)))
     (eq-refl d)
 
 pub alike-far : (a b c d : Fraction) {x y : Fraction} → x ≈ y → withLinearF a b c d x ≈ withLinearF a b c d y
 alike-far a b c d {x} {y} h =
     add-same (a *F (x *F x *F x) +F b *F (x *F x) +F c *F x) (a *F (y *F y *F y) +F b *F (y *F y) +F c *F y) d d
     (add-same (a *F (x *F x *F x) +F b *F (x *F x)) (a *F (y *F y *F y) +F b *F (y *F y)) (c *F x) (c *F y)
-    (add-same (a *F (x *F x *F x)) (a *F (y *F y *F y)) (b *F (x *F x)) (b *F (y *F y)) (mul-same (eq-refl a) (cube-same h)) (mul-same (eq-refl b) (square-same h)))
+    (add-same (a *F (x *F x *F x)) (a *F (y *F y *F y)) (b *F (x *F x)) (b *F (y *F y))
+    (mul-same (eq-refl a) (cube-same h)) (mul-same (eq-refl b) (square-same h)))
     (mul-same (eq-refl c) h))
     (eq-refl d)
 
@@ -55,11 +73,13 @@ at-count D n = record { at = omega arith }
 at-times : {D : ℕ} (n : ℕ) {x : Fraction} {p m : ℕ} → At D x p m → At D (times n x) (n * p) (n * m)
 at-times {D} n {x} {p} {m} X = record { at = go (at-mul (at-count 1 n) X .at) }
   where
-    go : times n x .plus * (1 * D) + (n * 1 * m + 0 * p) * over (times n x) ≡ (n * 1 * p + 0 * m) * over (times n x) + times n x .minus * (1 * D)
+    go : times n x .plus * (1 * D) + (n * 1 * m + 0 * p) * over (times n x) ≡ (n * 1 * p + 0 * m) * over (times n x) +
+        times n x .minus * (1 * D)
         → times n x .plus * D + n * m * over (times n x) ≡ n * p * over (times n x) + times n x .minus * D
     go h = flat (times n x .plus) (times n x .minus) (over (times n x)) D n p m h
       where
-        flat : (a b o D n p m : ℕ) → a * (1 * D) + (n * 1 * m + 0 * p) * o ≡ (n * 1 * p + 0 * m) * o + b * (1 * D) → a * D + n * m * o ≡ n * p * o + b * D
+        flat : (a b o D n p m : ℕ) → a * (1 * D) + (n * 1 * m + 0 * p) * o ≡ (n * 1 * p + 0 * m) * o + b * (1 * D)
+            → a * D + n * m * o ≡ n * p * o + b * D
         flat a b o D n p m h = omega arith
 
 module _ (B C : Fraction) where
@@ -77,7 +97,8 @@ module _ (B C : Fraction) where
       let i = at-one 1 in
       at-eq (D * 1) (mul-pos D0 (zero-lt-suc 0))
       (at-add
-      (at-add (at-mul (at-sub (at-sub (at-count D 12) (at-times 9 X)) (at-times 6 Y)) (at-mul (at-mul i i) i)) (at-mul (at-add (at-add (at-neg (at-count D 18)) (at-times 12 X)) (at-times 6 Y)) (at-mul i i)))
+      (at-add (at-mul (at-sub (at-sub (at-count D 12) (at-times 9 X)) (at-times 6 Y)) (at-mul (at-mul i i) i))
+      (at-mul (at-add (at-add (at-neg (at-count D 18)) (at-times 12 X)) (at-times 6 Y)) (at-mul i i)))
       (at-more D 1 (at-sub (at-count D 6) (at-times 2 X))))
       (at-more D 1 X) (omega arith))
 
@@ -89,7 +110,8 @@ module _ (B C : Fraction) where
       at-eq (D * 1) (mul-pos D0 (zero-lt-suc 0))
       (at-add
       (at-add
-      (at-add (at-mul (at-sub (at-neg X) (at-times 6 Y)) (at-mul (at-mul i i) i)) (at-mul (at-add (at-times 6 X) (at-times 30 Y)) (at-mul i i)))
+      (at-add (at-mul (at-sub (at-neg X) (at-times 6 Y)) (at-mul (at-mul i i) i))
+      (at-mul (at-add (at-times 6 X) (at-times 30 Y)) (at-mul i i)))
       (at-mul (at-sub (at-neg (at-times 12 X)) (at-times 48 Y)) i))
       (at-more D 1 (at-add (at-times 8 X) (at-times 24 Y))))
       (at-more D 1 X) (omega arith))
@@ -102,7 +124,8 @@ module _ (B C : Fraction) where
       at-eq (D * 1) (mul-pos D0 (zero-lt-suc 0))
       (at-add
       (at-add
-      (at-add (at-mul (at-sub (at-neg X) (at-times 6 Y)) (at-mul (at-mul i i) i)) (at-mul (at-add (at-times 6 X) (at-times 30 Y)) (at-mul i i)))
+      (at-add (at-mul (at-sub (at-neg X) (at-times 6 Y)) (at-mul (at-mul i i) i))
+      (at-mul (at-add (at-times 6 X) (at-times 30 Y)) (at-mul i i)))
       (at-mul (at-sub (at-neg (at-times 12 X)) (at-times 48 Y)) i))
       (at-more D 1 (at-add (at-times 8 X) (at-times 24 Y))))
       (at-zero (D * 1)) (omega arith))
@@ -126,9 +149,11 @@ module _ (B C : Fraction) where
         go true k = eq-refl (sixth (nearF B C ax))
         go false k =
             let e : ax ≈ one = le-antisym ax one h (k tt) in
-            subst (λ (t : Bool). pick false t ≈ sixth (nearF B C ax)) (yes (lessF ax two) (true-less ax two (le-lt-trans h (record { lt = lit< tt }))))
+            subst (λ (t : Bool). pick false t ≈ sixth (nearF B C ax))
+            (yes (lessF ax two) (true-less ax two (le-lt-trans h (record { lt = lit< tt }))))
             (mul-same (eq-refl (frac 1 6))
-            (alike-far (far3 B C) (far2 B C) (far1 B C) (far0 B C) e ⨟ far-one ⨟ back near-one ⨟ back (alike-near (near3 B C) (near2 B C) (near0 B) e)))
+            (alike-far (far3 B C) (far2 B C) (far1 B C) (far0 B C) e ⨟ far-one ⨟ back near-one ⨟ back
+            (alike-near (near3 B C) (near2 B C) (near0 B) e)))
           where
             yes : (t : Bool) → T t → true ≡ t
             yes true h = refl
@@ -140,7 +165,8 @@ module _ (B C : Fraction) where
       where
         last : (t : Bool) → (T (not t) → two ≤F ax) → pick false t ≈ sixth (farF B C ax)
         last true k = eq-refl (sixth (farF B C ax))
-        last false k = mul-same (eq-refl (frac 1 6)) (back (alike-far (far3 B C) (far2 B C) (far1 B C) (far0 B C) (le-antisym ax two l (k tt)) ⨟ far-two))
+        last false k = mul-same (eq-refl (frac 1 6))
+            (back (alike-far (far3 B C) (far2 B C) (far1 B C) (far0 B C) (le-antisym ax two l (k tt)) ⨟ far-two))
 
         go : (s : Bool) → (T s → ax <F one) → pick s (lessF ax two) ≈ sixth (farF B C ax)
         go true k = absurd (lt-irrefl _ (lt-le-trans (k tt) h .lt))

@@ -13,12 +13,14 @@ unfolding pieces abs lt add sub sum mul div neg round ofBits
 catrom-at-0 = refl
 
 -- -0.0625, 0.5625
-pub catrom-at-half : catrom half ≡ ofBits binary32 0xbd80_0000 ∷ ofBits binary32 0x3f10_0000 ∷ ofBits binary32 0x3f10_0000 ∷ ofBits binary32 0xbd80_0000 ∷ []
+pub catrom-at-half : catrom half ≡ ofBits binary32 0xbd80_0000 ∷ ofBits binary32 0x3f10_0000
+    ∷ ofBits binary32 0x3f10_0000 ∷ ofBits binary32 0xbd80_0000 ∷ []
 unfolding pieces abs lt add sub sum mul div neg round ofBits
 catrom-at-half = refl
 
 -- 1/6, 2/3, 1/6, 0 to the nearest
-pub spline-at-0 : spline zero ≡ ofBits binary32 0x3e2a_aaab ∷ ofBits binary32 0x3f2a_aaab ∷ ofBits binary32 0x3e2a_aaab ∷ zero ∷ []
+pub spline-at-0 : spline zero ≡ ofBits binary32 0x3e2a_aaab ∷ ofBits binary32 0x3f2a_aaab ∷ ofBits binary32 0x3e2a_aaab
+    ∷ zero ∷ []
 unfolding pieces abs lt add sub sum mul div neg round ofBits
 spline-at-0 = refl
 

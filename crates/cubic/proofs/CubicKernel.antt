@@ -1,7 +1,7 @@
--- The code's kernel at a float x of at most 2 in magnitude: its tests are the exact ones, since the order of floats is that of their values, so both sides take the same piece,
--- and the pieces' errors are divided by 6.
--- Provides: `Coefficients` (of one kernel: closed numbers), `catrom-coefficients`, `spline-coefficients`; `same-less` (the tests), `kernel-close` (within 41 parts up to 2).
--- Assumes nothing.
+-- The code's kernel at a float x of at most 2 in magnitude: its tests are the exact ones, since the order of floats is
+-- that of their values, so both sides take the same piece, and the pieces' errors are divided by 6. Provides:
+-- `Coefficients` (of one kernel: closed numbers), `catrom-coefficients`, `spline-coefficients`; `same-less` (the
+-- tests), `kernel-close` (within 41 parts up to 2). Assumes nothing.
 use mathlib.Core.Path.{_≡_, refl, sym, subst}
 use mathlib.Core.Bool.{Bool, true, false, cond}
 use Prim.Native.Nat.{_^_}
@@ -20,7 +20,24 @@ use Rattle.exact.proofs.Signed.{lt-value}
 use Rattle.exact.proofs.Steps.{close-more, close-along}
 use Rattle.exact.proofs.Sums.{step-fine}
 use Rattle.number.specs.Magnitude.{abs}
-use Rattle.cubic.specs.Cubic.{zero, half, one, two, six, eight, nine, twelve, eighteen, twentyFour, thirty, fortyEight, nearPiece, farPiece, pieces, kernel}
+use Rattle.cubic.specs.Cubic.{
+  zero,
+  half,
+  one,
+  two,
+  six,
+  eight,
+  nine,
+  twelve,
+  eighteen,
+  twentyFour,
+  thirty,
+  fortyEight,
+  nearPiece,
+  farPiece,
+  pieces,
+  kernel,
+}
 use Rattle.cubic.specs.Mitchell.{lessF, near3, near2, near0, nearF, far3, far2, far1, far0, farF, mitchell}
 use Rattle.cubic.proofs.Sizes.{abs-magnitude}
 use Rattle.cubic.proofs.CubicExact.{less-true, true-less, alike-near, alike-far}
@@ -77,14 +94,19 @@ module _ (x : Float) (t : T (finite x)) where
     size = absF (value x)
 
     own-size : absF (value (abs x)) ≤F size
-    own-size = let m = abs-magnitude x t in le-trans (absF (value (abs x))) (absF size) size (abs-alike (value (abs x)) size (m .1)) (abs-self size (abs-nonneg (value x) size (le-refl size size)))
+    own-size = let m = abs-magnitude x t in
+        le-trans (absF (value (abs x))) (absF size) size (abs-alike (value (abs x)) size (m .1))
+        (abs-self size (abs-nonneg (value x) size (le-refl size size)))
 
-    near-sixth : size ≤F frac 1 1 → Close (nearPiece b c (abs x) ⊘ six) (frac 1 6 *F nearF B C size) (parts 41) (frac 128 1)
+    near-sixth : size ≤F frac 1 1
+        → Close (nearPiece b c (abs x) ⊘ six) (frac 1 6 *F nearF B C size) (parts 41) (frac 128 1)
     near-sixth h =
         let m = abs-magnitude x t in
         close-more error (record { le = lit≤ tt })
         (close-along (mul-same (eq-refl (frac 1 6)) (alike-near (near3 B C) (near2 B C) (near0 B) (m .1)))
-        (sixth-close (step-fine binary32 153 16 1 2 (2 ^ 22) tt) (near-close (abs x) (m .0) (K .near-3) (K .near-2) (K .near-0) (le-trans (absF (value (abs x))) size (frac 1 1) own-size h)) room))
+        (sixth-close (step-fine binary32 153 16 1 2 (2 ^ 22) tt)
+        (near-close (abs x) (m .0) (K .near-3) (K .near-2) (K .near-0)
+        (le-trans (absF (value (abs x))) size (frac 1 1) own-size h)) room))
       where
         room : frac 1 6 *F frac 64 1 ≤F frac 16 1
         room = unfold _*F_ in record { le = lit≤ tt }
@@ -92,12 +114,15 @@ module _ (x : Float) (t : T (finite x)) where
         error : parts 2 +F frac 1 6 *F parts 22 ≤F parts 41
         error = unfold _+F_ _*F_ in record { le = lit≤ tt }
 
-    far-sixth : size ≤F frac 2 1 → Close (farPiece b c (abs x) ⊘ six) (frac 1 6 *F farF B C size) (parts 41) (frac 128 1)
+    far-sixth : size ≤F frac 2 1
+        → Close (farPiece b c (abs x) ⊘ six) (frac 1 6 *F farF B C size) (parts 41) (frac 128 1)
     far-sixth h =
         let m = abs-magnitude x t in
         close-more error (le-refl (frac 128 1) (frac 128 1))
         (close-along (mul-same (eq-refl (frac 1 6)) (alike-far (far3 B C) (far2 B C) (far1 B C) (far0 B C) (m .1)))
-        (sixth-close (step-fine binary32 156 128 1 16 (2 ^ 22) tt) (far-close (abs x) (m .0) (K .far-3) (K .far-2) (K .far-1) (K .far-0) (le-trans (absF (value (abs x))) size (frac 2 1) own-size h)) room))
+        (sixth-close (step-fine binary32 156 128 1 16 (2 ^ 22) tt)
+        (far-close (abs x) (m .0) (K .far-3) (K .far-2) (K .far-1) (K .far-0)
+        (le-trans (absF (value (abs x))) size (frac 2 1) own-size h)) room))
       where
         room : frac 1 6 *F frac 512 1 ≤F frac 128 1
         room = unfold _*F_ in record { le = lit≤ tt }
@@ -107,10 +132,12 @@ module _ (x : Float) (t : T (finite x)) where
 
     none-sixth : Close (zero ⊘ six) (frac 1 6 *F frac 0 1) (parts 41) (frac 128 1)
     none-sixth =
-        close-more error (le-refl (frac 128 1) (frac 128 1)) (sixth-close (step-fine binary32 156 128 1 16 (2 ^ 22) tt) nought room)
+        close-more error (le-refl (frac 128 1) (frac 128 1))
+        (sixth-close (step-fine binary32 156 128 1 16 (2 ^ 22) tt) nought room)
       where
         nought : Close zero (frac 0 1) (frac 0 1) (frac 0 1)
-        nought = unfold ofBits absF distance _-F_ in record { number = tt; near = record { le = lit≤ tt }; small = record { le = lit≤ tt } }
+        nought = unfold ofBits absF distance _-F_ in
+            record { number = tt; near = record { le = lit≤ tt }; small = record { le = lit≤ tt } }
 
         room : frac 1 6 *F frac 0 1 ≤F frac 128 1
         room = unfold _*F_ in record { le = lit≤ tt }
@@ -121,8 +148,12 @@ module _ (x : Float) (t : T (finite x)) where
     pub kernel-close : size ≤F frac 2 1 → Close (kernel b c x) (mitchell B C (value x)) (parts 41) (frac 128 1)
     unfolding pieces mitchell
     kernel-close h =
-        subst (λ (s : Bool). Close (cond s (nearPiece b c (abs x)) (cond (lt (abs x) two) (farPiece b c (abs x)) zero) ⊘ six) (mitchell B C (value x)) (parts 41) (frac 128 1)) (sym below-one)
-        (subst (λ (s : Bool). Close (cond (lessF size (frac 1 1)) (nearPiece b c (abs x)) (cond s (farPiece b c (abs x)) zero) ⊘ six) (mitchell B C (value x)) (parts 41) (frac 128 1)) (sym below-two)
+        subst (λ (s : Bool). Close
+        (cond s (nearPiece b c (abs x)) (cond (lt (abs x) two) (farPiece b c (abs x)) zero) ⊘ six)
+        (mitchell B C (value x)) (parts 41) (frac 128 1)) (sym below-one)
+        (subst (λ (s : Bool). Close
+        (cond (lessF size (frac 1 1)) (nearPiece b c (abs x)) (cond s (farPiece b c (abs x)) zero) ⊘ six)
+        (mitchell B C (value x)) (parts 41) (frac 128 1)) (sym below-two)
         (go (lessF size (frac 1 1)) (lessF size (frac 2 1)) (less-true size (frac 1 1))))
       where
         below-one : lt (abs x) one ≡ lessF size (frac 1 1)
@@ -132,7 +163,8 @@ module _ (x : Float) (t : T (finite x)) where
         below-two = same-less two (unfold ofBits in tt) (frac 2 1) (unfold ofBits in record { eq = refl })
 
         go : (s u : Bool) → (T s → size <F frac 1 1)
-            → Close (cond s (nearPiece b c (abs x)) (cond u (farPiece b c (abs x)) zero) ⊘ six) (frac 1 6 *F cond s (nearF B C size) (cond u (farF B C size) (frac 0 1))) (parts 41) (frac 128 1)
+            → Close (cond s (nearPiece b c (abs x)) (cond u (farPiece b c (abs x)) zero) ⊘ six)
+            (frac 1 6 *F cond s (nearF B C size) (cond u (farF B C size) (frac 0 1))) (parts 41) (frac 128 1)
         go true u k = near-sixth (lt-le size (frac 1 1) (k tt))
         go false true k = far-sixth h
         go false false k = none-sixth

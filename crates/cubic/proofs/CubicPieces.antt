@@ -1,6 +1,7 @@
--- The rounding errors of the two pieces at a magnitude ax: each operation costs half an ulp of the power of two above its result, and a product carries the error of its first
--- factor times ax. Errors are counted in parts of 2 ^ -22.
--- Provides: `parts`, `near-close` (22 parts for ax up to 1), `far-close` (148 parts for ax up to 2), `sixth-close` (the division by 6). Assumes nothing.
+-- The rounding errors of the two pieces at a magnitude ax: each operation costs half an ulp of the power of two above
+-- its result, and a product carries the error of its first factor times ax. Errors are counted in parts of 2 ^ -22.
+-- Provides: `parts`, `near-close` (22 parts for ax up to 1), `far-close` (148 parts for ax up to 2), `sixth-close` (the
+-- division by 6). Assumes nothing.
 use mathlib.Core.Path.{refl}
 use Prim.Native.Nat.{ℕ, _^_}
 use lib.Dec.{T, lit≤, lit<}
@@ -47,15 +48,18 @@ abbrev step-512 : Step binary32 (parts 64) (frac 512 1)
 step-512 = step-fine binary32 158 512 1 64 (2 ^ 22) tt
 
 -- ---- a product with a float of at most d in size
-mul-by : {h B : Fraction} → Step binary32 h B → {x : Float} {X e b : Fraction} → Close x X e b → (y : Float) → T (finite y) → (d : Fraction) → absF (value y) ≤F d → b *F d ≤F B
+mul-by : {h B : Fraction} → Step binary32 h B → {x : Float} {X e b : Fraction} → Close x X e b → (y : Float)
+    → T (finite y) → (d : Fraction) → absF (value y) ≤F d → b *F d ≤F B
     → (e' : Fraction) → h +F e *F d ≤F e' → Close (x ⊗ y) (X *F value y) e' B
 mul-by {h} {B} step {x} {X} {e} {b} c y t d k room e' l =
     close-more l (le-refl B B)
     (close-move
-    (step .rounds (mul-rounds binary32 x y (c .number) t) (le-trans (absF (value x *F value y)) (b *F d) B (abs-mul (value x) (value y) b d (c .small) k) room))
+    (step .rounds (mul-rounds binary32 x y (c .number) t)
+    (le-trans (absF (value x *F value y)) (b *F d) B (abs-mul (value x) (value y) b d (c .small) k) room))
     (within-mul-by (value x) X e (value y) d k (c .near)))
 
-add-by : {h B : Fraction} → Step binary32 h B → {x y : Float} {X Y e g b d : Fraction} → Close x X e b → Close y Y g d → b +F d ≤F B → (e' : Fraction) → h +F (e +F g) ≤F e'
+add-by : {h B : Fraction} → Step binary32 h B → {x y : Float} {X Y e g b d : Fraction} → Close x X e b → Close y Y g d
+    → b +F d ≤F B → (e' : Fraction) → h +F (e +F g) ≤F e'
     → Close (x ⊕ y) (X +F Y) e' B
 add-by {h} {B} step c c' room e' l = close-more l (le-refl B B) (add-near step c c' room)
 
@@ -70,7 +74,8 @@ module _ (ax : Float) (t : T (finite ax)) where
   abbrev X : Fraction
   X = value ax
 
-  pub near-close : {a b d : Float} {A B D : Fraction} → Close a A (frac 0 1) (frac 16 1) → Close b B (frac 0 1) (frac 16 1) → Close d D (frac 0 1) (frac 8 1) → absF X ≤F frac 1 1
+  pub near-close : {a b d : Float} {A B D : Fraction} → Close a A (frac 0 1) (frac 16 1)
+      → Close b B (frac 0 1) (frac 16 1) → Close d D (frac 0 1) (frac 8 1) → absF X ≤F frac 1 1
       → Close (withoutLinear a b d ax) (withoutLinearF A B D X) (parts 22) (frac 64 1)
   near-close {a} {b} {d} {A} {B} {D} p q r k =
       let one = frac 1 1 in
@@ -82,26 +87,38 @@ module _ (ax : Float) (t : T (finite ax)) where
       let q2 = mul-by step-16 q1 ax t one k room (parts 4) (unfold _+F_ _*F_ in record { le = lit≤ tt }) in
       close-along
       (add-same (A *F X *F X *F X +F B *F X *F X) (A *F (X *F X *F X) +F B *F (X *F X)) D D
-      (add-same (A *F X *F X *F X) (A *F (X *F X *F X)) (B *F X *F X) (B *F (X *F X)) (cubed A X) (squared B X)) (eq-refl D))
-      (add-by step-64 (add-by step-32 p3 q2 (unfold _+F_ in record { le = lit≤ tt }) (parts 14) (unfold _+F_ in record { le = lit≤ tt })) r (unfold _+F_ in record { le = lit≤ tt }) (parts 22) (unfold _+F_ in record { le = lit≤ tt }))
+      (add-same (A *F X *F X *F X) (A *F (X *F X *F X)) (B *F X *F X) (B *F (X *F X)) (cubed A X) (squared B X))
+      (eq-refl D))
+      (add-by step-64 (add-by step-32 p3 q2 (unfold _+F_ in record { le = lit≤ tt }) (parts 14) (unfold _+F_ in
+      record { le = lit≤ tt })) r (unfold _+F_ in record { le = lit≤ tt }) (parts 22) (unfold _+F_ in
+      record { le = lit≤ tt }))
 
-  pub far-close : {a b c d : Float} {A B C D : Fraction} → Close a A (frac 0 1) (frac 4 1) → Close b B (frac 0 1) (frac 16 1) → Close c C (frac 0 1) (frac 32 1) → Close d D (frac 0 1) (frac 16 1)
+  pub far-close : {a b c d : Float} {A B C D : Fraction} → Close a A (frac 0 1) (frac 4 1)
+      → Close b B (frac 0 1) (frac 16 1) → Close c C (frac 0 1) (frac 32 1) → Close d D (frac 0 1) (frac 16 1)
       → absF X ≤F frac 2 1 → Close (withLinear a b c d ax) (withLinearF A B C D X) (parts 148) (frac 512 1)
   far-close {a} {b} {c} {d} {A} {B} {C} {D} p q r s k =
       let two = frac 2 1 in
-      let p1 = mul-by step-8 p ax t two k (unfold _*F_ in record { le = lit≤ tt }) (parts 1) (unfold _+F_ _*F_ in record { le = lit≤ tt }) in
-      let p2 = mul-by step-16 p1 ax t two k (unfold _*F_ in record { le = lit≤ tt }) (parts 4) (unfold _+F_ _*F_ in record { le = lit≤ tt }) in
-      let p3 = mul-by step-32 p2 ax t two k (unfold _*F_ in record { le = lit≤ tt }) (parts 12) (unfold _+F_ _*F_ in record { le = lit≤ tt }) in
-      let q1 = mul-by step-32 q ax t two k (unfold _*F_ in record { le = lit≤ tt }) (parts 4) (unfold _+F_ _*F_ in record { le = lit≤ tt }) in
-      let q2 = mul-by step-64 q1 ax t two k (unfold _*F_ in record { le = lit≤ tt }) (parts 16) (unfold _+F_ _*F_ in record { le = lit≤ tt }) in
-      let r1 = mul-by step-64 r ax t two k (unfold _*F_ in record { le = lit≤ tt }) (parts 8) (unfold _+F_ _*F_ in record { le = lit≤ tt }) in
+      let p1 = mul-by step-8 p ax t two k (unfold _*F_ in record { le = lit≤ tt }) (parts 1) (unfold _+F_ _*F_ in
+      record { le = lit≤ tt }) in
+      let p2 = mul-by step-16 p1 ax t two k (unfold _*F_ in record { le = lit≤ tt }) (parts 4) (unfold _+F_ _*F_ in
+      record { le = lit≤ tt }) in
+      let p3 = mul-by step-32 p2 ax t two k (unfold _*F_ in record { le = lit≤ tt }) (parts 12) (unfold _+F_ _*F_ in
+      record { le = lit≤ tt }) in
+      let q1 = mul-by step-32 q ax t two k (unfold _*F_ in record { le = lit≤ tt }) (parts 4) (unfold _+F_ _*F_ in
+      record { le = lit≤ tt }) in
+      let q2 = mul-by step-64 q1 ax t two k (unfold _*F_ in record { le = lit≤ tt }) (parts 16) (unfold _+F_ _*F_ in
+      record { le = lit≤ tt }) in
+      let r1 = mul-by step-64 r ax t two k (unfold _*F_ in record { le = lit≤ tt }) (parts 8) (unfold _+F_ _*F_ in
+      record { le = lit≤ tt }) in
       close-along
       (add-same (A *F X *F X *F X +F B *F X *F X +F C *F X) (A *F (X *F X *F X) +F B *F (X *F X) +F C *F X) D D
       (add-same (A *F X *F X *F X +F B *F X *F X) (A *F (X *F X *F X) +F B *F (X *F X)) (C *F X) (C *F X)
-      (add-same (A *F X *F X *F X) (A *F (X *F X *F X)) (B *F X *F X) (B *F (X *F X)) (cubed A X) (squared B X)) (eq-refl (C *F X))) (eq-refl D))
+      (add-same (A *F X *F X *F X) (A *F (X *F X *F X)) (B *F X *F X) (B *F (X *F X)) (cubed A X) (squared B X))
+      (eq-refl (C *F X))) (eq-refl D))
       (add-by step-512
       (add-by step-256
-      (add-by step-128 p3 q2 (unfold _+F_ in record { le = lit≤ tt }) (parts 44) (unfold _+F_ in record { le = lit≤ tt }))
+      (add-by step-128 p3 q2 (unfold _+F_ in record { le = lit≤ tt }) (parts 44) (unfold _+F_ in
+      record { le = lit≤ tt }))
       r1 (unfold _+F_ in record { le = lit≤ tt }) (parts 84) (unfold _+F_ in record { le = lit≤ tt }))
       s (unfold _+F_ in record { le = lit≤ tt }) (parts 148) (unfold _+F_ in record { le = lit≤ tt }))
 
@@ -117,7 +134,8 @@ six-value = record { eq = refl }
 over-six : (x : Fraction) → x /F value six ≈ frac 1 6 *F x
 over-six x =
     div-only x (value six) (frac 1 6 *F x) six-positive
-    (mul-same (eq-refl (frac 1 6 *F x)) six-value ⨟ mul-same (mul-comm (frac 1 6) x) (eq-refl (frac 6 1)) ⨟ mul-assoc x (frac 1 6) (frac 6 1) ⨟ mul-same (eq-refl x) whole ⨟ mul-one x)
+    (mul-same (eq-refl (frac 1 6 *F x)) six-value ⨟ mul-same (mul-comm (frac 1 6) x) (eq-refl (frac 6 1)) ⨟ mul-assoc x
+    (frac 1 6) (frac 6 1) ⨟ mul-same (eq-refl x) whole ⨟ mul-one x)
   where
     six-positive : frac 0 1 <F value six
     six-positive = unfold ofBits in record { lt = lit< tt }
@@ -126,12 +144,16 @@ over-six x =
     whole = unfold _*F_ in record { eq = refl }
 
 pub sixth-rounds : (v : Float) → T (finite v) → Rounds binary32 (v ⊘ six) (frac 1 6 *F value v)
-sixth-rounds v t = rounds-along (over-six (value v)) (div-rounds binary32 v six t six-number (unfold ofBits absF in record { lt = lit< tt }))
+sixth-rounds v t = rounds-along (over-six (value v))
+    (div-rounds binary32 v six t six-number (unfold ofBits absF in record { lt = lit< tt }))
 
-pub sixth-close : {h B : Fraction} → Step binary32 h B → {v : Float} {Y e b : Fraction} → Close v Y e b → frac 1 6 *F b ≤F B → Close (v ⊘ six) (frac 1 6 *F Y) (h +F frac 1 6 *F e) B
+pub sixth-close : {h B : Fraction} → Step binary32 h B → {v : Float} {Y e b : Fraction} → Close v Y e b
+    → frac 1 6 *F b ≤F B → Close (v ⊘ six) (frac 1 6 *F Y) (h +F frac 1 6 *F e) B
 sixth-close {h} {B} step {v} {Y} {e} {b} c room =
     close-move
-    (step .rounds (sixth-rounds v (c .number)) (le-trans (absF (frac 1 6 *F value v)) (frac 1 6 *F b) B (abs-mul (frac 1 6) (value v) (frac 1 6) b (abs-self (frac 1 6) nonneg) (c .small)) room))
+    (step .rounds (sixth-rounds v (c .number))
+    (le-trans (absF (frac 1 6 *F value v)) (frac 1 6 *F b) B
+    (abs-mul (frac 1 6) (value v) (frac 1 6) b (abs-self (frac 1 6) nonneg) (c .small)) room))
     (within-scale (value v) Y e (frac 1 6) nonneg (c .near))
   where
     nonneg : frac 0 1 ≤F frac 1 6

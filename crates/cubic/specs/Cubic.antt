@@ -1,4 +1,5 @@
--- The cubic kernels: the Rust's `cubic_weights`, rounded once per operation in the order written. Assumes nothing.
+-- The cubic kernels: the Rust's `cubic_weights`, rounded once per operation in the order written. Specification 9.
+-- Assumes nothing.
 use mathlib.Core.Bool.{Bool, not, cond, _&&_}
 use mathlib.Core.List.{List, [], _∷_}
 use lib.Ieee.{Float, binary32, neg, ofBits, lt}
@@ -57,12 +58,14 @@ nearPiece b c ax = withoutLinear (twelve ⊖ nine ⊗ b ⊖ six ⊗ c) (neg eigh
 
 -- from 1 to 2
 abbrev pub farPiece : Float → Float → Float → Float
-farPiece b c ax = withLinear (neg b ⊖ six ⊗ c) (six ⊗ b ⊕ thirty ⊗ c) (neg twelve ⊗ b ⊖ fortyEight ⊗ c) (eight ⊗ b ⊕ twentyFour ⊗ c) ax
+farPiece b c ax = withLinear (neg b ⊖ six ⊗ c) (six ⊗ b ⊕ thirty ⊗ c) (neg twelve ⊗ b ⊖ fortyEight ⊗ c) (eight ⊗ b
+    ⊕ twentyFour ⊗ c) ax
 
 unfoldable pub pieces : Float → Float → Float → Float
 pieces b c ax = cond (lt ax one) (nearPiece b c ax) (cond (lt ax two) (farPiece b c ax) zero)
 
--- whether a magnitude is in the outer piece, and whether the four of a point's taps are in the pieces that they are in but at a cell's ends
+-- whether a magnitude is in the outer piece, and whether the four of a point's taps are in the pieces that they are in
+-- but at a cell's ends
 unfoldable pub outer : Float → Bool
 outer ax = not (lt ax one) && lt ax two
 
@@ -71,7 +74,8 @@ between p q r s = (outer p && lt q one) && (lt r one && outer s)
 
 -- the weights of four such magnitudes
 abbrev pub middle : Float → Float → Float → Float → Float → Float → List Float
-middle b c p q r s = (farPiece b c p ⊘ six) ∷ (nearPiece b c q ⊘ six) ∷ (nearPiece b c r ⊘ six) ∷ (farPiece b c s ⊘ six) ∷ []
+middle b c p q r s = (farPiece b c p ⊘ six) ∷ (nearPiece b c q ⊘ six) ∷ (nearPiece b c r ⊘ six)
+    ∷ (farPiece b c s ⊘ six) ∷ []
 
 -- the kernel, six times too large in its pieces
 abbrev pub kernel : Float → Float → Float → Float

@@ -1,5 +1,5 @@
--- The kernel of Mitchell and Netravali's paper of 1988, Reconstruction Filters in Computer Graphics, in exact fractions, with their parameters
--- B and C. Assumes nothing.
+-- The kernel of Mitchell and Netravali's paper of 1988, Reconstruction Filters in Computer Graphics, in exact
+-- fractions, with their parameters B and C. Specification 9. Assumes nothing.
 use Prim.Native.Nat.{ℕ, _+_, _*_}
 use mathlib.Core.Bool.{Bool, cond}
 use mathlib.Core.List.{List, [], _∷_}
@@ -54,11 +54,13 @@ farF B C x = withLinearF (far3 B C) (far2 B C) (far1 B C) (far0 B C) x
 
 -- 1/6 of the one below 1 in magnitude, of the other from 1 to below 2, and of 0 from 2 on
 unfoldable pub mitchell : Fraction → Fraction → Fraction → Fraction
-mitchell B C x = frac 1 6 *F cond (lessF (absF x) (frac 1 1)) (nearF B C (absF x)) (cond (lessF (absF x) (frac 2 1)) (farF B C (absF x)) (frac 0 1))
+mitchell B C x = frac 1 6 *F cond (lessF (absF x) (frac 1 1)) (nearF B C (absF x))
+    (cond (lessF (absF x) (frac 2 1)) (farF B C (absF x)) (frac 0 1))
 
 -- at the four taps around a point, t being its fraction between the second and the third
 abbrev pub exactWeights : Fraction → Fraction → Fraction → List Fraction
-exactWeights B C t = mitchell B C (t +F frac 1 1) ∷ mitchell B C t ∷ mitchell B C (t -F frac 1 1) ∷ mitchell B C (t -F frac 2 1) ∷ []
+exactWeights B C t = mitchell B C (t +F frac 1 1) ∷ mitchell B C t ∷ mitchell B C (t -F frac 1 1)
+    ∷ mitchell B C (t -F frac 2 1) ∷ []
 
 -- ---- what the law of the code's weights speaks of
 abbrev pub cubicError : Fraction

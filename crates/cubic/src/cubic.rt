@@ -1,7 +1,17 @@
 // The cubic kernels' weights. Assumes nothing.
 ghost use mathlib.Core.Path.{_≡_};
 ghost use Rattle.cubic.specs.Cubic as Cubic;
-ghost use Rattle.cubic.specs.Cubic.{catrom, spline, outer, between, middle, nearPiece, farPiece, kernel, cubicWeights};
+ghost use Rattle.cubic.specs.Cubic.{
+  catrom,
+  spline,
+  outer,
+  between,
+  middle,
+  nearPiece,
+  farPiece,
+  kernel,
+  cubicWeights,
+};
 use number::magnitude::abs_f32;
 
 // Below 1 in magnitude.

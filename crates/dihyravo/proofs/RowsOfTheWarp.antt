@@ -5,7 +5,7 @@ use mathlib.Core.Path.{_≡_, sym, ap, _∙_}
 use mathlib.Core.List.{List}
 use Prim.Native.Nat.{ℕ}
 use lib.ListN.{length}
-use Rattle.distort.specs.Call.{answer, putAnswer}
+use Rattle.distort.specs.Call.{answer, storeAnswer}
 use Rattle.distort.specs.Job.{Call}
 use Rattle.distort.specs.declared.answer.Answer.{Answer}
 use Rattle.distort.proofs.CallLaws.{answer-number}
@@ -16,7 +16,7 @@ use Rattle.dihyravo.specs.Called.{called}
 pub record CalledRows (c : Call) (before band other : List ℕ) : Type 0 where
   pub accepted : called (warp c band) other .0 ≡ 0
   pub rows : called c before .1 .0 ≡ rowsIn c (called (warp c band) other .1 .0)
-  pub answered : called c before .1 .1 ≡ putAnswer (counting (own c) (answer (warp c band))) before
+  pub answered : called c before .1 .1 ≡ storeAnswer (counting (own c) (answer (warp c band))) before
 
 pub called-rows : (c : Call) (before : List ℕ) → called c before .0 ≡ 0
     → (band other : List ℕ) → length band ≡ warpLength c → CalledRows c before band other
@@ -25,5 +25,5 @@ called-rows c before e band other long =
     record {
       accepted = answer-number (warp c band) ∙ R .accepted;
       rows = R .rows;
-      answered = ap (λ (a : Answer). putAnswer a before) (R .answered);
+      answered = ap (λ (a : Answer). storeAnswer a before) (R .answered);
     }

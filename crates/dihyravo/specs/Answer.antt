@@ -1,5 +1,5 @@
--- An exported call's answer as one number: a code is itself, and a refusal is its number in document 01 below 0. So code 3 and
--- refusal 3 are told apart. Assumes nothing.
+-- A name reader's answer as one number (specification 1.2): a code is itself, and a refusal is its number below 0. So
+-- code 3 and refusal 3 are told apart. Assumes nothing.
 use lib.IntN.{ℤ, pos, negℤ}
 use Rattle.names.specs.declared.Named.{Named}
 use Rattle.names.specs.declared.Named.the-variants.{Code, Refused}

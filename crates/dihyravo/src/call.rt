@@ -1,13 +1,20 @@
-// The distort call over bytes, for every argument. What a caller owes is what the types say: each pointer is to as many bytes as it is said to be, and band and answer overlap nothing
-// else that is lent. What is lent shared stays as it is: its types see to that, and the second clause says so.
+// The distort call over bytes, for every argument. What a caller owes is what the types say: each pointer is to as many
+// bytes as it is said to be, and band and answer overlap nothing else that is lent. What is lent shared stays as it is:
+// its types see to that, and the second clause says so.
 ghost use mathlib.Core.Path.{_≡_};
 ghost use Rattle.distort.specs.Job.{callOf};
 ghost use Rattle.dihyravo.specs.Called.{called};
-use distort::answer::put_answer;
+use band::rows::Rows;
+use distort::answer::store_answer;
 use distort::call::distort;
+use distort::job::Job;
+use distort::job::yes;
+use picture::shape::Shape;
+use window::view::View;
 
-// 0 where the call is accepted, else the refusal's number. Of bestfit and viewport 0 is no, anything else yes. On 0 the answer holds width and height, x and
-// y, the output's channels and the band's matte pixels; a refusal changes no byte of band or answer.
+// 0 where the call is accepted, else the refusal's number. Of bestfit and viewport 0 is no, anything else yes. On 0 the
+// answer holds width and height, x and y, the output's channels and the band's matte pixels; a refusal changes no byte
+// of band or answer.
 #[no_mangle]
 pub extern "C" fn dihyravo_distort(
     picture: &[u8],
@@ -32,30 +39,40 @@ pub extern "C" fn dihyravo_distort(
     answer: &mut [u8; 48],
 ) -> u64
     ensures { λ r.
-        ⌜ (r, (now (band .exit), now (answer .exit))) ≡ called (callOf (now (picture .entry)) width height channels method (now (arguments .entry)) policy interpolation (now (background .entry)) (now (matte .entry)) bestfit viewport «view_width» «view_height» «view_x» «view_y» «first_row» rows (now (band .entry))) (now (answer .entry)) ⌝ }
+        ⌜ (r, (now (band .exit), now (answer .exit))) ≡ called
+        (callOf (now (picture .entry)) width height channels method (now (arguments .entry)) policy interpolation
+        (now (background .entry)) (now (matte .entry)) bestfit viewport «view_width» «view_height» «view_x» «view_y»
+        «first_row» rows (now (band .entry))) (now (answer .entry)) ⌝ }
     ensures { λ _.
-        ⌜ (now (picture .exit) ≡ now (picture .entry)) × ((now (arguments .exit) ≡ now (arguments .entry)) × ((now (background .exit) ≡ now (background .entry)) × (now (matte .exit) ≡ now (matte .entry)))) ⌝ }
+        ⌜ (now (picture .exit) ≡ now (picture .entry))
+        × ((now (arguments .exit) ≡ now (arguments .entry))
+        × ((now (background .exit) ≡ now (background .entry)) × (now (matte .exit) ≡ now (matte .entry)))) ⌝ }
 {
-    let answered = distort(
-        picture,
+    let shape = Shape {
         width,
         height,
         channels,
+    };
+    let view = View {
+        bestfit: yes(bestfit),
+        given: yes(viewport),
+        width: view_width,
+        height: view_height,
+        x: view_x,
+        y: view_y,
+    };
+    let rows = Rows {
+        first: first_row,
+        count: rows,
+    };
+    let job = Job {
+        shape,
         method,
-        arguments,
         policy,
         interpolation,
-        background,
-        matte,
-        bestfit,
-        viewport,
-        view_width,
-        view_height,
-        view_x,
-        view_y,
-        first_row,
+        view,
         rows,
-        band,
-    );
-    put_answer(answered, answer)
+    };
+    let answered = distort(picture, arguments, background, matte, job, band);
+    store_answer(answered, answer)
 }

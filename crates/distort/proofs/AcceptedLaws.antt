@@ -1,5 +1,5 @@
--- What an accepted job and an accepted call are: no row of the table holds, and each test that fails says something of the picture, the
--- codes, the arguments, the colours, the fit, the window, the rows and the band. Assumes nothing.
+-- What an accepted job and an accepted call are: no row of the table holds, and each test that fails says something of
+-- the picture, the codes, the arguments, the colours, the fit, the window, the rows and the band. Assumes nothing.
 use mathlib.Core.Path.{_≡_, refl, sym, ap, _∙_, subst}
 use mathlib.Core.Logic.{_⊎_, inl, inr, ⊎-elim}
 use mathlib.Core.Bool.{Bool, true, false, not, _||_, cond, true≢false}
@@ -19,17 +19,37 @@ use Rattle.arguments.proofs.AcceptedLaws.{Accepted, accepted}
 use Rattle.arguments.proofs.CountLaws.{neither}
 use Rattle.mappings.specs.declared.mapping.Fitted.{Fitted}
 use Rattle.mappings.specs.declared.mapping.Mapping.{Mapping}
-use Rattle.build.proofs.DegenerateLaws.{build-8}
+use Rattle.fit.proofs.DegenerateLaws.{build-8}
 use Rattle.window.specs.Window.{refusalOf, widthOf, heightOf, xOf, yOf}
 use Rattle.window.specs.declared.window.Placed.{Placed}
 use Rattle.window.specs.declared.window.Placed.the-variants.{Window, Refused}
 use Rattle.window.proofs.WindowLaws.{Side, Limits, window-limits}
-use Rattle.pixels.specs.Colour.{one}
+use Rattle.picture.specs.Colour.{one}
 use Rattle.sampler.specs.Finite.{BoundedPicture}
-use Rattle.weighted.specs.Weighted.{BoundedBy}
-use Rattle.pixels.specs.declared.colour.Rgba.{Rgba}
-use Rattle.distort.specs.Job.{Image, Given, Call, yes, colourOf}
-use Rattle.distort.specs.Refusal.{fitOf, windowOf, transparent, widest, channelsOf, badSize, badStock, badCode, large, badNumber, degenerate, badWindow, badRows, badTray, ofJob, unfit, jobRefusal, refusal}
+use Rattle.taps.specs.Weighted.{BoundedBy}
+use Rattle.picture.specs.declared.colour.Rgba.{Rgba}
+use Rattle.distort.specs.Job.{Image, Given, Call, colourOf}
+use Rattle.distort.specs.Refusal.{
+  fitOf,
+  viewOf,
+  windowOf,
+  transparent,
+  widest,
+  channelsOf,
+  badSize,
+  badStock,
+  badCode,
+  large,
+  badNumber,
+  degenerate,
+  badWindow,
+  badRows,
+  badTray,
+  ofJob,
+  unfit,
+  jobRefusal,
+  refusal,
+}
 use Rattle.distort.specs.Call.{outWidth, outHeight}
 use Rattle.distort.proofs.LargeLaws.{all-bounded, colour-bounded}
 use Rattle.distort.proofs.SizeLaws.{OneThreeFour, size-fit, picture-fit}
@@ -108,9 +128,10 @@ placed-sides Refused l e = absurd (true≢false e)
 pub limits : (p : Image) (g : Given) → Limits (windowOf p g)
 unfolding windowOf
 limits p g =
-    window-limits (fitOf p g .mapping .kind) (fitOf p g .mapping .coef) (p .width) (p .height) (yes (g .bestfit)) (yes (g .viewport)) (g .viewWidth) (g .viewHeight) (g .viewX) (g .viewY)
+    window-limits (fitOf p g .mapping .kind) (fitOf p g .mapping .coef) (p .width) (p .height) (viewOf g)
 
-pub widest-known : (channels policy : ℕ) (background : Rgba) → OneThreeFour channels → OneThreeFour (widest channels policy background)
+pub widest-known : (channels policy : ℕ) (background : Rgba) → OneThreeFour channels
+    → OneThreeFour (widest channels policy background)
 unfolding widest
 widest-known channels policy background h = go (eqb channels 4 || (eqb policy transparent || lt (background .a) one))
   where
@@ -169,7 +190,10 @@ module _ (p : Image) (g : Given) where
       let known = size-fit (p .width) (p .height) (p .channels) (t .size) .channels-known in
       record {
         channels = known;
-        picture = record { picture = picture-fit p (t .size) (t .stock) (s .samples); samples = all-bounded (p .bytes) (p .width * p .height * p .channels) (s .samples) };
+        picture = record {
+          picture = picture-fit p (t .size) (t .stock) (s .samples);
+          samples = all-bounded (p .bytes) (p .width * p .height * p .channels) (s .samples);
+        };
         policy = codes p g t .1 .0;
         interpolation = codes p g t .1 .1;
         arguments = accepted (g .method) (g .arguments) (arguments-passed p g t);
@@ -196,7 +220,8 @@ module _ (c : Call) where
 
   pub rows-call : jobRefusal (c .image) (c .given) ≡ 0 → refusal c ≡ firstOf ((10, badRows c) ∷ ((11, badTray c) ∷ []))
   unfolding jobRefusal refusal
-  rows-call e = second-part (ofJob (c .image) (c .given) []) ((10, badRows c) ∷ ((11, badTray c) ∷ [])) (numbered (c .image) (c .given)) e
+  rows-call e = second-part (ofJob (c .image) (c .given) []) ((10, badRows c) ∷ ((11, badTray c) ∷ []))
+      (numbered (c .image) (c .given)) e
 
   pub job-of-call : refusal c ≡ 0 → jobRefusal (c .image) (c .given) ≡ 0
   job-of-call e = go (jobRefusal (c .image) (c .given)) refl

@@ -1,5 +1,5 @@
--- The samples of a band, each at its place: of the pixel at column i and row j, the components of the colour shown there. Row by row, and in a row pixel by
--- pixel, from the samples of pieces of one length. Assumes nothing.
+-- The samples of a band, each at its place: of the pixel at column i and row j, the components of the colour shown
+-- there. Row by row, and in a row pixel by pixel, from the samples of pieces of one length. Assumes nothing.
 use mathlib.Core.Path.{_≡_, refl, sym, ap, _∙_, subst}
 use mathlib.Core.Logic.{_⊎_, inl, inr}
 use Prim.Native.Nat.{ℕ, zero, suc, _+_, _*_, _/_, _%_, _<_}
@@ -7,16 +7,16 @@ use native.Mathlib.Nat.{le-trans, add-zero, mul-le-mul-right, mod-lt, div-add-mo
 use native.Mathlib.Omega.{arith}
 use lib.Ieee.{Float}
 use Rattle.endian.specs.Bytes.{sampleAt}
-use Rattle.pixels.specs.Colour.{one, luma}
+use Rattle.picture.specs.Colour.{one, luma}
 use Rattle.sampler.specs.Finite.{FitsBy}
-use Rattle.pixels.specs.Pixel.{Picture, widened, pixelAt}
-use Rattle.pixels.specs.declared.colour.Rgba.{Rgba}
-use Rattle.put.specs.Band.{Frame, Source, colourAt, pixelBytes, rowBytes, rowsBytes}
+use Rattle.picture.specs.Pixel.{Picture, widened, pixelAt}
+use Rattle.picture.specs.declared.colour.Rgba.{Rgba}
+use Rattle.band.specs.Band.{Frame, Source, colourAt, pixelBytes, rowBytes, rowsBytes}
 use Rattle.distort.specs.Call.{outWidth, frameOf, sourceOf, rowsOf}
 use Rattle.distort.specs.Job.{Image, Given}
 use Rattle.distort.specs.Refusal.{channelsOf}
-use Rattle.put.proofs.LengthLaws.{row-length}
-use Rattle.put.proofs.PixelLaws.{pixel-length}
+use Rattle.band.proofs.LengthLaws.{row-length}
+use Rattle.band.proofs.PixelLaws.{pixel-length}
 use Rattle.distort.proofs.SampleLaws.{sample-joined, part, pixel-sample, pixel-grey, colour-of-fits, colour-fits}
 
 within-row : (i k w c : ℕ) → i < w → k < c → i * c + k < w * c
@@ -28,33 +28,44 @@ within-row i k w c a b = le-trans (next i k c b) (mul-le-mul-right c a)
 -- ---- of a source and a frame
 module _ (s : Source) (f : Frame) (channels width first rows : ℕ) where
   band-sample : (i j k : ℕ) → i < width → j < rows → k < channels
-      → sampleAt (rowsBytes s f channels width first rows) ((j * width + i) * channels + k) ≡ sampleAt (pixelBytes channels (colourAt s f i (first + j))) k
+      → sampleAt (rowsBytes s f channels width first rows) ((j * width + i) * channels + k) ≡ sampleAt
+      (pixelBytes channels (colourAt s f i (first + j))) k
   unfolding rowsBytes
   band-sample i j k a b c =
       ap (sampleAt (rowsBytes s f channels width first rows)) (place i j k width channels)
-      ∙ sample-joined (λ (r : ℕ). rowBytes s f channels width (first + r)) (width * channels) (width * channels * 4) refl (λ r. row-length s f channels width (first + r)) rows j (i * channels + k) b (within-row i k width channels a c)
+      ∙ sample-joined (λ (r : ℕ). rowBytes s f channels width (first + r)) (width * channels) (width * channels * 4)
+      refl (λ r. row-length s f channels width (first + r)) rows j (i * channels + k) b
+      (within-row i k width channels a c)
       ∙ in-row (first + j) i k a c
     where
       place : (i j k w c : ℕ) → (j * w + i) * c + k ≡ j * (w * c) + (i * c + k)
       place i j k w c = omega arith
 
-      in-row : (j i k : ℕ) → i < width → k < channels → sampleAt (rowBytes s f channels width j) (i * channels + k) ≡ sampleAt (pixelBytes channels (colourAt s f i j)) k
+      in-row : (j i k : ℕ) → i < width → k < channels
+          → sampleAt (rowBytes s f channels width j) (i * channels + k) ≡ sampleAt
+          (pixelBytes channels (colourAt s f i j)) k
       in-row j i k a c =
           unfold rowBytes in
-          sample-joined (λ (x : ℕ). pixelBytes channels (colourAt s f x j)) channels (channels * 4) refl (λ x. pixel-length channels (colourAt s f x j)) width i k a c
+          sample-joined (λ (x : ℕ). pixelBytes channels (colourAt s f x j)) channels (channels * 4) refl
+          (λ x. pixel-length channels (colourAt s f x j)) width i k a c
 
   module _ (F : (i j : ℕ) → FitsBy (colourAt s f i j)) where
     band-part : (channels ≡ 3) ⊎ (channels ≡ 4) → (i j k : ℕ) → i < width → j < rows → k < channels
-        → sampleAt (rowsBytes s f channels width first rows) ((j * width + i) * channels + k) ≡ part (colourAt s f i (first + j)) k
-    band-part C i j k a b c = band-sample i j k a b c ∙ pixel-sample channels (colourAt s f i (first + j)) C (F i (first + j)) k c
+        → sampleAt (rowsBytes s f channels width first rows) ((j * width + i) * channels + k) ≡ part
+        (colourAt s f i (first + j)) k
+    band-part C i j k a b c = band-sample i j k a b c
+        ∙ pixel-sample channels (colourAt s f i (first + j)) C (F i (first + j)) k c
 
     -- whatever holds of every component of every pixel's colour holds of every sample
-    band-all : (channels ≡ 3) ⊎ (channels ≡ 4) → (P : Float → Type 0) → ((i j k : ℕ) → i < width → j < rows → k < channels → P (part (colourAt s f i (first + j)) k))
+    band-all : (channels ≡ 3) ⊎ (channels ≡ 4) → (P : Float → Type 0)
+        → ((i j k : ℕ) → i < width → j < rows → k < channels → P (part (colourAt s f i (first + j)) k))
         → (n : ℕ) → n < rows * width * channels → P (sampleAt (rowsBytes s f channels width first rows) n)
     band-all C P h n l =
         subst (λ (m : ℕ). P (sampleAt (rowsBytes s f channels width first rows) m)) (back n)
-        (subst P (sym (band-part C (n / channels % width) (n / channels / width) (n % channels) (mod-lt (n / channels) wide) row (mod-lt n deep)))
-        (h (n / channels % width) (n / channels / width) (n % channels) (mod-lt (n / channels) wide) row (mod-lt n deep)))
+        (subst P (sym (band-part C (n / channels % width) (n / channels / width) (n % channels)
+        (mod-lt (n / channels) wide) row (mod-lt n deep)))
+        (h (n / channels % width) (n / channels / width) (n % channels) (mod-lt (n / channels) wide) row
+        (mod-lt n deep)))
       where
         nothing : (n a : ℕ) → n < a * 0 → ⊥
         nothing n a h = omega arith
@@ -79,28 +90,33 @@ module _ (s : Source) (f : Frame) (channels width first rows : ℕ) where
         row = div-lt-iff-lt-mul wide .1 pixel
 
         back : (n : ℕ) → (n / channels / width * width + n / channels % width) * channels + n % channels ≡ n
-        back n = ap (λ (z : ℕ). z * channels + n % channels) (div-add-mod' (n / channels) width) ∙ div-add-mod' n channels
+        back n = ap (λ (z : ℕ). z * channels + n % channels) (div-add-mod' (n / channels) width)
+            ∙ div-add-mod' n channels
 
 -- ---- pixels read back
 -- four channels are the colour itself, and three are it where its alpha is 1
-module _ (s : Source) (f : Frame) (width first rows : ℕ) (F : (i j : ℕ) → FitsBy (colourAt s f i j)) (i j : ℕ) (a : i < width) (b : j < rows) where
+module _ (s : Source) (f : Frame) (width first rows : ℕ) (F : (i j : ℕ) → FitsBy (colourAt s f i j)) (i j : ℕ)
+    (a : i < width) (b : j < rows) where
   back-four : pixelAt (rowsBytes s f 4 width first rows) width 4 i j ≡ colourAt s f i (first + j)
   unfolding pixelAt widened
   back-four =
       λ t.
       record {
-        r = (ap (sampleAt (rowsBytes s f 4 width first rows)) (sym (add-zero ((j * width + i) * 4))) ∙ band-part s f 4 width first rows F (inr refl) i j 0 a b (omega arith)) t;
+        r = (ap (sampleAt (rowsBytes s f 4 width first rows)) (sym (add-zero ((j * width + i) * 4)))
+            ∙ band-part s f 4 width first rows F (inr refl) i j 0 a b (omega arith)) t;
         g = band-part s f 4 width first rows F (inr refl) i j 1 a b (omega arith) t;
         b = band-part s f 4 width first rows F (inr refl) i j 2 a b (omega arith) t;
         a = band-part s f 4 width first rows F (inr refl) i j 3 a b (omega arith) t;
       }
 
-  back-three : colourAt s f i (first + j) .a ≡ one → pixelAt (rowsBytes s f 3 width first rows) width 3 i j ≡ colourAt s f i (first + j)
+  back-three : colourAt s f i (first + j) .a ≡ one
+      → pixelAt (rowsBytes s f 3 width first rows) width 3 i j ≡ colourAt s f i (first + j)
   unfolding pixelAt widened
   back-three e =
       λ t.
       record {
-        r = (ap (sampleAt (rowsBytes s f 3 width first rows)) (sym (add-zero ((j * width + i) * 3))) ∙ band-part s f 3 width first rows F (inl refl) i j 0 a b (omega arith)) t;
+        r = (ap (sampleAt (rowsBytes s f 3 width first rows)) (sym (add-zero ((j * width + i) * 3)))
+            ∙ band-part s f 3 width first rows F (inl refl) i j 0 a b (omega arith)) t;
         g = band-part s f 3 width first rows F (inl refl) i j 1 a b (omega arith) t;
         b = band-part s f 3 width first rows F (inl refl) i j 2 a b (omega arith) t;
         a = sym e t;
@@ -108,7 +124,8 @@ module _ (s : Source) (f : Frame) (width first rows : ℕ) (F : (i j : ℕ) → 
 
   band-back : (channels : ℕ) → (channels ≡ 3) ⊎ (channels ≡ 4) → (channels ≡ 3 → colourAt s f i (first + j) .a ≡ one)
       → pixelAt (rowsBytes s f channels width first rows) width channels i j ≡ colourAt s f i (first + j)
-  band-back channels (inl e) o = ap (λ (n : ℕ). pixelAt (rowsBytes s f n width first rows) width n i j) e ∙ back-three (o e)
+  band-back channels (inl e) o = ap (λ (n : ℕ). pixelAt (rowsBytes s f n width first rows) width n i j) e
+      ∙ back-three (o e)
   band-back channels (inr e) o = ap (λ (n : ℕ). pixelAt (rowsBytes s f n width first rows) width n i j) e ∙ back-four
 
 -- ---- of a job
@@ -119,19 +136,25 @@ module _ (p : Image) (g : Given) where
 
   module _ (P : Picture (p .bytes) (p .width) (p .height) (p .channels)) where
     pub out-fits : (i j : ℕ) → FitsBy (colourOut i j)
-    out-fits i j = colour-fits (sourceOf p g) (frameOf p g) P (colour-of-fits (g .background)) (colour-of-fits (g .matte)) i j
+    out-fits i j = colour-fits (sourceOf p g) (frameOf p g) P (colour-of-fits (g .background))
+        (colour-of-fits (g .matte)) i j
 
     module _ (first rows i j : ℕ) (a : i < outWidth p g) (b : j < rows) where
       pub sample-at : (channelsOf p g ≡ 3) ⊎ (channelsOf p g ≡ 4) → (k : ℕ) → k < channelsOf p g
-          → sampleAt (rowsOf p g first rows) ((j * outWidth p g + i) * channelsOf p g + k) ≡ part (colourOut i (first + j)) k
+          → sampleAt (rowsOf p g first rows) ((j * outWidth p g + i) * channelsOf p g + k) ≡ part
+          (colourOut i (first + j)) k
       unfolding rowsOf
-      sample-at C k c = band-part (sourceOf p g) (frameOf p g) (channelsOf p g) (outWidth p g) first rows out-fits C i j k a b c
+      sample-at C k c = band-part (sourceOf p g) (frameOf p g) (channelsOf p g) (outWidth p g) first rows out-fits C i
+          j k a b c
 
-      pub grey-at : channelsOf p g ≡ 1 → sampleAt (rowsOf p g first rows) (j * outWidth p g + i) ≡ luma (colourOut i (first + j))
+      pub grey-at : channelsOf p g ≡ 1
+          → sampleAt (rowsOf p g first rows) (j * outWidth p g + i) ≡ luma (colourOut i (first + j))
       unfolding rowsOf
       grey-at e =
-          ap (sampleAt (rowsBytes (sourceOf p g) (frameOf p g) (channelsOf p g) (outWidth p g) first rows)) (alone (j * outWidth p g + i) (channelsOf p g) e)
-          ∙ band-sample (sourceOf p g) (frameOf p g) (channelsOf p g) (outWidth p g) first rows i j 0 a b (subst (λ (n : ℕ). 0 < n) (sym e) (omega arith))
+          ap (sampleAt (rowsBytes (sourceOf p g) (frameOf p g) (channelsOf p g) (outWidth p g) first rows))
+          (alone (j * outWidth p g + i) (channelsOf p g) e)
+          ∙ band-sample (sourceOf p g) (frameOf p g) (channelsOf p g) (outWidth p g) first rows i j 0 a b
+          (subst (λ (n : ℕ). 0 < n) (sym e) (omega arith))
           ∙ ap (λ (n : ℕ). sampleAt (pixelBytes n (colourOut i (first + j))) 0) e
           ∙ pixel-grey (colourOut i (first + j))
         where
@@ -139,14 +162,17 @@ module _ (p : Image) (g : Given) where
           alone n c e = sym (ap (λ (z : ℕ). n * z + 0) e ∙ (omega arith))
 
       -- the pixel read back is the colour
-      pub pixel-back : (channelsOf p g ≡ 3) ⊎ (channelsOf p g ≡ 4) → (channelsOf p g ≡ 3 → colourOut i (first + j) .a ≡ one)
+      pub pixel-back : (channelsOf p g ≡ 3) ⊎ (channelsOf p g ≡ 4)
+          → (channelsOf p g ≡ 3 → colourOut i (first + j) .a ≡ one)
           → pixelAt (rowsOf p g first rows) (outWidth p g) (channelsOf p g) i j ≡ colourOut i (first + j)
       unfolding rowsOf
-      pixel-back C o = band-back (sourceOf p g) (frameOf p g) (outWidth p g) first rows out-fits i j a b (channelsOf p g) C o
+      pixel-back C o = band-back (sourceOf p g) (frameOf p g) (outWidth p g) first rows out-fits i j a b
+          (channelsOf p g) C o
 
     -- whatever holds of every component of every pixel's colour holds of every sample
     pub samples-all : (first rows : ℕ) → (channelsOf p g ≡ 3) ⊎ (channelsOf p g ≡ 4) → (Q : Float → Type 0)
         → ((i j k : ℕ) → i < outWidth p g → j < rows → k < channelsOf p g → Q (part (colourOut i (first + j)) k))
         → (n : ℕ) → n < rows * outWidth p g * channelsOf p g → Q (sampleAt (rowsOf p g first rows) n)
     unfolding rowsOf
-    samples-all first rows C Q h n l = band-all (sourceOf p g) (frameOf p g) (channelsOf p g) (outWidth p g) first rows out-fits C Q h n l
+    samples-all first rows C Q h n l =
+        band-all (sourceOf p g) (frameOf p g) (channelsOf p g) (outWidth p g) first rows out-fits C Q h n l

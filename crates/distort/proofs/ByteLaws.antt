@@ -1,4 +1,5 @@
--- Every byte of a band's rows is below 256: a number's bytes are, and so are pieces of such bytes, one after another. Assumes nothing.
+-- Every byte of a band's rows is below 256: a number's bytes are, and so are pieces of such bytes, one after another.
+-- Assumes nothing.
 use mathlib.Core.Path.{sym, subst}
 use mathlib.Core.Logic.{inl, inr}
 use mathlib.Core.List.{List, [], _∷_, _++_}
@@ -6,15 +7,15 @@ use Prim.Native.Nat.{ℕ, zero, suc, _+_, _/_, _<_, zero-le}
 use native.Mathlib.Nat.{mod-lt, zero-lt-suc}
 use lib.Ieee.{Float, binary32, toBits}
 use lib.ListN.{getD}
-use Rattle.pixels.specs.Colour.{luma}
-use Rattle.pixels.specs.declared.colour.Rgba.{Rgba}
+use Rattle.picture.specs.Colour.{luma}
+use Rattle.picture.specs.declared.colour.Rgba.{Rgba}
 use Rattle.exact.proofs.Loop.{upTo-keep}
-use Rattle.put.specs.Band.{colourAt, pixelBytes, rowBytes, rowsBytes}
+use Rattle.band.specs.Band.{colourAt, pixelBytes, rowBytes, rowsBytes}
 use Rattle.distort.specs.Call.{outWidth, frameOf, sourceOf, rowsOf}
 use Rattle.distort.specs.Job.{Image, Given}
-use Rattle.put.specs.Joined.{joined}
+use Rattle.band.specs.Joined.{joined}
 use Rattle.distort.specs.Refusal.{channelsOf}
-use Rattle.put.proofs.PixelLaws.{Channels, digits, sampleBytes, rgbBytes, bytes-one, bytes-three, bytes-four}
+use Rattle.band.proofs.PixelLaws.{Channels, digits, sampleBytes, rgbBytes, bytes-one, bytes-three, bytes-four}
 
 abbrev pub Bytes : List ℕ → Type 0
 Bytes xs = (i : ℕ) → getD xs i 0 < 256
@@ -29,7 +30,8 @@ both-bytes (x ∷ xs) ys a b (suc i) = both-bytes xs ys (λ k. a (suc k)) b i
 
 joined-bytes : (f : ℕ → List ℕ) → ((k : ℕ) → Bytes (f k)) → (n : ℕ) → Bytes (joined f n)
 unfolding joined
-joined-bytes f h n = upTo-keep (λ (k : ℕ) (xs : List ℕ). xs ++ f k) 0 [] Bytes n zero-le (λ j xs a b p. both-bytes xs (f j) p (h j)) none-bytes
+joined-bytes f h n = upTo-keep (λ (k : ℕ) (xs : List ℕ). xs ++ f k) 0 [] Bytes n zero-le
+    (λ j xs a b p. both-bytes xs (f j) p (h j)) none-bytes
 
 digits-bytes : (k n : ℕ) → Bytes (digits k n)
 unfolding digits
@@ -43,17 +45,23 @@ sample-bytes v = digits-bytes 4 (toBits binary32 v)
 rgb-bytes : (c : Rgba) → Bytes (rgbBytes c)
 unfolding rgbBytes
 rgb-bytes c =
-    both-bytes (sampleBytes (c .r) ++ sampleBytes (c .g)) (sampleBytes (c .b)) (both-bytes (sampleBytes (c .r)) (sampleBytes (c .g)) (sample-bytes (c .r)) (sample-bytes (c .g)))
+    both-bytes (sampleBytes (c .r) ++ sampleBytes (c .g)) (sampleBytes (c .b))
+    (both-bytes (sampleBytes (c .r)) (sampleBytes (c .g)) (sample-bytes (c .r)) (sample-bytes (c .g)))
     (sample-bytes (c .b))
 
 pixel-bytes : (channels : ℕ) → Channels channels → (c : Rgba) → Bytes (pixelBytes channels c)
-pixel-bytes channels (inl e) c = subst (λ (n : ℕ). Bytes (pixelBytes n c)) (sym e) (subst Bytes (sym (bytes-one c)) (sample-bytes (luma c)))
-pixel-bytes channels (inr (inl e)) c = subst (λ (n : ℕ). Bytes (pixelBytes n c)) (sym e) (subst Bytes (sym (bytes-three c)) (rgb-bytes c))
+pixel-bytes channels (inl e) c =
+    subst (λ (n : ℕ). Bytes (pixelBytes n c)) (sym e) (subst Bytes (sym (bytes-one c)) (sample-bytes (luma c)))
+pixel-bytes channels (inr (inl e)) c =
+    subst (λ (n : ℕ). Bytes (pixelBytes n c)) (sym e) (subst Bytes (sym (bytes-three c)) (rgb-bytes c))
 pixel-bytes channels (inr (inr e)) c =
-    subst (λ (n : ℕ). Bytes (pixelBytes n c)) (sym e) (subst Bytes (sym (bytes-four c)) (both-bytes (rgbBytes c) (sampleBytes (c .a)) (rgb-bytes c) (sample-bytes (c .a))))
+    subst (λ (n : ℕ). Bytes (pixelBytes n c)) (sym e)
+    (subst Bytes (sym (bytes-four c))
+    (both-bytes (rgbBytes c) (sampleBytes (c .a)) (rgb-bytes c) (sample-bytes (c .a))))
 
 pub rows-bytes : (p : Image) (g : Given) → Channels (channelsOf p g) → (first rows : ℕ) → Bytes (rowsOf p g first rows)
 unfolding rowsOf rowsBytes rowBytes
 rows-bytes p g C first rows =
     joined-bytes (λ (r : ℕ). rowBytes (sourceOf p g) (frameOf p g) (channelsOf p g) (outWidth p g) (first + r))
-    (λ r. joined-bytes (λ (i : ℕ). pixelBytes (channelsOf p g) (colourAt (sourceOf p g) (frameOf p g) i (first + r))) (λ i. pixel-bytes (channelsOf p g) C (colourAt (sourceOf p g) (frameOf p g) i (first + r))) (outWidth p g)) rows
+    (λ r. joined-bytes (λ (i : ℕ). pixelBytes (channelsOf p g) (colourAt (sourceOf p g) (frameOf p g) i (first + r)))
+    (λ i. pixel-bytes (channelsOf p g) C (colourAt (sourceOf p g) (frameOf p g) i (first + r))) (outWidth p g)) rows

@@ -1,5 +1,5 @@
--- The answer and the band afterwards from what is known of the refusal: a number, or none; and a call whose window is known is worked as the
--- table's last two rows and the band's definition say. Assumes nothing.
+-- The answer and the band afterwards from what is known of the refusal: a number, or none; and a call whose window is
+-- known is worked as the table's last two rows and the band's definition say. Assumes nothing.
 use mathlib.Core.Path.{_≡_, refl, sym, ap, _∙_}
 use mathlib.Core.Bool.{Bool, true, false, not, cond}
 use mathlib.Core.List.{List, [], _∷_}
@@ -13,7 +13,9 @@ use Rattle.exact.proofs.TableLaws.{row-holds, row-passed, no-rows}
 use Rattle.window.specs.Window.{xOf, yOf}
 use Rattle.distort.specs.declared.answer.Answer.{Answer}
 use Rattle.distort.specs.declared.answer.Answer.the-variants.{Accepted, Refused}
-use Rattle.put.specs.Band.{rowsBytes, rowsMatte}
+use Rattle.band.specs.Band.{rowsBytes, rowsMatte}
+use Rattle.band.specs.declared.rows.Rows.{Rows}
+use Rattle.picture.specs.declared.shape.Shape.{Shape}
 use Rattle.distort.specs.Call.{outWidth, outHeight, frameOf, sourceOf, rowsOf, matteOf, answer, left, numberOf}
 use Rattle.distort.specs.Job.{Image, Given, Call}
 use Rattle.distort.specs.Placed.{inWindow}
@@ -27,7 +29,9 @@ module _ (c : Call) where
   -- what an accepted call answers
   abbrev pub size : Answer
   size =
-      Accepted (outWidth (c .image) (c .given)) (outHeight (c .image) (c .given)) (xOf (windowOf (c .image) (c .given))) (yOf (windowOf (c .image) (c .given))) (channelsOf (c .image) (c .given)) (matteOf (c .image) (c .given) (c .first) (c .rows))
+      Accepted (outWidth (c .image) (c .given)) (outHeight (c .image) (c .given))
+      (xOf (windowOf (c .image) (c .given))) (yOf (windowOf (c .image) (c .given)))
+      (channelsOf (c .image) (c .given)) (matteOf (c .image) (c .given) (c .first) (c .rows))
 
   -- the answer and the band of this call
   abbrev pub done : Answer × List ℕ
@@ -44,7 +48,8 @@ module _ (c : Call) where
       some : (r : ℕ) → r ≡ n → r ≡ 0 → ⊥
       some r a b = omega arith
 
-  pub accepted-answer : refusal c ≡ 0 → _≡_ {A = Answer × List ℕ} (size, rowsOf (c .image) (c .given) (c .first) (c .rows)) done
+  pub accepted-answer : refusal c ≡ 0
+      → _≡_ {A = Answer × List ℕ} (size, rowsOf (c .image) (c .given) (c .first) (c .rows)) done
   unfolding answer left
   accepted-answer e =
       let q = eq-eqb (refusal c) 0 e in
@@ -68,11 +73,19 @@ module _ (c : Call) where
 
   -- once no row of the job holds
   pub placed-answer : jobRefusal (c .image) (c .given) ≡ 0
-      → inWindow (sourceOf (c .image) (c .given)) (frameOf (c .image) (c .given)) (channelsOf (c .image) (c .given)) (outWidth (c .image) (c .given)) (outHeight (c .image) (c .given)) (c .first) (c .rows) (c .band) ≡ done
+      → inWindow (sourceOf (c .image) (c .given)) (frameOf (c .image) (c .given))
+      (record {
+        width = outWidth (c .image) (c .given);
+        height = outHeight (c .image) (c .given);
+        channels = channelsOf (c .image) (c .given);
+      })
+      (record { first = c .first; count = c .rows }) (c .band) ≡ done
   unfolding inWindow badRows badTray rowsOf matteOf
   placed-answer j = go (badRows c) (badTray c) refl refl
     where
-      go : (a b : Bool) → badRows c ≡ a → badTray c ≡ b → cond a (Refused 10, c .band) (cond b (Refused 11, c .band) (size, rowsOf (c .image) (c .given) (c .first) (c .rows))) ≡ done
+      go : (a b : Bool) → badRows c ≡ a → badTray c ≡ b
+          → cond a (Refused 10, c .band)
+          (cond b (Refused 11, c .band) (size, rowsOf (c .image) (c .given) (c .first) (c .rows))) ≡ done
       go true b e f = refused-answer 10 (lit≤ tt) (rows-call c j ∙ sym (row-holds 10 _ _ e))
       go false true e f = refused-answer 11 (lit≤ tt) (rows-call c j ∙ sym (row-passed 10 _ _ e (row-holds 11 _ _ f)))
       go false false e f = accepted-answer (rows-call c j ∙ sym (row-passed 10 _ _ e (row-passed 11 _ _ f no-rows)))

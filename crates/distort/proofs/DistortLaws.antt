@@ -1,5 +1,5 @@
--- The call stage by stage: refused by the tests that need no fit, by the fit, or worked in its window; over any values that the code found
--- equal to the definition's. Assumes nothing.
+-- The call stage by stage: refused by the tests that need no fit, by the fit, or worked in its window; over any values
+-- that the code found equal to the definition's. Assumes nothing.
 use mathlib.Core.Path.{_≡_, refl, sym, ap, _∙_, subst⁻¹}
 use mathlib.Core.Logic.{_⊎_, ⊎-elim}
 use mathlib.Core.Bool.{Bool, true, false}
@@ -12,25 +12,48 @@ use lib.ListN.{length}
 use borrow.Author.Tests.{eq-eqb, ne-eqb}
 use Rattle.exact.specs.Table.{firstOf}
 use Rattle.exact.proofs.TableLaws.{row-holds, row-passed, no-rows}
-use Rattle.build.specs.Build.{build}
+use Rattle.fit.specs.Build.{build}
 use Rattle.mappings.specs.declared.mapping.Fitted.{Fitted}
 use Rattle.mappings.specs.declared.mapping.Mapping.{Mapping}
 use Rattle.window.specs.Window.{window, refusalOf, widthOf, heightOf, xOf, yOf}
 use Rattle.window.specs.declared.window.Placed.{Placed}
 use Rattle.window.specs.declared.window.Placed.the-variants.{Window}
 use Rattle.window.specs.declared.window.Placed.the-variants as Placed
-use Rattle.pixels.specs.Pixel.{Picture, Inside}
-use Rattle.pixels.specs.declared.colour.Rgba.{Rgba}
+use Rattle.picture.specs.Pixel.{Picture, Inside}
+use Rattle.picture.specs.declared.colour.Rgba.{Rgba}
 use Rattle.distort.specs.declared.answer.Answer.{Answer}
 use Rattle.distort.specs.declared.answer.Answer.the-variants.{Refused}
 use Rattle.distort.specs.Call.{sourceOf, answer, left}
-use Rattle.distort.specs.Job.{Image, Given, Call, plainly, yes, colourOf}
+use Rattle.band.specs.Band.{Source, mapped}
+use Rattle.band.specs.declared.rows.Rows.{Rows}
+use Rattle.picture.specs.declared.shape.Shape.{Shape}
+use Rattle.window.specs.declared.view.View.{View}
+use Rattle.distort.specs.Job.{Image, Given, Call, colourOf}
 use Rattle.distort.specs.Placed.{inWindow, windowed}
-use Rattle.distort.specs.Refusal.{fitOf, windowOf, widest, channelsOf, degenerate, badWindow, unfit, jobRefusal, refusal}
-use Rattle.distort.proofs.AcceptedLaws.{Passed, unfit-passed, small, fit-8, widest-known, unfit-job, fit-job, job-call}
+use Rattle.distort.specs.Refusal.{
+  fitOf,
+  viewOf,
+  windowOf,
+  widest,
+  channelsOf,
+  degenerate,
+  badWindow,
+  unfit,
+  jobRefusal,
+  refusal,
+}
+use Rattle.distort.proofs.AcceptedLaws.{
+  Passed,
+  unfit-passed,
+  small,
+  fit-8,
+  widest-known,
+  unfit-job,
+  fit-job,
+  job-call,
+}
 use Rattle.distort.proofs.CallLaws.{done, refused-answer, placed-answer}
 use Rattle.distort.proofs.SizeLaws.{OneThreeFour, size-fit, picture-fit, one-pixel}
-use Rattle.distort.proofs.ViewLaws.{Viewed, view-read}
 
 above : (n : ℕ) → (n ≡ 0 → ⊥) → 0 < n
 above n h = omega arith
@@ -45,6 +68,19 @@ module _ (c : Call) where
   abbrev m : Mapping
   m = fitOf (c .image) (c .given) .mapping
 
+  -- the rows that it asks for, and the picture with two colours
+  abbrev asked : Rows
+  asked = record { first = c .first; count = c .rows }
+
+  abbrev lookedAt : Rgba → Rgba → Source
+  lookedAt background matte = record {
+    image = p;
+    policy = g .policy;
+    interpolation = g .interpolation;
+    background = background;
+    matte = matte;
+  }
+
   abbrev Done : Answer → List ℕ → Type 0
   Done r out = (r ≡ answer c) × (out ≡ left c)
 
@@ -55,22 +91,14 @@ module _ (c : Call) where
   refused-by : (n : ℕ) → 0 < n → jobRefusal p g ≡ n → Done (Refused n) (c .band)
   refused-by n h e = parts (refused-answer c n h (job-call c n h e))
 
-  -- what the code's first tests read
-  abbrev plain : Given
-  plain = plainly (g .method) (g .arguments) (g .policy) (g .interpolation) (g .background) (g .matte)
-
-  same-tests : unfit p plain ≡ unfit p g
-  unfolding unfit
-  same-tests = refl
-
-  module _ {number : ℕ} (tests : number ≡ unfit p plain) where
+  module _ {number : ℕ} (tests : number ≡ unfit p g) where
     -- ---- 1 to 7
     pub by-tests : (number ≡ 0 → ⊥) → Done (Refused number) (c .band)
-    by-tests h = refused-by number (above number h) (unfit-job p g number (above number h) (sym (tests ∙ same-tests)))
+    by-tests h = refused-by number (above number h) (unfit-job p g number (above number h) (sym tests))
 
     module _ (none : number ≡ 0) where
       passes : unfit p g ≡ 0
-      passes = sym (tests ∙ same-tests) ∙ none
+      passes = sym tests ∙ none
 
       passed : Passed p g
       passed = unfit-passed p g passes
@@ -85,10 +113,12 @@ module _ (c : Call) where
       pub matte-known : length (g .matte) ≡ 16 → Inside (g .matte) 1 4 0 0
       matte-known e = one-pixel (g .matte) e (small p g passed .matte)
 
-      pub channels-known : {n : ℕ} (background : Rgba) → n ≡ widest (p .channels) (g .policy) background → OneThreeFour n
+      pub channels-known : {n : ℕ} (background : Rgba) → n ≡ widest (p .channels) (g .policy) background
+          → OneThreeFour n
       channels-known background e =
           subst⁻¹ OneThreeFour e
-          (widest-known (p .channels) (g .policy) background (size-fit (p .width) (p .height) (p .channels) (passed .size) .channels-known))
+          (widest-known (p .channels) (g .policy) background
+          (size-fit (p .width) (p .height) (p .channels) (passed .size) .channels-known))
 
       module _ {f : Fitted} (fits : f ≡ build (g .method) (g .arguments) (p .width) (p .height)) where
         fitted : f ≡ fitOf p g
@@ -110,33 +140,45 @@ module _ (c : Call) where
           unfolding degenerate
           window-left =
               fit-job p g passes
-              ∙ sym (row-passed 8 _ _ (ne-eqb _ _ (λ q. eight (sym (ap (λ (x : Fitted). x .refusal) fitted) ∙ maps) q)) refl)
+              ∙ sym (row-passed 8 _ _ (ne-eqb _ _ (λ q. eight (sym (ap (λ (x : Fitted). x .refusal) fitted) ∙ maps) q))
+              refl)
             where
               eight : {n : ℕ} → n ≡ 0 → n ≡ 8 → ⊥
               eight a b = omega arith
 
           -- ---- 9, and the window
-          at-window : windowed (windowOf p g) (sourceOf p g) (m .kind) (m .order) (m .count) (m .coef) (channelsOf p g) (c .first) (c .rows) (c .band) ≡ done c
+          at-window : windowed (windowOf p g) (sourceOf p g) m (channelsOf p g) asked (c .band) ≡ done c
           unfolding windowed badWindow
           at-window = go (windowOf p g) refl
             where
-              go : (w : Placed) → windowOf p g ≡ w → windowed w (sourceOf p g) (m .kind) (m .order) (m .count) (m .coef) (channelsOf p g) (c .first) (c .rows) (c .band) ≡ done c
+              go : (w : Placed) → windowOf p g ≡ w
+                  → windowed w (sourceOf p g) m (channelsOf p g) asked (c .band) ≡ done c
               go (Window w h x y) e =
-                  (λ i. inWindow (sourceOf p g) (record { kind = m .kind; order = m .order; count = m .count; coef = m .coef; x = xOf (sym e i); y = yOf (sym e i) }) (channelsOf p g) (widthOf (sym e i)) (heightOf (sym e i)) (c .first) (c .rows) (c .band))
-                  ∙ placed-answer c (window-left ∙ sym (row-passed 9 _ _ (ap (λ (q : Placed). eqb (refusalOf q) 9) e) no-rows))
+                  (λ i. inWindow (sourceOf p g) (mapped m (xOf (sym e i)) (yOf (sym e i)))
+                  (record { width = widthOf (sym e i); height = heightOf (sym e i); channels = channelsOf p g }) asked
+                  (c .band))
+                  ∙ placed-answer c (window-left
+                  ∙ sym (row-passed 9 _ _ (ap (λ (q : Placed). eqb (refusalOf q) 9) e) no-rows))
               go Placed.Refused e =
-                  refused-answer c 9 (lit≤ tt) (job-call c 9 (lit≤ tt) (window-left ∙ sym (row-holds 9 _ _ (ap (λ (q : Placed). eqb (refusalOf q) 9) e))))
+                  refused-answer c 9 (lit≤ tt)
+                  (job-call c 9 (lit≤ tt) (window-left
+                  ∙ sym (row-holds 9 _ _ (ap (λ (q : Placed). eqb (refusalOf q) 9) e))))
 
-          pub by-window : {best viewport : Bool} {width height : ℕ} {x y : ℤ} {background matte : Rgba} {channels : ℕ} {r : Answer} {out : List ℕ}
-              → best ≡ yes (g .bestfit) → viewport ≡ yes (g .viewport) → (viewport ≡ true → Viewed c width height x y)
-              → background ≡ colourOf (g .background) → matte ≡ colourOf (g .matte) → channels ≡ widest (p .channels) (g .policy) background
-              → _≡_ {A = Answer × List ℕ} (r, out) (windowed (window (f .mapping .kind) (f .mapping .coef) (p .width) (p .height) best viewport width height x y) (record { image = p; policy = g .policy; interpolation = g .interpolation; background = background; matte = matte }) (f .mapping .kind) (f .mapping .order) (f .mapping .count) (f .mapping .coef) channels (c .first) (c .rows) (c .band))
+          pub by-window : (view : View) {background matte : Rgba} {channels : ℕ} {r : Answer} {out : List ℕ}
+              → window (f .mapping .kind) (f .mapping .coef) (p .width) (p .height) view
+              ≡ window (f .mapping .kind) (f .mapping .coef) (p .width) (p .height) (viewOf g)
+              → background ≡ colourOf (g .background) → matte ≡ colourOf (g .matte)
+              → channels ≡ widest (p .channels) (g .policy) background
+              → _≡_ {A = Answer × List ℕ} (r, out)
+              (windowed (window (f .mapping .kind) (f .mapping .coef) (p .width) (p .height) view)
+              (lookedAt background matte) (f .mapping) channels asked (c .band))
               → Done r out
           unfolding windowOf
-          by-window {best} {viewport} {width} {height} {x} {y} {background} {matte} {channels} eb ev seen eg em ec e =
+          by-window view {background} {matte} {channels} seen eg em ec e =
               let wide = ec ∙ ap (widest (p .channels) (g .policy)) eg in
               parts
               (e
-              ∙ ap (λ (q : Placed). windowed q (record { image = p; policy = g .policy; interpolation = g .interpolation; background = background; matte = matte }) (f .mapping .kind) (f .mapping .order) (f .mapping .count) (f .mapping .coef) channels (c .first) (c .rows) (c .band)) (view-read c (f .mapping .kind) (f .mapping .coef) best viewport width height x y seen)
-              ∙ (λ i. windowed (window (fitted i .mapping .kind) (fitted i .mapping .coef) (p .width) (p .height) (eb i) (ev i) (g .viewWidth) (g .viewHeight) (g .viewX) (g .viewY)) (record { image = p; policy = g .policy; interpolation = g .interpolation; background = eg i; matte = em i }) (fitted i .mapping .kind) (fitted i .mapping .order) (fitted i .mapping .count) (fitted i .mapping .coef) (wide i) (c .first) (c .rows) (c .band))
+              ∙ ap (λ (q : Placed). windowed q (lookedAt background matte) (f .mapping) channels asked (c .band)) seen
+              ∙ (λ i. windowed (window (fitted i .mapping .kind) (fitted i .mapping .coef) (p .width) (p .height)
+              (viewOf g)) (lookedAt (eg i) (em i)) (fitted i .mapping) (wide i) asked (c .band))
               ∙ at-window)

@@ -1,5 +1,6 @@
--- What is refused for a band is refused for the whole, but for 10 and 11: rows 1 to 9 of the table read the job alone. And where rows and
--- band are fit, the job alone decides, so that a call for no rows asks for the size. Assumes nothing.
+-- What is refused for a band is refused for the whole, but for 10 and 11: rows 1 to 9 of the table read the job alone.
+-- And where rows and band are fit, the job alone decides, so that a call for no rows asks for the size. Assumes
+-- nothing.
 use mathlib.Core.Path.{_≡_, refl, sym, ap, _∙_, subst}
 use mathlib.Core.Logic.{_⊎_, inl, inr, ⊎-elim}
 use mathlib.Core.Bool.{Bool, true, false, not}
@@ -17,16 +18,19 @@ use Rattle.distort.specs.Call.{outWidth, outHeight}
 use Rattle.distort.proofs.AcceptedLaws.{job-call, rows-call, job-of-call}
 
 -- ---- the last two rows
-last-rows : (a b : Bool) → (firstOf ((10, a) ∷ ((11, b) ∷ [])) ≡ 0) ⊎ ((firstOf ((10, a) ∷ ((11, b) ∷ [])) ≡ 10) ⊎ (firstOf ((10, a) ∷ ((11, b) ∷ [])) ≡ 11))
+last-rows : (a b : Bool) → (firstOf ((10, a) ∷ ((11, b) ∷ [])) ≡ 0)
+    ⊎ ((firstOf ((10, a) ∷ ((11, b) ∷ [])) ≡ 10) ⊎ (firstOf ((10, a) ∷ ((11, b) ∷ [])) ≡ 11))
 unfolding firstOf
 last-rows true b = inr (inl refl)
 last-rows false true = inr (inr refl)
 last-rows false false = inl refl
 
-pub job-passes : (c : Call) → jobRefusal (c .image) (c .given) ≡ 0 → (refusal c ≡ 0) ⊎ ((refusal c ≡ 10) ⊎ (refusal c ≡ 11))
+pub job-passes : (c : Call) → jobRefusal (c .image) (c .given) ≡ 0 → (refusal c ≡ 0)
+    ⊎ ((refusal c ≡ 10) ⊎ (refusal c ≡ 11))
 job-passes c e =
     let r = rows-call c e in
-    ⊎-elim (λ q. inl (r ∙ q)) (λ t. inr (⊎-elim (λ q. inl (r ∙ q)) (λ q. inr (r ∙ q)) t)) (last-rows (badRows c) (badTray c))
+    ⊎-elim (λ q. inl (r ∙ q)) (λ t. inr (⊎-elim (λ q. inl (r ∙ q)) (λ q. inr (r ∙ q)) t))
+    (last-rows (badRows c) (badTray c))
 
 -- a number from 1 to 9 is the job's
 pub own-number : (c : Call) (n : ℕ) → 1 ≤ n → n ≤ 9 → refusal c ≡ n → jobRefusal (c .image) (c .given) ≡ n
@@ -63,7 +67,8 @@ module _ (c d : Call) (pictures : c .image ≡ d .image) (gifts : c .given ≡ d
 
 -- ---- rows and band that are fit
 pub fitting : (c : Call) → c .first + c .rows ≤ outHeight (c .image) (c .given)
-    → length (c .band) ≡ c .rows * outWidth (c .image) (c .given) * channelsOf (c .image) (c .given) * 4 → refusal c ≡ jobRefusal (c .image) (c .given)
+    → length (c .band) ≡ c .rows * outWidth (c .image) (c .given) * channelsOf (c .image) (c .given) * 4
+    → refusal c ≡ jobRefusal (c .image) (c .given)
 fitting c h e = go (jobRefusal (c .image) (c .given)) refl
   where
     rows-fit : badRows c ≡ false
@@ -85,12 +90,14 @@ module _ (p : Image) (g : Given) where
   abbrev pub asking : ℕ → Call
   asking first = record { image = p; given = g; first = first; rows = 0; band = [] }
 
-  pub whole-refusal : (band : List ℕ) → length band ≡ outHeight p g * outWidth p g * channelsOf p g * 4 → refusal (whole band) ≡ jobRefusal p g
+  pub whole-refusal : (band : List ℕ) → length band ≡ outHeight p g * outWidth p g * channelsOf p g * 4
+      → refusal (whole band) ≡ jobRefusal p g
   whole-refusal band e = fitting (whole band) (omega arith) e
 
   pub asking-refusal : (first : ℕ) → first ≤ outHeight p g → refusal (asking first) ≡ jobRefusal p g
   asking-refusal first h = fitting (asking first) (omega arith) (omega arith)
 
   -- so that who asks for the size learns whether the whole is accepted, and if not why
-  pub asked-whole : (band : List ℕ) → length band ≡ outHeight p g * outWidth p g * channelsOf p g * 4 → refusal (asking 0) ≡ refusal (whole band)
+  pub asked-whole : (band : List ℕ) → length band ≡ outHeight p g * outWidth p g * channelsOf p g * 4
+      → refusal (asking 0) ≡ refusal (whole band)
   asked-whole band e = asking-refusal 0 (omega arith) ∙ sym (whole-refusal band e)

@@ -1,4 +1,5 @@
--- Where the test of the samples fails, every one of them is a number of at most 65,536, by the laws of that test. Assumes nothing.
+-- Where the test of the samples fails, every one of them is a number of at most 65,536, by the laws of that test.
+-- Assumes nothing.
 use mathlib.Core.Path.{_≡_, sym, subst}
 use mathlib.Core.Bool.{true, false}
 use mathlib.Core.List.{List}
@@ -9,10 +10,10 @@ use Rattle.exact.specs.Fraction.{frac}
 use Rattle.endian.specs.Bytes.{sampleAt}
 use Rattle.number.specs.Magnitude.{within}
 use Rattle.sampler.proofs.AtFinite.{limit, within-bounded}
-use Rattle.pixels.specs.Pixel.{Limited, widened, pixelAt}
-use Rattle.pixels.proofs.LimitedLaws as Limits
-use Rattle.pixels.proofs.LimitedLaws.{limited-by}
-use Rattle.weighted.specs.Weighted.{Bounded, BoundedBy}
+use Rattle.picture.specs.Pixel.{Limited, widened, pixelAt}
+use Rattle.picture.proofs.LimitedLaws as Limits
+use Rattle.picture.proofs.LimitedLaws.{limited-by}
+use Rattle.taps.specs.Weighted.{Bounded, BoundedBy}
 use Rattle.distort.specs.Job.{colourOf}
 use Rattle.distort.specs.Refusal.{large}
 

@@ -1,4 +1,5 @@
--- Where refusals 1, 2 and 5 do not apply, the picture is one of the sampler's, and its samples are few enough to count. Assumes nothing.
+-- Where refusals 1, 2 and 5 do not apply, the picture is one of the sampler's, and its samples are few enough to count.
+-- Assumes nothing.
 use mathlib.Core.Path.{_≡_}
 use mathlib.Core.Logic.{_⊎_, inl, inr, ⊎-elim}
 use mathlib.Core.Bool.{Bool, true, false, not, _||_}
@@ -10,7 +11,7 @@ use lib.Dec.{eqb, ltb, lit≤}
 use lib.ListN.{length}
 use borrow.Author.Tests.{eqb-true, eqb-false, ltb-false, not-false}
 use Rattle.arguments.proofs.CountLaws.{neither, either}
-use Rattle.pixels.specs.Pixel.{Picture, Inside}
+use Rattle.picture.specs.Pixel.{Picture, Inside}
 use Rattle.distort.specs.Job.{Image}
 use Rattle.distort.specs.Refusal.{badSide, badChannels, badSize, badStock, large}
 use Rattle.distort.proofs.LargeLaws.{limited}
@@ -29,7 +30,8 @@ OneThreeFour n = (n ≡ 1) ⊎ ((n ≡ 3) ⊎ (n ≡ 4))
 pub channels-fit : (n : ℕ) → badChannels n ≡ false → OneThreeFour n
 unfolding badChannels
 channels-fit n h =
-    ⊎-elim (λ e. inl (eqb-true n 1 e)) (λ t. inr (⊎-elim (λ e. inl (eqb-true n 3 e)) (λ e. inr (eqb-true n 4 e)) (either (eqb n 3) (eqb n 4) t)))
+    ⊎-elim (λ e. inl (eqb-true n 1 e))
+    (λ t. inr (⊎-elim (λ e. inl (eqb-true n 3 e)) (λ e. inr (eqb-true n 4 e)) (either (eqb n 3) (eqb n 4) t)))
     (either (eqb n 1) (eqb n 3 || eqb n 4) (not-false (eqb n 1 || (eqb n 3 || eqb n 4)) h))
 
 pub channels-range : (n : ℕ) → OneThreeFour n → (0 < n) × (n ≤ 4)
@@ -49,7 +51,11 @@ unfolding badSize
 size-fit width height channels h =
     let t = neither (badSide width) (badSide height || badChannels channels) h in
     let u = neither (badSide height) (badChannels channels) (t .1) in
-    record { across = side-fit width (t .0); down = side-fit height (u .0); channels-known = channels-fit channels (u .1) }
+    record {
+      across = side-fit width (t .0);
+      down = side-fit height (u .0);
+      channels-known = channels-fit channels (u .1);
+    }
 
 pub area-small : (w h : ℕ) → w ≤ 4096 → h ≤ 4096 → w * h ≤ 16777216
 area-small w h a b = mul-le-mul a b
@@ -60,15 +66,20 @@ samples-small w h c a b d = mul-le-mul (area-small w h a b) d
 -- the two products of a picture of these sizes
 pub counted : (w h c : ℕ) → badSize w h c ≡ false → (w * h ≤ 16777216) × (w * h * c ≤ 67108864)
 counted w h c f =
-    let s = size-fit w h c f in
-    (area-small w h (s .across .1) (s .down .1), samples-small w h c (s .across .1) (s .down .1) (channels-range c (s .channels-known) .1))
+    let s = size-fit w h c f in (
+      area-small w h (s .across .1) (s .down .1),
+      samples-small w h c (s .across .1) (s .down .1) (channels-range c (s .channels-known) .1),
+    )
 
 -- ---- 2
 pub stock-whole : (p : Image) → badStock p ≡ false → length (p .bytes) ≡ p .width * p .height * p .channels * 4
 unfolding badStock
-stock-whole p h = eqb-true (length (p .bytes)) (p .width * p .height * p .channels * 4) (not-false (eqb (length (p .bytes)) (p .width * p .height * p .channels * 4)) h)
+stock-whole p h = eqb-true (length (p .bytes)) (p .width * p .height * p .channels * 4)
+    (not-false (eqb (length (p .bytes)) (p .width * p .height * p .channels * 4)) h)
 
-pub picture-fit : (p : Image) → badSize (p .width) (p .height) (p .channels) ≡ false → badStock p ≡ false → large (p .bytes) (p .width * p .height * p .channels) ≡ false → Picture (p .bytes) (p .width) (p .height) (p .channels)
+pub picture-fit : (p : Image) → badSize (p .width) (p .height) (p .channels) ≡ false → badStock p ≡ false
+    → large (p .bytes) (p .width * p .height * p .channels) ≡ false
+    → Picture (p .bytes) (p .width) (p .height) (p .channels)
 picture-fit p f g l =
     let s = size-fit (p .width) (p .height) (p .channels) f in
     let c = channels-range (p .channels) (s .channels-known) in

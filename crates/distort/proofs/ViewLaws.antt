@@ -1,36 +1,33 @@
 -- Where there is no viewport its numbers are not read, so the code may hand on what it was given. Assumes nothing.
-use mathlib.Core.Path.{_≡_, refl, sym, ap, _∙_}
+use mathlib.Core.Path.{_≡_, refl}
 use mathlib.Core.Bool.{Bool, true, false, cond}
+use mathlib.Core.List.{List}
 use Prim.Native.Nat.{ℕ}
 use lib.IntN.{ℤ, pos}
-use Rattle.matrix.specs.Matrix.{Vector}
+use Rattle.exact.specs.Vector.{Vector}
 use Rattle.window.specs.Window.{window}
-use Rattle.distort.specs.Job.{Image, Given, Call, yes, flag}
+use Rattle.window.specs.declared.view.View.{View}
+use Rattle.window.specs.declared.window.Placed.{Placed}
+use Rattle.distort.specs.Job.{givenBy, yes, flag}
+use Rattle.distort.specs.Refusal.{viewOf}
+use Rattle.distort.specs.declared.job.Job.{Job}
 
--- the numbers of the call's viewport
-pub record Viewed (c : Call) (w h : ℕ) (a b : ℤ) : Type 0 where
-  pub width : w ≡ c .given .viewWidth
-  pub height : h ≡ c .given .viewHeight
-  pub x : a ≡ c .given .viewX
-  pub y : b ≡ c .given .viewY
-
-pub view-read : (c : Call) (kind : ℕ) (coef : Vector) (best viewport : Bool) (width height : ℕ) (x y : ℤ) → (viewport ≡ true → Viewed c width height x y)
-    → window kind coef (c .image .width) (c .image .height) best viewport width height x y
-    ≡ window kind coef (c .image .width) (c .image .height) best viewport (c .given .viewWidth) (c .given .viewHeight) (c .given .viewX) (c .given .viewY)
+-- the window that the call is given is the one that its view asks for
+pub view-read : (kind : ℕ) (coef : Vector) (width height : ℕ) (arguments background matte : List ℕ) (j : Job)
+    → window kind coef width height (j .view) ≡ window kind coef width height
+    (viewOf (givenBy arguments background matte j))
 unfolding window
-view-read c kind coef best true width height x y seen =
-    let v = seen refl in
-    λ i. window kind coef (c .image .width) (c .image .height) best true (v .width i) (v .height i) (v .x i) (v .y i)
-view-read c kind coef best false width height x y seen = refl
-
--- a yes stays one
-pub yes-flag : {b : Bool} (n : ℕ) → b ≡ yes n → b ≡ yes (flag (yes n))
-yes-flag n e = e ∙ go (yes n)
+view-read kind coef width height arguments background matte j = go (j .view .bestfit) (j .view .given)
   where
-    go : (b : Bool) → b ≡ yes (flag b)
-    go true = refl
-    go false = refl
+    asked : Bool → Bool → ℕ → ℕ → ℤ → ℤ → Placed
+    asked b g w h x y = window kind coef width height
+        (record { bestfit = b; given = g; width = w; height = h; x = x; y = y })
 
--- what is read where a test holds
-pub read-if : {A : Type 0} {b t : Bool} {x y : A} (z : A) → b ≡ t → b ≡ true → x ≡ y → x ≡ cond t y z
-read-if {A} {b} {t} {x} {y} z e h g = g ∙ ap (λ (s : Bool). cond s y z) (sym h ∙ e)
+    go : (b g : Bool)
+        → asked b g (j .view .width) (j .view .height) (j .view .x) (j .view .y)
+        ≡ asked (yes (flag b)) (yes (flag g)) (cond g (j .view .width) 0) (cond g (j .view .height) 0)
+        (cond g (j .view .x) (pos 0)) (cond g (j .view .y) (pos 0))
+    go true true = refl
+    go true false = refl
+    go false true = refl
+    go false false = refl

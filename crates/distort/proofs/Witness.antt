@@ -1,10 +1,31 @@
--- No number of the table is out of reach, and calls are accepted: one for each, computed from one list. Assumes nothing.
+-- No number of the table is out of reach, and calls are accepted: one for each, computed from one list. Assumes
+-- nothing.
 use mathlib.Core.Path.{_≡_, refl}
 use mathlib.Core.List.{List, [], _∷_, _++_, map}
 use Prim.Native.Nat.{ℕ}
 use lib.IntN.{pos}
 use lib.ListN.{replicate}
-use lib.Ieee.{ofBits, ofFields, ofInt, odd, lt, le, eq, add, sub, mul, div, neg, isNan, sum, round, units, size, span, climb}
+use lib.Ieee.{
+  ofBits,
+  ofFields,
+  ofInt,
+  odd,
+  lt,
+  le,
+  eq,
+  add,
+  sub,
+  mul,
+  div,
+  neg,
+  isNan,
+  sum,
+  round,
+  units,
+  size,
+  span,
+  climb,
+}
 use Rattle.exact.specs.Loop.{turns, upTo}
 use Rattle.exact.specs.Table.{firstOf}
 use Rattle.endian.specs.Bytes.{numberAt}
@@ -16,14 +37,30 @@ use Rattle.arguments.specs.Store.{heldOf, keep, valuesOf, orderOf}
 use Rattle.arguments.specs.Refusal as Arguments
 use Rattle.arguments.proofs.Witness.{zeros, float}
 use Rattle.fit.specs.Affine.{affineProjection, shift, affine}
-use Rattle.build.specs.Build.{made, build}
-use Rattle.matrix.specs.Invert.{invertAffine}
+use Rattle.fit.specs.Build.{made, build}
+use Rattle.linear.specs.Invert.{invertAffine}
 use Rattle.mappings.specs.Mapping.{mapping, refused, solvedOr8}
-use Rattle.window.specs.Span.{goodOffset, goodLength, held}
+use Rattle.window.specs.Extent.{goodOffset, goodLength, held}
 use Rattle.window.specs.Window.{joined, window}
-use Rattle.pixels.specs.Pixel.{widened, pixelAt}
+use Rattle.picture.specs.Pixel.{widened, pixelAt}
 use Rattle.distort.specs.Job.{Image, Call, imageOf, callOf}
-use Rattle.distort.specs.Refusal.{fitOf, windowOf, widest, badSide, badChannels, badSize, badStock, badCode, large, badNumber, degenerate, badWindow, badRows, badTray, refusal}
+use Rattle.distort.specs.Refusal.{
+  fitOf,
+  windowOf,
+  widest,
+  badSide,
+  badChannels,
+  badSize,
+  badStock,
+  badCode,
+  large,
+  badNumber,
+  degenerate,
+  badWindow,
+  badRows,
+  badTray,
+  refusal,
+}
 
 -- one grey pixel
 abbrev grey : List ℕ → Image
@@ -35,7 +72,8 @@ black = grey (replicate 4 0)
 -- under `Edge`, `Bilinear` and a clear background, so that the output has four channels
 abbrev ask : Image → ℕ → List ℕ → ℕ → ℕ → ℕ → ℕ → Call
 ask p method arguments viewport first rows room =
-    callOf (p .bytes) (p .width) (p .height) (p .channels) method arguments 0 5 (replicate 16 0) (replicate 16 0) 0 viewport 0 0 (pos 0) (pos 0) first rows (replicate room 0)
+    callOf (p .bytes) (p .width) (p .height) (p .channels) method arguments 0 5 (replicate 16 0) (replicate 16 0) 0
+    viewport 0 0 (pos 0) (pos 0) first rows (replicate room 0)
 
 abbrev pub calls : List Call
 calls =
@@ -56,5 +94,11 @@ calls =
     ∷ [])))))))))))))
 
 pub numbers : map refusal calls ≡ 0 ∷ (0 ∷ (0 ∷ (1 ∷ (2 ∷ (3 ∷ (4 ∷ (5 ∷ (6 ∷ (7 ∷ (8 ∷ (9 ∷ (10 ∷ (11 ∷ [])))))))))))))
-unfolding refusal firstOf badSide badChannels badSize badStock badCode large badNumber degenerate badWindow badRows badTray fitOf windowOf widest widened pixelAt present skip leastPairs Arguments.refusal Arguments.badCount Arguments.badFor Arguments.badValues Arguments.badNumber Arguments.stillGood Arguments.goodNumber Arguments.badOrder Arguments.pairsOf Arguments.fewPairs goodOrder termsOf bilinearOrder degree heldOf keep valuesOf orderOf build made affine shift affineProjection invertAffine mapping refused solvedOr8 window joined held goodOffset goodLength upTo turns within abs numberAt ofBits ofFields ofInt odd lt le eq add sub mul div neg isNan sum round units size span climb
+unfolding refusal firstOf badSide badChannels badSize badStock badCode large badNumber degenerate badWindow badRows
+    badTray fitOf windowOf widest widened pixelAt present skip leastPairs Arguments.refusal Arguments.badCount
+    Arguments.badFor Arguments.badValues Arguments.badNumber Arguments.stillGood Arguments.goodNumber
+    Arguments.badOrder Arguments.pairsOf Arguments.fewPairs goodOrder termsOf bilinearOrder degree heldOf keep valuesOf
+    orderOf build made affine shift affineProjection invertAffine mapping refused solvedOr8 window joined held
+    goodOffset goodLength upTo turns within abs numberAt ofBits ofFields ofInt odd lt le eq add sub mul div neg isNan
+    sum round units size span climb
 numbers = refl

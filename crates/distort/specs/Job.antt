@@ -1,12 +1,17 @@
--- A distort call: the picture it is lent, what it is given besides, the rows it is asked for and the band they go to. Assumes nothing.
+-- A distort call: the picture it is lent, what it is given besides, the rows it is asked for and the band they go to.
+-- Specification 1.1. Assumes nothing.
 use Prim.Native.Nat.{ℕ}
 use mathlib.Core.Bool.{Bool, not, cond}
 use mathlib.Core.List.{List}
 use lib.Dec.{eqb}
 use lib.IntN.{ℤ, pos}
-use Rattle.pixels.specs.Pixel.{pixelAt}
-use Rattle.pixels.specs.declared.colour.Rgba.{Rgba}
-pub use Rattle.put.specs.Image.{Image, imageOf}
+use Rattle.picture.specs.Pixel.{pixelAt}
+use Rattle.picture.specs.declared.colour.Rgba.{Rgba}
+use Rattle.picture.specs.declared.shape.Shape.{Shape}
+use Rattle.band.specs.declared.rows.Rows.{Rows}
+use Rattle.window.specs.declared.view.View.{View}
+use Rattle.distort.specs.declared.job.Job.{Job}
+pub use Rattle.band.specs.Image.{Image, imageOf, shapedImage}
 
 -- all that a call is given except picture, rows and band
 pub record Given : Type 0 where
@@ -23,23 +28,6 @@ pub record Given : Type 0 where
   pub viewX : ℤ
   pub viewY : ℤ
 
--- where nothing is asked of the window
-abbrev pub plainly : ℕ → List ℕ → ℕ → ℕ → List ℕ → List ℕ → Given
-plainly method arguments policy interpolation background matte = record {
-  method = method;
-  arguments = arguments;
-  policy = policy;
-  interpolation = interpolation;
-  background = background;
-  matte = matte;
-  bestfit = 0;
-  viewport = 0;
-  viewWidth = 0;
-  viewHeight = 0;
-  viewX = pos 0;
-  viewY = pos 0;
-}
-
 pub record Call : Type 0 where
   pub image : Image
   pub given : Given
@@ -54,28 +42,59 @@ yes n = not (eqb n 0)
 abbrev pub flag : Bool → ℕ
 flag b = cond b 1 0
 
--- from the call's parameters, in their order. A yes is 1, and where there is no viewport its numbers are none, so that what is not given does not count.
-abbrev pub callOf : List ℕ → ℕ → ℕ → ℕ → ℕ → List ℕ → ℕ → ℕ → List ℕ → List ℕ → ℕ → ℕ → ℕ → ℕ → ℤ → ℤ → ℕ → ℕ → List ℕ → Call
-callOf picture width height channels method arguments policy interpolation background matte bestfit viewport view-width view-height view-x view-y first rows band = record {
-  image = imageOf picture width height channels;
-  given = record {
-    method = method;
-    arguments = arguments;
-    policy = policy;
-    interpolation = interpolation;
-    background = background;
-    matte = matte;
-    bestfit = flag (yes bestfit);
-    viewport = flag (yes viewport);
-    viewWidth = cond (yes viewport) view-width 0;
-    viewHeight = cond (yes viewport) view-height 0;
-    viewX = cond (yes viewport) view-x (pos 0);
-    viewY = cond (yes viewport) view-y (pos 0);
-  };
-  first = first;
-  rows = rows;
+-- by the numbers that the code hands on. A yes is 1, and where there is no viewport its numbers are none, so that what
+-- is not given does not count.
+abbrev pub givenBy : List ℕ → List ℕ → List ℕ → Job → Given
+givenBy arguments background matte j = record {
+  method = j .method;
+  arguments = arguments;
+  policy = j .policy;
+  interpolation = j .interpolation;
+  background = background;
+  matte = matte;
+  bestfit = flag (j .view .bestfit);
+  viewport = flag (j .view .given);
+  viewWidth = cond (j .view .given) (j .view .width) 0;
+  viewHeight = cond (j .view .given) (j .view .height) 0;
+  viewX = cond (j .view .given) (j .view .x) (pos 0);
+  viewY = cond (j .view .given) (j .view .y) (pos 0);
+}
+
+abbrev pub callBy : List ℕ → List ℕ → List ℕ → List ℕ → Job → List ℕ → Call
+callBy picture arguments background matte j band = record {
+  image = shapedImage picture (j .shape);
+  given = givenBy arguments background matte j;
+  first = j .rows .first;
+  rows = j .rows .count;
   band = band;
 }
+
+-- from the call's parameters, in their order
+abbrev pub jobOf : ℕ → ℕ → ℕ → ℕ → ℕ → ℕ → ℕ → ℕ → ℕ → ℕ → ℤ → ℤ → ℕ → ℕ → Job
+jobOf width height channels method policy interpolation bestfit viewport view-width view-height view-x view-y first
+    rows = record {
+      shape = record { width = width; height = height; channels = channels };
+      method = method;
+      policy = policy;
+      interpolation = interpolation;
+      view = record {
+        bestfit = yes bestfit;
+        given = yes viewport;
+        width = view-width;
+        height = view-height;
+        x = view-x;
+        y = view-y;
+      };
+      rows = record { first = first; count = rows };
+    }
+
+abbrev pub callOf : List ℕ → ℕ → ℕ → ℕ → ℕ → List ℕ → ℕ → ℕ → List ℕ → List ℕ → ℕ → ℕ → ℕ → ℕ → ℤ → ℤ → ℕ → ℕ → List ℕ
+    → Call
+callOf picture width height channels method arguments policy interpolation background matte bestfit viewport view-width
+    view-height view-x view-y first rows band =
+    callBy picture arguments background matte
+    (jobOf width height channels method policy interpolation bestfit viewport view-width view-height view-x view-y
+    first rows) band
 
 -- background and matte are four f32 in 16 bytes
 abbrev pub colourOf : List ℕ → Rgba

@@ -1,5 +1,5 @@
--- Document 01's refusal table: each test by itself, then the table. A test stands on its own and may be asked out of turn; the table's order says which
--- number a caller gets. Assumes nothing.
+-- The refusal table (specification 2): each test by itself, then the table. A test stands on its own and may be asked
+-- out of turn; the table's order says which number a caller gets. Assumes nothing.
 use Prim.Native.Nat.{ℕ, _+_, _*_}
 use mathlib.Core.Bool.{Bool, not, _||_, cond}
 use mathlib.Core.List.{List, [], _∷_}
@@ -7,15 +7,16 @@ use lib.Dec.{eqb, ltb}
 use lib.ListN.{length, take}
 use lib.Ieee.{lt}
 use Rattle.exact.specs.Table.{firstOf}
-unfoldable pub use Rattle.samples.specs.Samples.{large}
+unfoldable pub use Rattle.sample_limit.specs.Samples.{large}
 use Rattle.arguments.specs.Method.{present}
 use Rattle.arguments.specs.Refusal as Arguments
-use Rattle.build.specs.Build.{build}
+use Rattle.fit.specs.Build.{build}
 use Rattle.mappings.specs.declared.mapping.Fitted.{Fitted}
 use Rattle.mappings.specs.declared.mapping.Mapping.{Mapping}
-use Rattle.pixels.specs.Colour.{one}
-use Rattle.pixels.specs.declared.colour.Rgba.{Rgba}
+use Rattle.picture.specs.Colour.{one}
+use Rattle.picture.specs.declared.colour.Rgba.{Rgba}
 use Rattle.window.specs.Window.{window, refusalOf, widthOf, heightOf}
+use Rattle.window.specs.declared.view.View.{View}
 use Rattle.window.specs.declared.window.Placed.{Placed}
 use Rattle.distort.specs.Job.{Image, Given, Call, yes, colourOf}
 
@@ -23,17 +24,28 @@ use Rattle.distort.specs.Job.{Image, Given, Call, yes, colourOf}
 unfoldable pub fitOf : Image → Given → Fitted
 fitOf p g = build (g .method) (g .arguments) (p .width) (p .height)
 
+abbrev pub viewOf : Given → View
+viewOf g = record {
+  bestfit = yes (g .bestfit);
+  given = yes (g .viewport);
+  width = g .viewWidth;
+  height = g .viewHeight;
+  x = g .viewX;
+  y = g .viewY;
+}
+
 unfoldable pub windowOf : Image → Given → Placed
-windowOf p g =
-    window (fitOf p g .mapping .kind) (fitOf p g .mapping .coef) (p .width) (p .height) (yes (g .bestfit)) (yes (g .viewport)) (g .viewWidth) (g .viewHeight) (g .viewX) (g .viewY)
+windowOf p g = window (fitOf p g .mapping .kind) (fitOf p g .mapping .coef) (p .width) (p .height) (viewOf g)
 
 -- the code of the policy `Transparent`
 abbrev pub transparent : ℕ
 transparent = 5
 
--- four if the picture has four, the policy is `Transparent`, or the background's alpha is below 1; otherwise the picture's own
+-- four if the picture has four, the policy is `Transparent`, or the background's alpha is below 1; otherwise the
+-- picture's own
 unfoldable pub widest : ℕ → ℕ → Rgba → ℕ
-widest channels policy background = cond (eqb channels 4 || (eqb policy transparent || lt (background .a) one)) 4 channels
+widest channels policy background =
+    cond (eqb channels 4 || (eqb policy transparent || lt (background .a) one)) 4 channels
 
 abbrev pub channelsOf : Image → Given → ℕ
 channelsOf p g = widest (p .channels) (g .policy) (colourOf (g .background))
@@ -59,7 +71,8 @@ badCode method policy interpolation = not (present method) || (ltb 13 policy || 
 -- ---- 5, number
 unfoldable pub badNumber : Image → List ℕ → List ℕ → List ℕ → Bool
 badNumber p arguments background matte =
-    Arguments.badNumber arguments || (large (p .bytes) (p .width * p .height * p .channels) || (large background 4 || large matte 4))
+    Arguments.badNumber arguments
+    || (large (p .bytes) (p .width * p .height * p .channels) || (large background 4 || large matte 4))
 
 -- ---- 8, degenerate: the fit, once the arguments are fit for it, gives no mapping
 unfoldable pub degenerate : Image → Given → Bool
@@ -75,7 +88,8 @@ badRows c = ltb (heightOf (windowOf (c .image) (c .given))) (c .first + c .rows)
 
 -- ---- 11, tray: the band's length is not rows × output width × output channels samples of four bytes
 unfoldable pub badTray : Call → Bool
-badTray c = not (eqb (length (c .band)) (c .rows * widthOf (windowOf (c .image) (c .given)) * channelsOf (c .image) (c .given) * 4))
+badTray c = not (eqb (length (c .band))
+    (c .rows * widthOf (windowOf (c .image) (c .given)) * channelsOf (c .image) (c .given) * 4))
 
 -- ---- the table
 abbrev pub ofJob : Image → Given → List (ℕ × Bool) → List (ℕ × Bool)

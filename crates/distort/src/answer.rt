@@ -1,10 +1,11 @@
 // What a distort call answers, and the answer in bytes. Assumes nothing.
 ghost use mathlib.Core.Path.{_≡_};
-ghost use Rattle.distort.specs.Call.{numberOf, putAnswer};
-use endian::bytes::put_i64;
-use endian::bytes::put_u64;
+ghost use Rattle.distort.specs.Call.{numberOf, storeAnswer};
+use endian::bytes::store_i64;
+use endian::bytes::store_u64;
 
-// An accepted call: the output's size, where it lies, its channels, and the matte pixels of the band. A refused one: the number.
+// An accepted call: the output's size, where it lies, its channels, and the matte pixels of the band. A refused one:
+// the number.
 pub enum Answer {
     Accepted {
         width: u64,
@@ -18,8 +19,8 @@ pub enum Answer {
 }
 
 // The number, 0 where the call is accepted, and then its values in the bytes lent; a refusal writes nothing.
-pub fn put_answer(answer: Answer, out: &mut [u8; 48]) -> u64
-    ensures { λ r. ⌜ (r ≡ numberOf answer) × (now (out .exit) ≡ putAnswer answer (now (out .entry))) ⌝ }
+pub fn store_answer(answer: Answer, out: &mut [u8; 48]) -> u64
+    ensures { λ r. ⌜ (r ≡ numberOf answer) × (now (out .exit) ≡ storeAnswer answer (now (out .entry))) ⌝ }
 {
     match answer {
         Answer::Accepted {
@@ -30,12 +31,12 @@ pub fn put_answer(answer: Answer, out: &mut [u8; 48]) -> u64
             channels,
             matte,
         } => {
-            put_u64(out, 0, width);
-            put_u64(out, 8, height);
-            put_i64(out, 16, x);
-            put_i64(out, 24, y);
-            put_u64(out, 32, channels);
-            put_u64(out, 40, matte);
+            store_u64(out, 0, width);
+            store_u64(out, 8, height);
+            store_i64(out, 16, x);
+            store_i64(out, 24, y);
+            store_u64(out, 32, channels);
+            store_u64(out, 40, matte);
             0
         }
         Answer::Refused(number) => number,

@@ -1,244 +1,156 @@
-// The distort call: its refusals in the table's order, and else the rows asked for, worked into the band. `distort` assumes nothing; what it
-// calls assumes what the tests before it showed.
+// The distort call: its refusals in the table's order, and else the rows asked for, worked into the band. `distort`
+// assumes nothing; what it calls assumes what the tests before it showed.
 ghost use mathlib.Core.Path.{_≡_};
-ghost use mathlib.Core.Logic.{_⊎_};
 ghost use Prim.Native.Nat.{_≤_};
 ghost use lib.IntN.{natAbs};
-ghost use Rattle.pixels.specs.Pixel.{Picture};
+ghost use Rattle.picture.specs.Pixel.{Shaped, Channels};
+ghost use Rattle.band.specs.Band.{sourced, framed};
 ghost use Rattle.window.specs.Window as Windows;
 ghost use Rattle.distort.specs.Call.{answer, left};
-ghost use Rattle.distort.specs.Job as Job;
-ghost use Rattle.distort.specs.Job.{imageOf, callOf};
+ghost use Rattle.distort.specs.Job.{callBy};
 ghost use Rattle.distort.specs.Placed.{inWindow, windowed};
 use crate::answer::Answer;
+use crate::job::Job;
 use crate::refusal::unfit;
 use crate::tray::bad_rows;
 use crate::tray::bad_tray;
 use crate::tray::widest;
-use band::rows::put_rows;
-use build::build::build;
-use pixels::colour::Rgba;
-use pixels::pixel::pixel;
+use band::look::Look;
+use band::rows::Rows;
+use fit::build::build;
+use inverse::frame::Frame;
+use mappings::mapping::Mapping;
+use picture::pixel::pixel_at;
+use picture::shape::Shape;
+use rows::rows::store_rows;
+use window::view::View;
 use window::window::Placed;
 use window::window::window;
 
-// Of bestfit and viewport: 0 is no, anything else yes.
-fn yes(n: u64) -> bool
-    ensures { λ r. ⌜ r ≡ Job.yes n ⌝ }
-{
-    n != 0
-}
-
-// In a window of width `span` and height `tall`, with `depth` samples a pixel.
+// In a window of the output's shape.
 fn in_window(
     picture: &[u8],
-    width: u64,
-    height: u64,
-    channels: u64,
-    policy: u64,
-    interpolation: u64,
-    background: Rgba,
-    matte: Rgba,
-    kind: u64,
-    order: u64,
-    count: u64,
+    shape: Shape,
+    look: Look,
+    frame: Frame,
     coef: &[f64; 256],
-    x: i64,
-    y: i64,
-    depth: u64,
-    span: u64,
-    tall: u64,
-    first: u64,
-    rows: u64,
+    out: Shape,
+    rows: Rows,
     band: &mut [u8],
 ) -> Answer
-    requires { ⌜ Picture (now picture) width height channels ⌝ }
-    requires { ⌜ (depth ≡ 1) ⊎ ((depth ≡ 3) ⊎ (depth ≡ 4)) ⌝ }
-    requires { ⌜ (span ≤ 4096) × (tall ≤ 4096) ⌝ }
-    requires { ⌜ (natAbs x ≤ 1048576) × (natAbs y ≤ 1048576) ⌝ }
+    requires { ⌜ Shaped (now picture) shape ⌝ }
+    requires { ⌜ Channels (out .channels) ⌝ }
+    requires { ⌜ (out .width ≤ 4096) × (out .height ≤ 4096) ⌝ }
+    requires { ⌜ (natAbs (frame .x) ≤ 1048576) × (natAbs (frame .y) ≤ 1048576) ⌝ }
     ensures { λ r.
-        ⌜ (r, now (band .exit)) ≡ inWindow (record { image = imageOf (now (picture .entry)) width height channels; policy = policy; interpolation = interpolation; background = background; matte = matte }) (record { kind = kind; order = order; count = count; coef = now (coef .entry); x = x; y = y }) depth span tall first rows (now (band .entry)) ⌝ }
+        ⌜ (r, now (band .exit)) ≡ inWindow (sourced (now (picture .entry)) shape look)
+        (framed (now (coef .entry)) frame) out rows (now (band .entry)) ⌝ }
 {
-    if bad_rows(tall, first, rows) {
+    if bad_rows(out.height, rows.first, rows.count) {
         return Answer::Refused(10);
     }
-    if bad_tray(band.len(), rows, span, depth) {
+    if bad_tray(band.len(), rows.count, out.width, out.channels) {
         return Answer::Refused(11);
     }
-    let missed = put_rows(
-        picture,
-        width,
-        height,
-        channels,
-        policy,
-        interpolation,
-        background,
-        matte,
-        kind,
-        order,
-        count,
-        coef,
-        x,
-        y,
-        depth,
-        span,
-        first,
-        rows,
-        band,
-    );
+    let matte_pixels = store_rows(picture, shape, look, frame, coef, out, rows, band);
     Answer::Accepted {
-        width: span,
-        height: tall,
-        x,
-        y,
-        channels: depth,
-        matte: missed,
+        width: out.width,
+        height: out.height,
+        x: frame.x,
+        y: frame.y,
+        channels: out.channels,
+        matte: matte_pixels,
     }
 }
 
 // With a mapping: the window comes next.
 fn windowed(
     picture: &[u8],
-    width: u64,
-    height: u64,
-    channels: u64,
-    policy: u64,
-    interpolation: u64,
-    background: Rgba,
-    matte: Rgba,
-    kind: u64,
-    order: u64,
-    count: u64,
-    coef: &[f64; 256],
-    bestfit: bool,
-    viewport: bool,
-    view_width: u64,
-    view_height: u64,
-    view_x: i64,
-    view_y: i64,
-    depth: u64,
-    first: u64,
-    rows: u64,
+    shape: Shape,
+    look: Look,
+    mapping: Mapping,
+    view: View,
+    out_channels: u64,
+    rows: Rows,
     band: &mut [u8],
 ) -> Answer
-    requires { ⌜ Picture (now picture) width height channels ⌝ }
-    requires { ⌜ (depth ≡ 1) ⊎ ((depth ≡ 3) ⊎ (depth ≡ 4)) ⌝ }
+    requires { ⌜ Shaped (now picture) shape ⌝ }
+    requires { ⌜ Channels «out_channels» ⌝ }
     ensures { λ r.
-        ⌜ (r, now (band .exit)) ≡ windowed (Windows.window kind (now (coef .entry)) width height bestfit viewport «view_width» «view_height» «view_x» «view_y») (record { image = imageOf (now (picture .entry)) width height channels; policy = policy; interpolation = interpolation; background = background; matte = matte }) kind order count (now (coef .entry)) depth first rows (now (band .entry)) ⌝ }
+        ⌜ (r, now (band .exit)) ≡ windowed
+        (Windows.window (mapping .kind) (mapping .coef) (shape .width) (shape .height) view)
+        (sourced (now (picture .entry)) shape look) mapping «out_channels» rows (now (band .entry)) ⌝ }
 {
-    let placed = window(
-        kind,
-        coef,
-        width,
-        height,
-        bestfit,
-        viewport,
-        view_width,
-        view_height,
-        view_x,
-        view_y,
-    );
+    let coef = mapping.coef;
+    let placed = window(mapping.kind, &coef, shape.width, shape.height, view);
     match placed {
         Placed::Window {
-            width: span,
-            height: tall,
-            x,
-            y,
-        } => in_window(
-            picture,
             width,
             height,
-            channels,
-            policy,
-            interpolation,
-            background,
-            matte,
-            kind,
-            order,
-            count,
-            coef,
             x,
             y,
-            depth,
-            span,
-            tall,
-            first,
-            rows,
-            band,
-        ),
+        } => {
+            let frame = Frame {
+                kind: mapping.kind,
+                order: mapping.order,
+                count: mapping.count,
+                x,
+                y,
+            };
+            let out = Shape {
+                width,
+                height,
+                channels: out_channels,
+            };
+            in_window(picture, shape, look, frame, &coef, out, rows, band)
+        }
         Placed::Refused => Answer::Refused(9),
     }
 }
 
 pub fn distort(
     picture: &[u8],
-    width: u64,
-    height: u64,
-    channels: u64,
-    method: u64,
     arguments: &[u8],
-    policy: u64,
-    interpolation: u64,
     background: &[u8; 16],
     matte: &[u8; 16],
-    bestfit: u64,
-    viewport: u64,
-    view_width: u64,
-    view_height: u64,
-    view_x: i64,
-    view_y: i64,
-    first_row: u64,
-    rows: u64,
+    job: Job,
     band: &mut [u8],
 ) -> Answer
     ensures { λ r.
-        ⌜ (r ≡ answer (callOf (now (picture .entry)) width height channels method (now (arguments .entry)) policy interpolation (now (background .entry)) (now (matte .entry)) bestfit viewport «view_width» «view_height» «view_x» «view_y» «first_row» rows (now (band .entry)))) × (now (band .exit) ≡ left (callOf (now (picture .entry)) width height channels method (now (arguments .entry)) policy interpolation (now (background .entry)) (now (matte .entry)) bestfit viewport «view_width» «view_height» «view_x» «view_y» «first_row» rows (now (band .entry)))) ⌝ }
+        ⌜ (r ≡ answer (callBy (now (picture .entry)) (now (arguments .entry)) (now (background .entry))
+        (now (matte .entry)) job (now (band .entry))))
+        × (now (band .exit) ≡ left (callBy (now (picture .entry)) (now (arguments .entry)) (now (background .entry))
+        (now (matte .entry)) job (now (band .entry)))) ⌝ }
 {
-    let number = unfit(
-        picture,
-        width,
-        height,
-        channels,
-        method,
-        arguments,
-        policy,
-        interpolation,
-        background,
-        matte,
-    );
+    let number = unfit(picture, arguments, background, matte, job);
     if number != 0 {
         return Answer::Refused(number);
     }
-    let fitted = build(method, arguments, width, height);
+    let shape = job.shape;
+    let fitted = build(job.method, arguments, shape.width, shape.height);
     let refusal = fitted.refusal;
     if refusal != 0 {
         return Answer::Refused(refusal);
     }
     let mapping = fitted.mapping;
-    let coef = mapping.coef;
-    let ground = pixel(background, 1, 4, 0, 0);
-    let blank = pixel(matte, 1, 4, 0, 0);
+    let ground = pixel_at(background, 1, 4, 0, 0);
+    let blank = pixel_at(matte, 1, 4, 0, 0);
+    let look = Look {
+        policy: job.policy,
+        interpolation: job.interpolation,
+        background: ground,
+        matte: blank,
+    };
+    let out_channels = widest(shape.channels, job.policy, ground);
+    let view = job.view;
+    let rows = job.rows;
     windowed(
         picture,
-        width,
-        height,
-        channels,
-        policy,
-        interpolation,
-        ground,
-        blank,
-        mapping.kind,
-        mapping.order,
-        mapping.count,
-        &coef,
-        yes(bestfit),
-        yes(viewport),
-        view_width,
-        view_height,
-        view_x,
-        view_y,
-        widest(channels, policy, ground),
-        first_row,
+        shape,
+        look,
+        mapping,
+        view,
+        out_channels,
         rows,
         band,
     )

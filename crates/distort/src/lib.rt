@@ -1,5 +1,7 @@
-// The distort call: the job, its refusals, the band.
+// The distort call: the job, the table of refusals, the band. Read by `dihyravo`, which exports it, and by `cards` and
+// `replay`.
 pub mod answer;
 pub mod call;
+pub mod job;
 pub mod refusal;
 pub mod tray;

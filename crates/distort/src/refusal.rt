@@ -1,15 +1,20 @@
-// Document 01's refusals 1 to 7: each test by itself, then the first number that applies. A test that counts the picture's samples assumes
-// that the tests before it failed; `unfit` assumes nothing.
+// Refusals 1 to 7 (specification 2): each test by itself, then the first number that applies. A test that counts the
+// picture's samples assumes that the tests before it failed; `unfit` assumes nothing.
 ghost use mathlib.Core.Path.{_≡_};
 ghost use mathlib.Core.Bool.{false};
-ghost use Rattle.distort.specs.Job.{imageOf, plainly};
+ghost use Rattle.band.specs.Image.{shapedImage};
+ghost use Rattle.distort.specs.Job.{givenBy};
 ghost use Rattle.distort.specs.Refusal as Refusal;
 ghost use Rattle.distort.specs.Refusal.{badSide, badChannels, badSize, badStock, badCode, badNumber};
+use crate::job::Job;
 use arguments::code::is_present;
 use arguments::refusal::bad_count;
 use arguments::refusal::bad_order;
 use arguments::refusal::few_pairs;
-use samples::large::large;
+use picture::shape::Shape;
+use policies::policy::RANDOM;
+use sample_limit::large::large;
+use taps::interpolation::BACKGROUND;
 
 fn bad_side(n: u64) -> bool
     ensures { λ r. ⌜ r ≡ badSide n ⌝ }
@@ -31,39 +36,41 @@ pub fn bad_size(width: u64, height: u64, channels: u64) -> bool
 }
 
 // 2, stock.
-pub fn bad_stock(picture: &[u8], width: u64, height: u64, channels: u64) -> bool
-    requires { ⌜ badSize width height channels ≡ false ⌝ }
-    ensures { λ r. ⌜ r ≡ badStock (imageOf (now (picture .entry)) width height channels) ⌝ }
+pub fn bad_stock(picture: &[u8], shape: Shape) -> bool
+    requires { ⌜ badSize (shape .width) (shape .height) (shape .channels) ≡ false ⌝ }
+    ensures { λ r. ⌜ r ≡ badStock (shapedImage (now (picture .entry)) shape) ⌝ }
 {
-    picture.len() as u64 != width * height * channels * 4
+    picture.len() as u64 != shape.width * shape.height * shape.channels * 4
 }
 
-// 3, code.
+// 3, code: `Random` is the last policy, `Background` the last interpolation.
 pub fn bad_code(method: u64, policy: u64, interpolation: u64) -> bool
     ensures { λ r. ⌜ r ≡ badCode method policy interpolation ⌝ }
 {
-    !is_present(method) | ((13 < policy) | (8 < interpolation))
+    !is_present(method) | ((RANDOM < policy) | (BACKGROUND < interpolation))
 }
 
 // 5, number.
 pub fn bad_number(
     picture: &[u8],
-    width: u64,
-    height: u64,
-    channels: u64,
+    shape: Shape,
     arguments: &[u8],
     background: &[u8; 16],
     matte: &[u8; 16],
 ) -> bool
-    requires { ⌜ badSize width height channels ≡ false ⌝ }
-    requires { ⌜ badStock (imageOf (now picture) width height channels) ≡ false ⌝ }
+    requires { ⌜ badSize (shape .width) (shape .height) (shape .channels) ≡ false ⌝ }
+    requires { ⌜ badStock (shapedImage (now picture) shape) ≡ false ⌝ }
     ensures { λ r.
-        ⌜ r ≡ badNumber (imageOf (now (picture .entry)) width height channels) (now (arguments .entry)) (now (background .entry)) (now (matte .entry)) ⌝ }
+        ⌜ r ≡ badNumber (shapedImage (now (picture .entry)) shape) (now (arguments .entry)) (now (background .entry))
+        (now (matte .entry)) ⌝ }
 {
     if arguments::refusal::bad_number(arguments) {
         return true;
     }
-    if large(picture, (width * height * channels) as usize) {
+    if large(
+        picture,
+        (shape.width * shape.height * shape.channels) as usize,
+    ) {
         return true;
     }
     if large(background, 4) {
@@ -75,44 +82,37 @@ pub fn bad_number(
 // The first number from 1 to 7 that applies, 0 where none does.
 pub fn unfit(
     picture: &[u8],
-    width: u64,
-    height: u64,
-    channels: u64,
-    method: u64,
     arguments: &[u8],
-    policy: u64,
-    interpolation: u64,
     background: &[u8; 16],
     matte: &[u8; 16],
+    job: Job,
 ) -> u64
     ensures { λ r.
-        ⌜ r ≡ Refusal.unfit (imageOf (now (picture .entry)) width height channels) (plainly method (now (arguments .entry)) policy interpolation (now (background .entry)) (now (matte .entry))) ⌝ }
+        ⌜ r ≡ Refusal.unfit (shapedImage (now (picture .entry)) (job .shape))
+        (givenBy (now (arguments .entry)) (now (background .entry)) (now (matte .entry)) job) ⌝ }
 {
-    if bad_size(width, height, channels) {
+    let shape = job.shape;
+    if bad_size(shape.width, shape.height, shape.channels) {
         return 1;
     }
-    if bad_stock(picture, width, height, channels) {
+    if bad_stock(picture, shape) {
         return 2;
     }
-    if bad_code(method, policy, interpolation) {
+    if bad_code(job.method, job.policy, job.interpolation) {
         return 3;
     }
-    if bad_count(method, arguments) {
+    if bad_count(job.method, arguments) {
         return 4;
     }
-    if bad_number(
-        picture,
-        width,
-        height,
-        channels,
-        arguments,
-        background,
-        matte,
-    ) {
+    if bad_number(picture, shape, arguments, background, matte) {
         return 5;
     }
-    if bad_order(method, arguments) {
+    if bad_order(job.method, arguments) {
         return 6;
     }
-    if few_pairs(method, arguments) { 7 } else { 0 }
+    if few_pairs(job.method, arguments) {
+        7
+    } else {
+        0
+    }
 }

@@ -1,15 +1,15 @@
-// What a call asks of its band: the channels of the output, and refusals 10 and 11. The last assumes that its product can be counted.
+// What a call asks of its band: the channels of the output, and refusals 10 and 11. The last assumes that its product
+// can be counted.
 ghost use mathlib.Core.Path.{_≡_};
 ghost use mathlib.Core.Bool.{not};
 ghost use Prim.Native.Nat.{_+_, _*_, _≤_};
 ghost use lib.Dec.{eqb, ltb};
 ghost use Rattle.distort.specs.Refusal as Refusal;
-use pixels::colour::Rgba;
+use picture::colour::Rgba;
+use policies::policy::TRANSPARENT;
 
-// The code of the policy `Transparent`.
-const TRANSPARENT: u64 = 5;
-
-// Four if the picture has four, the policy is `Transparent`, or the background's alpha is below 1; otherwise the picture's own.
+// Four if the picture has four, the policy is `Transparent`, or the background's alpha is below 1; otherwise the
+// picture's own.
 pub fn widest(channels: u64, policy: u64, background: Rgba) -> u64
     ensures { λ r. ⌜ r ≡ Refusal.widest channels policy background ⌝ }
 {

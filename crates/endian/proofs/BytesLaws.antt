@@ -9,7 +9,7 @@ use native.Mathlib.Omega.{arith}
 use lib.Arith.{mod-mul}
 use lib.ListN.{length, getD, set, length-set}
 use lib.Seq.{getD-set-same, getD-set-other, set-comm}
-use Rattle.endian.specs.Bytes.{numberAt, putNumber}
+use Rattle.endian.specs.Bytes.{numberAt, storeNumber}
 
 -- ---- counting
 
@@ -20,40 +20,44 @@ byte-pos (suc k) = subst (λ (n : ℕ). 0 < n) (sym (pow-suc 256 k)) (mul-pos (b
 -- a number of k + 1 bytes is its lowest byte and k more
 pub lowest : (k n : ℕ) → n % 256 ^ suc k ≡ n % 256 + 256 * (n / 256 % 256 ^ k)
 lowest k n =
-    ap (λ (m : ℕ). n % m) (pow-suc 256 k) ∙ mod-mul n (byte-pos k) (zero-lt-suc 255) ∙ turned (n / 256 % 256 ^ k) (n % 256)
+    ap (λ (m : ℕ). n % m) (pow-suc 256 k) ∙ mod-mul n (byte-pos k) (zero-lt-suc 255)
+    ∙ turned (n / 256 % 256 ^ k) (n % 256)
   where
     turned : (q r : ℕ) → q * 256 + r ≡ r + 256 * q
     turned q r = omega arith
 
 -- ---- a put's length, and what lies outside it
 
-pub put-length : (k : ℕ) (s : List ℕ) (at n : ℕ) → length (putNumber k s at n) ≡ length s
-unfolding putNumber
-put-length zero s at n = refl
-put-length (suc k) s at n = put-length k (set s at (n % 256)) (at + 1) (n / 256) ∙ length-set s at (n % 256)
+pub store-length : (k : ℕ) (s : List ℕ) (at n : ℕ) → length (storeNumber k s at n) ≡ length s
+unfolding storeNumber
+store-length zero s at n = refl
+store-length (suc k) s at n = store-length k (set s at (n % 256)) (at + 1) (n / 256) ∙ length-set s at (n % 256)
 
-pub put-outside : (k : ℕ) (s : List ℕ) (at n j : ℕ) → (at ≤ j → j < at + k → ⊥) → getD (putNumber k s at n) j 0 ≡ getD s j 0
-unfolding putNumber
-put-outside zero s at n j out = refl
-put-outside (suc k) s at n j out =
-    put-outside k (set s at (n % 256)) (at + 1) (n / 256) j (λ a b. out (omega arith) (omega arith))
+pub store-outside : (k : ℕ) (s : List ℕ) (at n j : ℕ) → (at ≤ j → j < at + k → ⊥)
+    → getD (storeNumber k s at n) j 0 ≡ getD s j 0
+unfolding storeNumber
+store-outside zero s at n j out = refl
+store-outside (suc k) s at n j out =
+    store-outside k (set s at (n % 256)) (at + 1) (n / 256) j (λ a b. out (omega arith) (omega arith))
     ∙ getD-set-other s at j (n % 256) 0 (λ e. out (omega arith) (omega arith))
 
 -- byte i of what was put
-pub put-inside : (k : ℕ) (s : List ℕ) (at n i : ℕ) → i < k → at + k ≤ length s → getD (putNumber k s at n) (at + i) 0 ≡ n / 256 ^ i % 256
-unfolding putNumber
-put-inside zero s at n i h r = absurd (nothing i h)
+pub store-inside : (k : ℕ) (s : List ℕ) (at n i : ℕ) → i < k → at + k ≤ length s
+    → getD (storeNumber k s at n) (at + i) 0 ≡ n / 256 ^ i % 256
+unfolding storeNumber
+store-inside zero s at n i h r = absurd (nothing i h)
   where
     nothing : (i : ℕ) → i < 0 → ⊥
     nothing i h = omega arith
-put-inside (suc k) s at n zero h r =
-    put-outside k (set s at (n % 256)) (at + 1) (n / 256) (at + 0) (λ a b. omega arith)
+store-inside (suc k) s at n zero h r =
+    store-outside k (set s at (n % 256)) (at + 1) (n / 256) (at + 0) (λ a b. omega arith)
     ∙ ap (λ (j : ℕ). getD (set s at (n % 256)) j 0) (add-zero at)
     ∙ getD-set-same s at (n % 256) 0 (omega arith)
     ∙ ap (λ (x : ℕ). x % 256) (sym (div-one n))
-put-inside (suc k) s at n (suc i) h r =
-    ap (λ (j : ℕ). getD (putNumber k (set s at (n % 256)) (at + 1) (n / 256)) j 0) (next at i)
-    ∙ put-inside k (set s at (n % 256)) (at + 1) (n / 256) i (omega arith) (subst (λ (l : ℕ). at + 1 + k ≤ l) (sym (length-set s at (n % 256))) (omega arith))
+store-inside (suc k) s at n (suc i) h r =
+    ap (λ (j : ℕ). getD (storeNumber k (set s at (n % 256)) (at + 1) (n / 256)) j 0) (next at i)
+    ∙ store-inside k (set s at (n % 256)) (at + 1) (n / 256) i (omega arith)
+    (subst (λ (l : ℕ). at + 1 + k ≤ l) (sym (length-set s at (n % 256))) (omega arith))
     ∙ ap (λ (x : ℕ). x % 256) (div-div-eq-div-mul n 256 (256 ^ i) ∙ ap (λ (x : ℕ). n / x) (sym (pow-succ' 256 i)))
   where
     next : (at i : ℕ) → at + suc i ≡ at + 1 + i
@@ -62,7 +66,8 @@ put-inside (suc k) s at n (suc i) h r =
 -- ---- reading
 
 -- a number is its bytes
-pub number-same : (k : ℕ) (s t : List ℕ) (at : ℕ) → ((j : ℕ) → at ≤ j → j < at + k → getD s j 0 ≡ getD t j 0) → numberAt k s at ≡ numberAt k t at
+pub number-same : (k : ℕ) (s t : List ℕ) (at : ℕ) → ((j : ℕ) → at ≤ j → j < at + k → getD s j 0 ≡ getD t j 0)
+    → numberAt k s at ≡ numberAt k t at
 unfolding numberAt
 number-same zero s t at h = refl
 number-same (suc k) s t at h =
@@ -70,21 +75,26 @@ number-same (suc k) s t at h =
     ∙ ap (λ (n : ℕ). getD t at 0 + 256 * n) (number-same k s t (at + 1) (λ j a b. h j (omega arith) (omega arith)))
 
 -- what was put is read back
-pub number-put : (k : ℕ) (s : List ℕ) (at n : ℕ) → at + k ≤ length s → numberAt k (putNumber k s at n) at ≡ n % 256 ^ k
-unfolding numberAt putNumber
+pub number-put : (k : ℕ) (s : List ℕ) (at n : ℕ) → at + k ≤ length s
+    → numberAt k (storeNumber k s at n) at ≡ n % 256 ^ k
+unfolding numberAt storeNumber
 number-put zero s at n r = sym (mod-one n)
 number-put (suc k) s at n r =
     let t = set s at (n % 256) in
-    ap (λ (b : ℕ). b + 256 * numberAt k (putNumber k t (at + 1) (n / 256)) (at + 1))
-    (put-outside k t (at + 1) (n / 256) at (λ a b. omega arith) ∙ getD-set-same s at (n % 256) 0 (omega arith))
+    ap (λ (b : ℕ). b + 256 * numberAt k (storeNumber k t (at + 1) (n / 256)) (at + 1))
+    (store-outside k t (at + 1) (n / 256) at (λ a b. omega arith) ∙ getD-set-same s at (n % 256) 0 (omega arith))
     ∙ ap (λ (m : ℕ). n % 256 + 256 * m)
-    (number-put k t (at + 1) (n / 256) (subst (λ (l : ℕ). at + 1 + k ≤ l) (sym (length-set s at (n % 256))) (omega arith)))
+    (number-put k t (at + 1) (n / 256)
+    (subst (λ (l : ℕ). at + 1 + k ≤ l) (sym (length-set s at (n % 256))) (omega arith)))
     ∙ sym (lowest k n)
 
 -- what is read beside a put is as it was
-pub number-beside : (k l : ℕ) (s : List ℕ) (at n j : ℕ) → (j + l ≤ at) ⊎ (at + k ≤ j) → numberAt l (putNumber k s at n) j ≡ numberAt l s j
-number-beside k l s at n j (inl h) = number-same l (putNumber k s at n) s j (λ i a b. put-outside k s at n i (λ c d. omega arith))
-number-beside k l s at n j (inr h) = number-same l (putNumber k s at n) s j (λ i a b. put-outside k s at n i (λ c d. omega arith))
+pub number-beside : (k l : ℕ) (s : List ℕ) (at n j : ℕ) → (j + l ≤ at) ⊎ (at + k ≤ j)
+    → numberAt l (storeNumber k s at n) j ≡ numberAt l s j
+number-beside k l s at n j (inl h) =
+    number-same l (storeNumber k s at n) s j (λ i a b. store-outside k s at n i (λ c d. omega arith))
+number-beside k l s at n j (inr h) =
+    number-same l (storeNumber k s at n) s j (λ i a b. store-outside k s at n i (λ c d. omega arith))
 
 -- of bytes, k make a number below 256 ^ k
 pub number-lt : (k : ℕ) (s : List ℕ) (at : ℕ) → ((j : ℕ) → getD s j 0 < 256) → numberAt k s at < 256 ^ k
@@ -99,19 +109,22 @@ number-lt (suc k) s at h =
 
 -- ---- puts that do not overlap change places
 
-set-put : (k : ℕ) (s : List ℕ) (at n j a : ℕ) → (at ≤ j → j < at + k → ⊥) → set (putNumber k s at n) j a ≡ putNumber k (set s j a) at n
-unfolding putNumber
+set-put : (k : ℕ) (s : List ℕ) (at n j a : ℕ) → (at ≤ j → j < at + k → ⊥)
+    → set (storeNumber k s at n) j a ≡ storeNumber k (set s j a) at n
+unfolding storeNumber
 set-put zero s at n j a out = refl
 set-put (suc k) s at n j a out =
     set-put k (set s at (n % 256)) (at + 1) (n / 256) j a (λ x y. out (omega arith) (omega arith))
-    ∙ ap (λ (t : List ℕ). putNumber k t (at + 1) (n / 256)) (set-comm s at j (n % 256) a (λ e. out (omega arith) (omega arith)))
+    ∙ ap (λ (t : List ℕ). storeNumber k t (at + 1) (n / 256))
+    (set-comm s at j (n % 256) a (λ e. out (omega arith) (omega arith)))
 
-pub put-comm : (k l : ℕ) (s : List ℕ) (at n j m : ℕ) → (j + l ≤ at) ⊎ (at + k ≤ j) → putNumber k (putNumber l s j m) at n ≡ putNumber l (putNumber k s at n) j m
-unfolding putNumber
-put-comm zero l s at n j m h = refl
-put-comm (suc k) l s at n j m h =
-    ap (λ (t : List ℕ). putNumber k t (at + 1) (n / 256)) (set-put l s j m at (n % 256) (apart h))
-    ∙ put-comm k l (set s at (n % 256)) (at + 1) (n / 256) j m (later h)
+pub store-comm : (k l : ℕ) (s : List ℕ) (at n j m : ℕ) → (j + l ≤ at) ⊎ (at + k ≤ j)
+    → storeNumber k (storeNumber l s j m) at n ≡ storeNumber l (storeNumber k s at n) j m
+unfolding storeNumber
+store-comm zero l s at n j m h = refl
+store-comm (suc k) l s at n j m h =
+    ap (λ (t : List ℕ). storeNumber k t (at + 1) (n / 256)) (set-put l s j m at (n % 256) (apart h))
+    ∙ store-comm k l (set s at (n % 256)) (at + 1) (n / 256) j m (later h)
   where
     apart : (j + l ≤ at) ⊎ (at + suc k ≤ j) → j ≤ at → at < j + l → ⊥
     apart (inl h) a b = omega arith

@@ -3,24 +3,37 @@
 use mathlib.Core.Path.{_≡_, refl, sym, ap, _∙_}
 use mathlib.Core.List.{List}
 use Prim.Native.Nat.{ℕ, zero, suc, _+_, _*_, _/_, _%_, _^_, _<_}
-use native.Mathlib.Nat.{add-zero, zero-add, suc-add, div-one, mul-comm, zero-lt-suc, pow-succ', div-div-eq-div-mul, mod-lt}
+use native.Mathlib.Nat.{
+  add-zero,
+  zero-add,
+  suc-add,
+  div-one,
+  mul-comm,
+  zero-lt-suc,
+  pow-succ',
+  div-div-eq-div-mul,
+  mod-lt,
+}
 use native.Mathlib.Omega.{arith}
 use lib.ListN.{getD, set}
-use Rattle.endian.specs.Bytes.{numberAt, putNumber}
+use Rattle.endian.specs.Bytes.{numberAt, storeNumber}
 use Rattle.endian.proofs.BytesLaws.{lowest}
 
 -- ---- two parts side by side
 
-pub number-join : (j k : ℕ) (s : List ℕ) (at : ℕ) → numberAt (j + k) s at ≡ numberAt j s at + 256 ^ j * numberAt k s (at + j)
+pub number-join : (j k : ℕ) (s : List ℕ) (at : ℕ)
+    → numberAt (j + k) s at ≡ numberAt j s at + 256 ^ j * numberAt k s (at + j)
 unfolding numberAt
 number-join zero k s at =
-    ap (λ (i : ℕ). numberAt i s at) (zero-add k) ∙ ap (λ (i : ℕ). numberAt k s i) (sym (add-zero at)) ∙ none (numberAt k s (at + 0))
+    ap (λ (i : ℕ). numberAt i s at) (zero-add k) ∙ ap (λ (i : ℕ). numberAt k s i) (sym (add-zero at))
+    ∙ none (numberAt k s (at + 0))
   where
     none : (n : ℕ) → n ≡ 0 + 1 * n
     none n = omega arith
 number-join (suc j) k s at =
     ap (λ (i : ℕ). numberAt i s at) (suc-add j k)
-    ∙ ap (λ (n : ℕ). getD s at 0 + 256 * n) (number-join j k s (at + 1) ∙ ap (λ (i : ℕ). numberAt j s (at + 1) + 256 ^ j * numberAt k s i) (next at j))
+    ∙ ap (λ (n : ℕ). getD s at 0 + 256 * n) (number-join j k s (at + 1)
+    ∙ ap (λ (i : ℕ). numberAt j s (at + 1) + 256 ^ j * numberAt k s i) (next at j))
     ∙ grown (getD s at 0) (numberAt j s (at + 1)) (256 ^ j) (numberAt k s (at + suc j))
     ∙ ap (λ (p : ℕ). getD s at 0 + 256 * numberAt j s (at + 1) + p * numberAt k s (at + suc j)) (sym (pow-succ' 256 j))
   where
@@ -31,29 +44,34 @@ number-join (suc j) k s at =
     grown b n p m = omega arith
 
 -- j bytes and k more are j + k
-pub put-join : (j k : ℕ) (s : List ℕ) (at n : ℕ) → putNumber (j + k) s at n ≡ putNumber k (putNumber j s at n) (at + j) (n / 256 ^ j)
-unfolding putNumber
-put-join zero k s at n =
-    ap (λ (i : ℕ). putNumber i s at n) (zero-add k)
-    ∙ ap (λ (i : ℕ). putNumber k s i n) (sym (add-zero at))
-    ∙ ap (putNumber k s (at + 0)) (sym (div-one n))
-put-join (suc j) k s at n =
-    ap (λ (i : ℕ). putNumber i s at n) (suc-add j k)
-    ∙ put-join j k (set s at (n % 256)) (at + 1) (n / 256)
-    ∙ ap (λ (i : ℕ). putNumber k (putNumber j (set s at (n % 256)) (at + 1) (n / 256)) i (n / 256 / 256 ^ j)) (next at j)
-    ∙ ap (putNumber k (putNumber (suc j) s at n) (at + suc j)) (div-div-eq-div-mul n 256 (256 ^ j) ∙ ap (λ (x : ℕ). n / x) (sym (pow-succ' 256 j)))
+pub store-join : (j k : ℕ) (s : List ℕ) (at n : ℕ)
+    → storeNumber (j + k) s at n ≡ storeNumber k (storeNumber j s at n) (at + j) (n / 256 ^ j)
+unfolding storeNumber
+store-join zero k s at n =
+    ap (λ (i : ℕ). storeNumber i s at n) (zero-add k)
+    ∙ ap (λ (i : ℕ). storeNumber k s i n) (sym (add-zero at))
+    ∙ ap (storeNumber k s (at + 0)) (sym (div-one n))
+store-join (suc j) k s at n =
+    ap (λ (i : ℕ). storeNumber i s at n) (suc-add j k)
+    ∙ store-join j k (set s at (n % 256)) (at + 1) (n / 256)
+    ∙ ap (λ (i : ℕ). storeNumber k (storeNumber j (set s at (n % 256)) (at + 1) (n / 256)) i (n / 256 / 256 ^ j))
+    (next at j)
+    ∙ ap (storeNumber k (storeNumber (suc j) s at n) (at + suc j)) (div-div-eq-div-mul n 256 (256 ^ j)
+    ∙ ap (λ (x : ℕ). n / x) (sym (pow-succ' 256 j)))
   where
     next : (at j : ℕ) → at + 1 + j ≡ at + suc j
     next at j = omega arith
 
 -- only the lowest k bytes of n count
-pub put-low : (k : ℕ) (s : List ℕ) (at n : ℕ) → putNumber k s at (n % 256 ^ k) ≡ putNumber k s at n
-unfolding putNumber
-put-low zero s at n = refl
-put-low (suc k) s at n =
-    ap (λ (b : ℕ). putNumber k (set s at b) (at + 1) (n % 256 ^ suc k / 256)) (ap (λ (x : ℕ). x % 256) (lowest k n) ∙ first (n % 256) (n / 256 % 256 ^ k) (mod-lt n (zero-lt-suc 255)))
-    ∙ ap (λ (m : ℕ). putNumber k (set s at (n % 256)) (at + 1) m) (ap (λ (x : ℕ). x / 256) (lowest k n) ∙ rest (n % 256) (n / 256 % 256 ^ k) (mod-lt n (zero-lt-suc 255)))
-    ∙ put-low k (set s at (n % 256)) (at + 1) (n / 256)
+pub store-low : (k : ℕ) (s : List ℕ) (at n : ℕ) → storeNumber k s at (n % 256 ^ k) ≡ storeNumber k s at n
+unfolding storeNumber
+store-low zero s at n = refl
+store-low (suc k) s at n =
+    ap (λ (b : ℕ). storeNumber k (set s at b) (at + 1) (n % 256 ^ suc k / 256)) (ap (λ (x : ℕ). x % 256) (lowest k n)
+    ∙ first (n % 256) (n / 256 % 256 ^ k) (mod-lt n (zero-lt-suc 255)))
+    ∙ ap (λ (m : ℕ). storeNumber k (set s at (n % 256)) (at + 1) m) (ap (λ (x : ℕ). x / 256) (lowest k n)
+    ∙ rest (n % 256) (n / 256 % 256 ^ k) (mod-lt n (zero-lt-suc 255)))
+    ∙ store-low k (set s at (n % 256)) (at + 1) (n / 256)
   where
     first : (b q : ℕ) → b < 256 → (b + 256 * q) % 256 ≡ b
     first b q h = omega arith
@@ -63,7 +81,8 @@ put-low (suc k) s at n =
 
 -- ---- four bytes, as straight-line code reads and stores them
 
-pub number-four : (s : List ℕ) (at : ℕ) → getD s at 0 + 256 * (getD s (at + 1) 0 + 256 * (getD s (at + 2) 0 + 256 * getD s (at + 3) 0)) ≡ numberAt 4 s at
+pub number-four : (s : List ℕ) (at : ℕ)
+    → getD s at 0 + 256 * (getD s (at + 1) 0 + 256 * (getD s (at + 2) 0 + 256 * getD s (at + 3) 0)) ≡ numberAt 4 s at
 unfolding numberAt
 number-four s at =
     λ i.
@@ -78,12 +97,14 @@ number-four s at =
     last : (n : ℕ) → n ≡ n + 256 * 0
     last n = omega arith
 
-pub put-four : (s : List ℕ) (at n : ℕ) → n < 2 ^ 32
-    → set (set (set (set s at (n % 256)) (at + 1) (n / 256 % 256)) (at + 2) (n / 65536 % 256)) (at + 3) (n / 16777216) ≡ putNumber 4 s at n
-unfolding putNumber
-put-four s at n h =
+pub store-four : (s : List ℕ) (at n : ℕ) → n < 2 ^ 32
+    → set (set (set (set s at (n % 256)) (at + 1) (n / 256 % 256)) (at + 2) (n / 65536 % 256)) (at + 3) (n / 16777216)
+    ≡ storeNumber 4 s at n
+unfolding storeNumber
+store-four s at n h =
     λ i.
-    set (set (set (set s at (n % 256)) (at + 1) (n / 256 % 256)) (two at i) (third n i % 256)) (three at i) (fourth n h i)
+    set (set (set (set s at (n % 256)) (at + 1) (n / 256 % 256)) (two at i) (third n i % 256)) (three at i)
+    (fourth n h i)
   where
     two : (at : ℕ) → at + 2 ≡ at + 1 + 1
     two at = omega arith
@@ -100,7 +121,10 @@ put-four s at n h =
 -- ---- eight bytes by halves
 
 pub number-eight : (s : List ℕ) (at : ℕ) → numberAt 4 s at + numberAt 4 s (at + 4) * 4294967296 ≡ numberAt 8 s at
-number-eight s at = ap (λ (n : ℕ). numberAt 4 s at + n) (mul-comm (numberAt 4 s (at + 4)) 4294967296) ∙ sym (number-join 4 4 s at)
+number-eight s at = ap (λ (n : ℕ). numberAt 4 s at + n) (mul-comm (numberAt 4 s (at + 4)) 4294967296)
+    ∙ sym (number-join 4 4 s at)
 
-pub put-eight : (s : List ℕ) (at n : ℕ) → putNumber 4 (putNumber 4 s at (n % 4294967296)) (at + 4) (n / 4294967296) ≡ putNumber 8 s at n
-put-eight s at n = ap (λ (t : List ℕ). putNumber 4 t (at + 4) (n / 4294967296)) (put-low 4 s at n) ∙ sym (put-join 4 4 s at n)
+pub store-eight : (s : List ℕ) (at n : ℕ)
+    → storeNumber 4 (storeNumber 4 s at (n % 4294967296)) (at + 4) (n / 4294967296) ≡ storeNumber 8 s at n
+store-eight s at n = ap (λ (t : List ℕ). storeNumber 4 t (at + 4) (n / 4294967296)) (store-low 4 s at n)
+    ∙ sym (store-join 4 4 s at n)

@@ -1,5 +1,5 @@
--- How bytes are numbers and floats, for the whole product: a number has its lowest byte first, and a float is its
--- IEEE 754 pattern as such a number. A list of bytes reads as 0 past its end. Assumes nothing.
+-- How bytes are numbers and floats, for the whole product: a number has its lowest byte first, and a float is its IEEE
+-- 754 pattern as such a number. A list of bytes reads as 0 past its end. Specification 1.1. Assumes nothing.
 use Prim.Native.Nat.{ℕ, zero, suc, _+_, _-_, _*_, _/_, _%_, _^_, _≤_}
 use mathlib.Core.List.{List}
 use lib.IntN.{ℤ, pos, negsuc}
@@ -14,9 +14,9 @@ numberAt zero s at = 0
 numberAt (suc k) s at = getD s at 0 + 256 * numberAt k s (at + 1)
 
 -- s with the k lowest bytes of n from `at` on, the lowest first
-unfoldable pub putNumber : ℕ → List ℕ → ℕ → ℕ → List ℕ
-putNumber zero s at n = s
-putNumber (suc k) s at n = putNumber k (set s at (n % 256)) (at + 1) (n / 256)
+unfoldable pub storeNumber : ℕ → List ℕ → ℕ → ℕ → List ℕ
+storeNumber zero s at n = s
+storeNumber (suc k) s at n = storeNumber k (set s at (n % 256)) (at + 1) (n / 256)
 
 abbrev pub u32At : List ℕ → ℕ → ℕ
 u32At = numberAt 4
@@ -24,19 +24,19 @@ u32At = numberAt 4
 abbrev pub u64At : List ℕ → ℕ → ℕ
 u64At = numberAt 8
 
-abbrev pub putU32 : List ℕ → ℕ → ℕ → List ℕ
-putU32 = putNumber 4
+abbrev pub storeU32 : List ℕ → ℕ → ℕ → List ℕ
+storeU32 = storeNumber 4
 
-abbrev pub putU64 : List ℕ → ℕ → ℕ → List ℕ
-putU64 = putNumber 8
+abbrev pub storeU64 : List ℕ → ℕ → ℕ → List ℕ
+storeU64 = storeNumber 8
 
 -- a signed number of 64 bits as the number that its bits stand for: -1 is 2^64 - 1
 unfoldable pub twosComplement : ℤ → ℕ
 twosComplement (pos n) = n
 twosComplement (negsuc n) = 2 ^ 64 - suc n
 
-abbrev pub putI64 : List ℕ → ℕ → ℤ → List ℕ
-putI64 s at z = putU64 s at (twosComplement z)
+abbrev pub storeI64 : List ℕ → ℕ → ℤ → List ℕ
+storeI64 s at z = storeU64 s at (twosComplement z)
 
 -- ---- floats. Every NaN pattern is read as `nan`, which is written as 0x7fc00000 or 0x7ff8000000000000.
 
@@ -50,11 +50,11 @@ f64At s at = ofBits binary64 (u64At s at)
 abbrev pub plainAt : List ℕ → ℕ → Type 0
 plainAt s at = u32At s at % 0x8000_0000 ≤ 0x7f80_0000
 
-abbrev pub putF32 : List ℕ → ℕ → Float → List ℕ
-putF32 s at x = putU32 s at (toBits binary32 x)
+abbrev pub storeF32 : List ℕ → ℕ → Float → List ℕ
+storeF32 s at x = storeU32 s at (toBits binary32 x)
 
-abbrev pub putF64 : List ℕ → ℕ → Float → List ℕ
-putF64 s at x = putU64 s at (toBits binary64 x)
+abbrev pub storeF64 : List ℕ → ℕ → Float → List ℕ
+storeF64 s at x = storeU64 s at (toBits binary64 x)
 
 -- the f32 numbered k of a picture's bytes, and the f64 numbered k of the arguments'
 abbrev pub sampleAt : List ℕ → ℕ → Float

@@ -6,7 +6,18 @@ ghost use lib.ListN.{length};
 ghost use mathlib.Core.Bool.{not};
 ghost use lib.Dec.{T};
 ghost use lib.Ieee.{binary32, binary64, isNan, ofBits};
-ghost use Rattle.endian.specs.Bytes.{u32At, u64At, f32At, f64At, plainAt, putU32, putU64, putI64, putF32, putF64};
+ghost use Rattle.endian.specs.Bytes.{
+  u32At,
+  u64At,
+  f32At,
+  f64At,
+  plainAt,
+  storeU32,
+  storeU64,
+  storeI64,
+  storeF32,
+  storeF64,
+};
 ghost use Rattle.number.specs.Magnitude.{within};
 use crate::pattern;
 
@@ -31,9 +42,9 @@ pub fn u64_at(s: &[u8], at: usize) -> u64
     u32_at(s, at) as u64 + u32_at(s, at + 4) as u64 * 4294967296
 }
 
-pub fn put_u32(s: &mut [u8], at: usize, n: u32)
+pub fn store_u32(s: &mut [u8], at: usize, n: u32)
     requires { ⌜ at + 4 ≤ length (now s) ⌝ }
-    ensures { λ _. ⌜ now (s .exit) ≡ putU32 (now (s .entry)) at n ⌝ }
+    ensures { λ _. ⌜ now (s .exit) ≡ storeU32 (now (s .entry)) at n ⌝ }
 {
     s[at] = (n % 256) as u8;
     s[at + 1] = (n / 256 % 256) as u8;
@@ -41,19 +52,19 @@ pub fn put_u32(s: &mut [u8], at: usize, n: u32)
     s[at + 3] = (n / 16777216) as u8;
 }
 
-pub fn put_u64(s: &mut [u8], at: usize, n: u64)
+pub fn store_u64(s: &mut [u8], at: usize, n: u64)
     requires { ⌜ at + 8 ≤ length (now s) ⌝ }
-    ensures { λ _. ⌜ now (s .exit) ≡ putU64 (now (s .entry)) at n ⌝ }
+    ensures { λ _. ⌜ now (s .exit) ≡ storeU64 (now (s .entry)) at n ⌝ }
 {
-    put_u32(s, at, (n % 4294967296) as u32);
-    put_u32(s, at + 4, (n / 4294967296) as u32);
+    store_u32(s, at, (n % 4294967296) as u32);
+    store_u32(s, at + 4, (n / 4294967296) as u32);
 }
 
-pub fn put_i64(s: &mut [u8], at: usize, n: i64)
+pub fn store_i64(s: &mut [u8], at: usize, n: i64)
     requires { ⌜ at + 8 ≤ length (now s) ⌝ }
-    ensures { λ _. ⌜ now (s .exit) ≡ putI64 (now (s .entry)) at n ⌝ }
+    ensures { λ _. ⌜ now (s .exit) ≡ storeI64 (now (s .entry)) at n ⌝ }
 {
-    put_u64(s, at, pattern::bits_of_i64(n));
+    store_u64(s, at, pattern::bits_of_i64(n));
 }
 
 pub fn f32_at(s: &[u8], at: usize) -> f32
@@ -79,26 +90,26 @@ pub fn f64_at(s: &[u8], at: usize) -> f64
     pattern::f64_of_bits(u64_at(s, at))
 }
 
-pub fn put_f32(s: &mut [u8], at: usize, x: f32)
+pub fn store_f32(s: &mut [u8], at: usize, x: f32)
     requires { ⌜ at + 4 ≤ length (now s) ⌝ }
-    ensures { λ _. ⌜ now (s .exit) ≡ putF32 (now (s .entry)) at x ⌝ }
+    ensures { λ _. ⌜ now (s .exit) ≡ storeF32 (now (s .entry)) at x ⌝ }
 {
-    put_u32(s, at, pattern::bits_of_f32(x));
+    store_u32(s, at, pattern::bits_of_f32(x));
 }
 
 // The same for a float that is known to be no NaN: no test.
-pub fn put_f32_plain(s: &mut [u8], at: usize, x: f32)
+pub fn store_f32_plain(s: &mut [u8], at: usize, x: f32)
     requires { ⌜ (at + 4 ≤ length (now s)) × T (not (isNan x)) ⌝ }
-    ensures { λ _. ⌜ now (s .exit) ≡ putF32 (now (s .entry)) at x ⌝ }
+    ensures { λ _. ⌜ now (s .exit) ≡ storeF32 (now (s .entry)) at x ⌝ }
 {
-    put_u32(s, at, f32::to_bits(x));
+    store_u32(s, at, f32::to_bits(x));
 }
 
-pub fn put_f64(s: &mut [u8], at: usize, x: f64)
+pub fn store_f64(s: &mut [u8], at: usize, x: f64)
     requires { ⌜ at + 8 ≤ length (now s) ⌝ }
-    ensures { λ _. ⌜ now (s .exit) ≡ putF64 (now (s .entry)) at x ⌝ }
+    ensures { λ _. ⌜ now (s .exit) ≡ storeF64 (now (s .entry)) at x ⌝ }
 {
-    put_u64(s, at, pattern::bits_of_f64(x));
+    store_u64(s, at, pattern::bits_of_f64(x));
 }
 
 pub fn f32_within(s: &[u8], at: usize, limit: u32) -> bool

@@ -1,7 +1,8 @@
--- Bounds as closed fractions: a bound b / d that is a power of two and an error e / g are checked against the format's unit by one computed
--- test, so that a caller writes numbers and `tt`.
--- Provides: `rounds-bound`, the law for both formats and every power of two; `rounds-unit` (what lies from 0 to 1 rounds so); and examples: `within64-14`,
--- `within32-0`, `third` (1 / 3 in f32), `halfway`, `met` (the bound is reached), `one-third` (1 / -3 in f64). Assumes nothing.
+-- Bounds as closed fractions: a bound b / d that is a power of two and an error e / g are checked against the format's
+-- unit by one computed test, so that a caller writes numbers and `tt`. Provides: `rounds-bound`, the law for both
+-- formats and every power of two; `rounds-unit` (what lies from 0 to 1 rounds so); and examples: `within64-14`,
+-- `within32-0`, `third` (1 / 3 in f32), `halfway`, `met` (the bound is reached), `one-third` (1 / -3 in f64). Assumes
+-- nothing.
 use mathlib.Core.Path.{_≡_, refl, sym, ap, subst}
 use mathlib.Core.Bool.{Bool, true, false, _&&_}
 use Prim.Native.Nat.{ℕ, _+_, _-_, _*_, _^_, _≤_, _<_}
@@ -24,7 +25,8 @@ use Rattle.exact.proofs.Steps.{close-more}
 use Rattle.exact.proofs.Operations.{div-rounds}
 
 -- ---- the law of closed bounds
-pub rounds-bound : {f : Format} {r : Float} {X : Fraction} → Rounds f r X → (K b d e g : ℕ) → T (fine f K b d e g) → absF X ≤F frac b d → Close r X (frac e g) (frac b d)
+pub rounds-bound : {f : Format} {r : Float} {X : Fraction} → Rounds f r X → (K b d e g : ℕ) → T (fine f K b d e g)
+    → absF X ≤F frac b d → Close r X (frac e g) (frac b d)
 rounds-bound {f} {r} {X} R K b d e g t h =
     let v : Bool = leb K (low f + emax f) in
     let w : Bool = ltb 0 d in
@@ -34,14 +36,19 @@ rounds-bound {f} {r} {X} R K b d e g t h =
     let t1 = and-r v (w && (x && (y && z))) t in
     let t2 = and-r w (x && (y && z)) t1 in
     let t3 = and-r x (y && z) t2 in
-    go (leb→le K (low f + emax f) (and-l v (w && (x && (y && z))) t)) (ltb→lt 0 d (and-l w (x && (y && z)) t1)) (ltb→lt 0 g (and-l x (y && z) t2)) (eqb→eq (b * 2 ^ low f) (2 ^ K * d) (and-l y z t3))
+    go (leb→le K (low f + emax f) (and-l v (w && (x && (y && z))) t)) (ltb→lt 0 d (and-l w (x && (y && z)) t1))
+    (ltb→lt 0 g (and-l x (y && z) t2)) (eqb→eq (b * 2 ^ low f) (2 ^ K * d) (and-l y z t3))
     (leb→le (2 ^ (K - prec f) * g) (e * (2 ^ low f * 2)) (and-r y z t3))
   where
-    go : K ≤ low f + emax f → 0 < d → 0 < g → b * 2 ^ low f ≡ 2 ^ K * d → 2 ^ (K - prec f) * g ≤ e * (2 ^ low f * 2) → Close r X (frac e g) (frac b d)
+    go : K ≤ low f + emax f → 0 < d → 0 < g → b * 2 ^ low f ≡ 2 ^ K * d → 2 ^ (K - prec f) * g ≤ e * (2 ^ low f * 2)
+        → Close r X (frac e g) (frac b d)
     go top D G same small =
-        let s : frac b d ≈ power f K = signed-eq false b d false (2 ^ K) (2 ^ low f) D (pow-pos (low f)) (ap (λ (z : ℕ). z + 0) same) in
-        close-more (signed-le false (2 ^ (K - prec f)) (2 ^ low f * 2) false e g (mul-pos (pow-pos (low f)) (zero-lt-suc 1)) G (plain (2 ^ (K - prec f) * g) (e * (2 ^ low f * 2)) small))
-        (eq-le (power f K) (frac b d) (eq-sym (frac b d) (power f K) s)) (rounds-within R K top (le-trans (absF X) (frac b d) (power f K) h (eq-le (frac b d) (power f K) s)))
+        let s : frac b d ≈ power f K =
+        signed-eq false b d false (2 ^ K) (2 ^ low f) D (pow-pos (low f)) (ap (λ (z : ℕ). z + 0) same) in
+        close-more (signed-le false (2 ^ (K - prec f)) (2 ^ low f * 2) false e g
+        (mul-pos (pow-pos (low f)) (zero-lt-suc 1)) G (plain (2 ^ (K - prec f) * g) (e * (2 ^ low f * 2)) small))
+        (eq-le (power f K) (frac b d) (eq-sym (frac b d) (power f K) s))
+        (rounds-within R K top (le-trans (absF X) (frac b d) (power f K) h (eq-le (frac b d) (power f K) s)))
       where
         plain : (x y : ℕ) → x ≤ y → x + 0 ≤ y + 0
         plain x y h = omega arith
@@ -59,14 +66,17 @@ one-size = record { le = lit≤ tt }
 pub rounds-unit : {f : Format} {r : Float} {X : Fraction} → Rounds f r X → Unit01 X → T (finite r) × Unit01 (value r)
 rounds-unit {f} {r} {X} R h =
     let one = fin false 1 (pos 0) in
-    let t = rounds-no-larger R one (one-fits f) tt (le-trans (absF X) (frac 1 1) (absF (frac 1 1)) (abs-unit X h) one-size) .0 in
+    let t = rounds-no-larger R one (one-fits f) tt
+    (le-trans (absF X) (frac 1 1) (absF (frac 1 1)) (abs-unit X h) one-size) .0 in
     (t, (rounds-nonneg R t (h .0), rounds-at-most R one (one-fits f) tt t (h .1)))
 
 -- ---- examples
-pub within64-14 : {r : Float} {X : Fraction} → Rounds binary64 r X → absF X ≤F frac 16384 1 → Close r X (frac 1 (2 ^ 40)) (frac 16384 1)
+pub within64-14 : {r : Float} {X : Fraction} → Rounds binary64 r X → absF X ≤F frac 16384 1
+    → Close r X (frac 1 (2 ^ 40)) (frac 16384 1)
 within64-14 R h = rounds-bound R 1088 16384 1 1 (2 ^ 40) tt h
 
-pub within32-0 : {r : Float} {X : Fraction} → Rounds binary32 r X → absF X ≤F frac 1 1 → Close r X (frac 1 (2 ^ 25)) (frac 1 1)
+pub within32-0 : {r : Float} {X : Fraction} → Rounds binary32 r X → absF X ≤F frac 1 1
+    → Close r X (frac 1 (2 ^ 25)) (frac 1 1)
 within32-0 R h = rounds-bound R 149 1 1 1 (2 ^ 25) tt h
 
 below-half : absF (frac 1 3) ≤F frac 1 2
@@ -88,7 +98,8 @@ halfway = refl
 
 met : half-ulp binary32 150 ≤F distance (value (round binary32 false 16777217 16777216)) (frac 16777217 16777216)
 unfolding distance
-met = subst (λ (z : Float). half-ulp binary32 150 ≤F distance (value z) (frac 16777217 16777216)) (sym halfway) (record { le = lit≤ tt })
+met = subst (λ (z : Float). half-ulp binary32 150 ≤F distance (value z) (frac 16777217 16777216)) (sym halfway)
+    (record { le = lit≤ tt })
 
 -- an f64 quotient with a divisor below 0: 1 / -3
 abbrev one : Float

@@ -1,6 +1,7 @@
--- The fraction of a point in its cell: x less its floor is from 0 to 1, where an f64 rounding is at most 2 ^ -54 and the narrowing to f32 at most 2 ^ -25. Either may reach 1.
--- Provides, for any float fx that has the floor's value and any t that is x - fx rounded to f32: `cell-rest` (the f64 difference), `cell-fraction` (t itself), `cell-of` (the cell).
--- Assumes nothing.
+-- The fraction of a point in its cell: x less its floor is from 0 to 1, where an f64 rounding is at most 2 ^ -54 and
+-- the narrowing to f32 at most 2 ^ -25. Either may reach 1. Provides, for any float fx that has the floor's value and
+-- any t that is x - fx rounded to f32: `cell-rest` (the f64 difference), `cell-fraction` (t itself), `cell-of` (the
+-- cell). Assumes nothing.
 use mathlib.Core.Path.{refl}
 use Prim.Native.Nat.{_^_}
 use lib.Dec.{T}
@@ -26,7 +27,8 @@ module _ (x fx : Float) (n : T (finite x)) (m : T (finite fx)) (floor : value fx
   unfolding partF
   rest-rounds = rounds-along (sub-same (eq-refl (value x)) floor) (sub-rounds binary64 x fx n m)
 
-  pub cell-rest : T (finite (x ⊖ fx)) × (Unit01 (value (x ⊖ fx)) × Within (value (x ⊖ fx)) (partF (value x)) (frac 1 (2 ^ 54)))
+  pub cell-rest : T (finite (x ⊖ fx))
+      × (Unit01 (value (x ⊖ fx)) × Within (value (x ⊖ fx)) (partF (value x)) (frac 1 (2 ^ 54)))
   cell-rest =
       let u = part-unit (value x) in
       let w = rounds-unit rest-rounds u in
@@ -39,7 +41,8 @@ module _ (x fx : Float) (n : T (finite x)) (m : T (finite fx)) (floor : value fx
         let u = cell-rest .1 .0 in
         let w = rounds-unit R u in (
           record { number = w .0; held = rounds-fits R; unit = w .1 },
-          within-trans (value t) (value (x ⊖ fx)) (partF (value x)) (frac 1 (2 ^ 25)) (frac 1 (2 ^ 54)) (within32-0 R (abs-unit (value (x ⊖ fx)) u) .near) (cell-rest .1 .1),
+          within-trans (value t) (value (x ⊖ fx)) (partF (value x)) (frac 1 (2 ^ 25)) (frac 1 (2 ^ 54))
+              (within32-0 R (abs-unit (value (x ⊖ fx)) u) .near) (cell-rest .1 .1),
         )
 
     pub cell-of : Cell x (floorF (value x)) t
@@ -47,6 +50,8 @@ module _ (x fx : Float) (n : T (finite x)) (m : T (finite fx)) (floor : value fx
       floor = refl;
       fraction = cell-fraction .0;
       near = let k = whole (floorF (value x)) in
-          within-like (eq-refl (k +F value t)) (back (part-add (value x))) (add-comm (frac 0 1) cellError ⨟ add-zero cellError)
-          (within-add k k (value t) (partF (value x)) (frac 0 1) cellError (within-same k k (frac 0 1) (eq-refl k) (le-refl (frac 0 1) (frac 0 1))) (cell-fraction .1));
+          within-like (eq-refl (k +F value t)) (back (part-add (value x)))
+          (add-comm (frac 0 1) cellError ⨟ add-zero cellError)
+          (within-add k k (value t) (partF (value x)) (frac 0 1) cellError
+          (within-same k k (frac 0 1) (eq-refl k) (le-refl (frac 0 1) (frac 0 1))) (cell-fraction .1));
     }

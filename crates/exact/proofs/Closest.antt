@@ -1,10 +1,41 @@
--- The nearest whole number to a / u, a tie to the even one. With what is left of a after its whole part, the three ways of the comparison are
--- three sums below or above u; as one quotient, for an even u: add u / 2 - 1 to a, and one more where the whole part is odd, and divide.
--- Provides: `closest-half` (at most a half away), `closest-exact`, `closest-le`, `closest-ge` (beside whole numbers), `closest-none` (below a half);
--- `closest-quotient`, `closest-shift` (an even number of whole u goes through). Assumes nothing.
+-- The nearest whole number to a / u, a tie to the even one. With what is left of a after its whole part, the three ways
+-- of the comparison are three sums below or above u; as one quotient, for an even u: add u / 2 - 1 to a, and one more
+-- where the whole part is odd, and divide. Provides: `closest-half` (at most a half away), `closest-exact`,
+-- `closest-le`, `closest-ge` (beside whole numbers), `closest-none` (below a half); `closest-quotient`, `closest-shift`
+-- (an even number of whole u goes through). Assumes nothing.
 use mathlib.Core.Path.{_≡_, refl, sym, ap, _∙_, subst}
-use Prim.Native.Nat.{ℕ, zero, suc, _+_, _-_, _*_, _/_, _%_, _≤_, _<_, compare, Ordering, Ordering·lt, Ordering·eq, Ordering·gt}
-use native.Mathlib.Nat.{le-trans, le-of-eq, le-antisymm, le-of-suc-le-suc, mul-le-mul-right, lt-of-mul-lt-mul-right, mod-lt, div-add-mod', mul-add-div-right, mul-add-mod-self-right, div-eq-of-lt-le, div-eq-of-lt, mod-eq-of-lt}
+use Prim.Native.Nat.{
+  ℕ,
+  zero,
+  suc,
+  _+_,
+  _-_,
+  _*_,
+  _/_,
+  _%_,
+  _≤_,
+  _<_,
+  compare,
+  Ordering,
+  Ordering·lt,
+  Ordering·eq,
+  Ordering·gt,
+}
+use native.Mathlib.Nat.{
+  le-trans,
+  le-of-eq,
+  le-antisymm,
+  le-of-suc-le-suc,
+  mul-le-mul-right,
+  lt-of-mul-lt-mul-right,
+  mod-lt,
+  div-add-mod',
+  mul-add-div-right,
+  mul-add-mod-self-right,
+  div-eq-of-lt-le,
+  div-eq-of-lt,
+  mod-eq-of-lt,
+}
 use native.Mathlib.Omega.{arith}
 use mathlib.Core.Bool.{not}
 use lib.Dec.{T, isLe, isEq, eqb, leb→le, nleb→lt, eqb→eq, eqb-refl}
@@ -19,9 +50,11 @@ Cmp Ordering·eq a b = a ≡ b
 Cmp Ordering·gt a b = b < a
 
 cmp : (a b : ℕ) → Cmp (compare a b) a b
-cmp a b = go (compare a b) (leb→le a b) (nleb→lt a b) (eqb→eq a b) (λ (e : a ≡ b). subst (λ (x : ℕ). T (eqb a x)) e (eqb-refl a))
+cmp a b = go (compare a b) (leb→le a b) (nleb→lt a b) (eqb→eq a b)
+    (λ (e : a ≡ b). subst (λ (x : ℕ). T (eqb a x)) e (eqb-refl a))
   where
-    go : (o : Ordering) → (T (isLe o) → a ≤ b) → (T (not (isLe o)) → b < a) → (T (isEq o) → a ≡ b) → (a ≡ b → T (isEq o)) → Cmp o a b
+    go : (o : Ordering) → (T (isLe o) → a ≤ b) → (T (not (isLe o)) → b < a) → (T (isEq o) → a ≡ b)
+        → (a ≡ b → T (isEq o)) → Cmp o a b
     go Ordering·lt h k e n = lt-of-le-ne (h tt) n
     go Ordering·eq h k e n = e tt
     go Ordering·gt h k e n = k tt
@@ -48,7 +81,8 @@ closest-half n u U = go (n / u) (n % u) (compare (n % u * 2) u) (div-add-mod' n 
 pub closest-exact : (m u : ℕ) → 0 < u → closest (m * u) u ≡ m
 closest-exact m u U =
     let h = closest-half (m * u) u U in
-    le-antisymm (le-of-suc-le-suc (lt-of-mul-lt-mul-right u (near (closest (m * u) u) m u U (h .0)))) (le-of-suc-le-suc (lt-of-mul-lt-mul-right u (far (closest (m * u) u) m u U (h .1))))
+    le-antisymm (le-of-suc-le-suc (lt-of-mul-lt-mul-right u (near (closest (m * u) u) m u U (h .0))))
+    (le-of-suc-le-suc (lt-of-mul-lt-mul-right u (far (closest (m * u) u) m u U (h .1))))
   where
     near : (q m u : ℕ) → 0 < u → q * u * 2 ≤ m * u * 2 + u → q * u < suc m * u
     near q m u U h = omega arith
@@ -60,7 +94,8 @@ pub closest-le : (a u b : ℕ) → 0 < u → a ≤ b * u → closest a u ≤ b
 closest-le a u b U h = le-trans (closest-mono a u (b * u) u U U (mul-le-mul-right u h)) (le-of-eq (closest-exact b u U))
 
 pub closest-ge : (a u b : ℕ) → 0 < u → b * u ≤ a → b ≤ closest a u
-closest-ge a u b U h = le-trans (le-of-eq (sym (closest-exact b u U))) (closest-mono (b * u) u a u U U (mul-le-mul-right u h))
+closest-ge a u b U h = le-trans (le-of-eq (sym (closest-exact b u U)))
+    (closest-mono (b * u) u a u U U (mul-le-mul-right u h))
 
 -- ---- as one quotient: w is the whole part and r what is left; y is r + (u / 2 - 1) + w % 2, below twice u
 module _ (w r u : ℕ) (even : u % 2 ≡ 0) (pos : 0 < u) where
@@ -85,7 +120,8 @@ regroup a b r h p e = omega arith
 pub closest-quotient : (a u : ℕ) → u % 2 ≡ 0 → 0 < u → closest a u ≡ (a + (u / 2 - 1) + a / u % 2) / u
 closest-quotient a u even pos =
     by-remainder (a / u) (a % u) u even pos (compare (a % u * 2) u) (cmp (a % u * 2) u) (mod-lt a pos)
-    ∙ sym (ap (λ (x : ℕ). x / u) (regroup a (a / u * u) (a % u) (u / 2 - 1) (a / u % 2) (div-add-mod' a u)) ∙ mul-add-div-right pos (a / u) (a % u + (u / 2 - 1) + a / u % 2))
+    ∙ sym (ap (λ (x : ℕ). x / u) (regroup a (a / u * u) (a % u) (u / 2 - 1) (a / u % 2) (div-add-mod' a u))
+    ∙ mul-add-div-right pos (a / u) (a % u + (u / 2 - 1) + a / u % 2))
 
 -- an even number of whole u goes through
 nearest-shift : (c w : ℕ) (o : Ordering) → c % 2 ≡ 0 → nearest (c + w) o ≡ c + nearest w o

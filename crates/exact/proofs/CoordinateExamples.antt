@@ -1,5 +1,5 @@
--- Coordinates at closed floats, so that no premise of their laws is empty: where pixel 3 asks at the offset -10; the quotient 3 / 7 at the pixel (0, 1); and a
--- polynomial of five terms there. Assumes nothing.
+-- Coordinates at closed floats, so that no premise of their laws is empty: where pixel 3 asks at the offset -10; the
+-- quotient 3 / 7 at the pixel (0, 1); and a polynomial of five terms there. Assumes nothing.
 use mathlib.Core.Path.{_≡_, refl}
 use mathlib.Core.Bool.{true, false}
 use Prim.Native.Nat.{ℕ, zero, suc, _^_, _<_}
@@ -10,7 +10,19 @@ use Rattle.exact.specs.Fraction.{Fraction, frac, value, _≤F_, _≈_, _
 use Rattle.exact.specs.Rounds.{Close}
 use Rattle.exact.specs.Double.{_⊗_, _⊘_}
 use Rattle.exact.specs.Loop.{upTo, turns}
-use Rattle.exact.specs.Sums.{asked, askedF, linear, linearF, summed, summedF, raised, powF, Coordinate, Linear, Term}
+use Rattle.exact.specs.Sums.{
+  asked,
+  askedF,
+  linear,
+  linearF,
+  summed,
+  summedF,
+  raised,
+  powF,
+  Coordinate,
+  Linear,
+  Term,
+}
 use Rattle.exact.proofs.Pixels.{asked-coordinate}
 use Rattle.exact.proofs.Powers.{term-one, term-x, term-y, term-xy, term-monomial}
 use Rattle.exact.proofs.Perspective.{perspective-close}
@@ -52,11 +64,25 @@ three = fin false 3 (pos 0)
 -- x + y + 1 over 2 x + 2 y + 3
 above : Linear one one one X Y (frac 16384 1)
 unfolding absF _*F_ _+F_
-above = record { number-m = tt; number-n = tt; number-o = tt; term-x = record { le = lit≤ tt }; term-y = record { le = lit≤ tt }; term-1 = record { le = lit≤ tt } }
+above = record {
+  number-m = tt;
+  number-n = tt;
+  number-o = tt;
+  term-x = record { le = lit≤ tt };
+  term-y = record { le = lit≤ tt };
+  term-1 = record { le = lit≤ tt };
+}
 
 under : Linear two two three X Y (frac 4 1)
 unfolding absF _*F_ _+F_
-under = record { number-m = tt; number-n = tt; number-o = tt; term-x = record { le = lit≤ tt }; term-y = record { le = lit≤ tt }; term-1 = record { le = lit≤ tt } }
+under = record {
+  number-m = tt;
+  number-n = tt;
+  number-o = tt;
+  term-x = record { le = lit≤ tt };
+  term-y = record { le = lit≤ tt };
+  term-1 = record { le = lit≤ tt };
+}
 
 least : frac 1 1024 ≤F linearF two two three X Y
 unfolding _*F_ _+F_
@@ -66,7 +92,8 @@ most : absF (linearF one one one X Y /F linearF two two three X Y) ≤F frac 163
 unfolding absF _*F_ _+F_ _/F_
 most = record { le = lit≤ tt }
 
-pub three-sevenths : Close (linear one one one x y ⊘ linear two two three x y) (linearF one one one X Y /F linearF two two three X Y) (frac 10241 (2 ^ 38)) (frac 16385 1)
+pub three-sevenths : Close (linear one one one x y ⊘ linear two two three x y)
+    (linearF one one one X Y /F linearF two two three X Y) (frac 10241 (2 ^ 38)) (frac 16385 1)
 three-sevenths = perspective-close at-x at-y under least above most
 
 exactly : linearF one one one X Y /F linearF two two three X Y ≈ frac 3 7
@@ -93,11 +120,14 @@ terms zero h = term-one at-x at-y one tt (unfold absF _*F_ in record { le = lit�
 terms (suc zero) h = term-x at-x at-y one tt (unfold absF _*F_ _+F_ in record { le = lit≤ tt })
 terms (suc (suc zero)) h = term-y at-x at-y one tt (unfold absF _*F_ _+F_ in record { le = lit≤ tt })
 terms (suc (suc (suc zero))) h = term-xy at-x at-y one tt (unfold absF _*F_ _+F_ in record { le = lit≤ tt })
-terms (suc (suc (suc (suc n)))) h = term-monomial at-x at-y one tt 3 2 (lit≤ tt) (unfold absF _*F_ _+F_ powF in record { le = lit≤ tt })
+terms (suc (suc (suc (suc n)))) h =
+    term-monomial at-x at-y one tt 3 2 (lit≤ tt) (unfold absF _*F_ _+F_ powF in record { le = lit≤ tt })
 
 total : absF (summedF (λ (k : ℕ). monomialF k *F value one) 5) ≤F frac 16384 1
 unfolding absF _*F_ _+F_ powF upTo turns
 total = record { le = lit≤ tt }
 
-pub five-terms : Close (summed (ofBits binary64 0) (λ (k : ℕ). monomial k ⊗ one) 5) (summedF (λ (k : ℕ). monomialF k *F value one) 5) (frac 1 (2 ^ 29)) (frac 16385 1)
-five-terms = polynomial-close (ofBits binary64 0) (plus-zero .0) (plus-zero .1) 5 (lit≤ tt) monomial (λ (k : ℕ). one) monomialF terms total
+pub five-terms : Close (summed (ofBits binary64 0) (λ (k : ℕ). monomial k ⊗ one) 5)
+    (summedF (λ (k : ℕ). monomialF k *F value one) 5) (frac 1 (2 ^ 29)) (frac 16385 1)
+five-terms = polynomial-close (ofBits binary64 0) (plus-zero .0) (plus-zero .1) 5 (lit≤ tt) monomial (λ (k : ℕ). one)
+    monomialF terms total

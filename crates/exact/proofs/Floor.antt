@@ -1,7 +1,8 @@
--- The floor of a fraction: the one whole number k with k ≤ x < k + 1. The definition divides naturals, so both halves are the
--- laws of that division; that k is the only one follows since k < j + 1 and j < k + 1 leave no other.
--- Provides: `plusℤ`, `minusℤ`, `at-whole` (a whole number at a scale), `whole-next`; `floor-le`, `floor-lt`, `floor-only`, `floor-same`, `floor-mono`, `floor-whole`;
--- `part-unit`, `part-lt`, `part-add` (x is its floor and its part), `split-only` (x = k + t with 0 ≤ t < 1 is that split). Assumes nothing.
+-- The floor of a fraction: the one whole number k with k ≤ x < k + 1. The definition divides naturals, so both halves
+-- are the laws of that division; that k is the only one follows since k < j + 1 and j < k + 1 leave no other. Provides:
+-- `plusℤ`, `minusℤ`, `at-whole` (a whole number at a scale), `whole-next`; `floor-le`, `floor-lt`, `floor-only`,
+-- `floor-same`, `floor-mono`, `floor-whole`; `part-unit`, `part-lt`, `part-add` (x is its floor and its part),
+-- `split-only` (x = k + t with 0 ≤ t < 1 is that split). Assumes nothing.
 use mathlib.Core.Path.{_≡_, refl, sym, ap, subst}
 use mathlib.Core.List.{[], _∷_}
 use mathlib.Core.Bool.{Bool, true, false, not, cond}
@@ -52,10 +53,12 @@ parts-only (negsuc a) (negsuc b) h = ap negsuc (omega arith)
 abbrev Floor : ℤ → Fraction → Type 0
 Floor k x = (whole k ≤F x) × (x <F whole (sucℤ k))
 
-above : (p m u k : ℕ) → m ≤ p → k * suc u ≤ p - m → p - m < k * suc u + suc u → Floor (pos k) (record { plus = p; minus = m; under = u })
+above : (p m u k : ℕ) → m ≤ p → k * suc u ≤ p - m → p - m < k * suc u + suc u
+    → Floor (pos k) (record { plus = p; minus = m; under = u })
 above p m u k h a b = (record { le = omega arith }, record { lt = omega arith })
 
-below : (p m u k : ℕ) → p < m → k * suc u ≤ m - p + u → m - p + u < k * suc u + suc u → Floor (negℤ (pos k)) (record { plus = p; minus = m; under = u })
+below : (p m u k : ℕ) → p < m → k * suc u ≤ m - p + u → m - p + u < k * suc u + suc u
+    → Floor (negℤ (pos k)) (record { plus = p; minus = m; under = u })
 below p m u zero h a b = absurd (omega arith)
 below p m u (suc zero) h a b = (record { le = omega arith }, record { lt = omega arith })
 below p m u (suc (suc k)) h a b = (record { le = omega arith }, record { lt = omega arith })
@@ -64,8 +67,10 @@ floor-is : (x : Fraction) → Floor (floorF x) x
 unfolding floorF
 floor-is x = pick (leb (x .minus) (x .plus)) (leb→le (x .minus) (x .plus)) (nleb→lt (x .minus) (x .plus))
   where
-    pick : (t : Bool) → (T t → x .minus ≤ x .plus) → (T (not t) → x .plus < x .minus) → Floor (cond t (pos ((x .plus - x .minus) / over x)) (negℤ (pos ((x .minus - x .plus + x .under) / over x)))) x
-    pick true h k = above (x .plus) (x .minus) (x .under) ((x .plus - x .minus) / over x) (h tt) (div-mul-le-self (x .plus - x .minus) (over x)) (lt-div-mul-add (over-pos x))
+    pick : (t : Bool) → (T t → x .minus ≤ x .plus) → (T (not t) → x .plus < x .minus)
+        → Floor (cond t (pos ((x .plus - x .minus) / over x)) (negℤ (pos ((x .minus - x .plus + x .under) / over x)))) x
+    pick true h k = above (x .plus) (x .minus) (x .under) ((x .plus - x .minus) / over x) (h tt)
+        (div-mul-le-self (x .plus - x .minus) (over x)) (lt-div-mul-add (over-pos x))
     pick false h k =
         below (x .plus) (x .minus) (x .under) ((x .minus - x .plus + x .under) / over x) (k tt)
         (div-mul-le-self (x .minus - x .plus + x .under) (over x)) (lt-div-mul-add (over-pos x))
@@ -78,7 +83,8 @@ floor-lt x = floor-is x .1
 
 -- k < j + 1 is k ≤ j
 within-one : (k j : ℤ) → whole k <F whole (sucℤ j) → plusℤ k + minusℤ j ≤ plusℤ j + minusℤ k
-within-one k j h = go (plusℤ k) (minusℤ k) (plusℤ j) (minusℤ j) (plusℤ (sucℤ j)) (minusℤ (sucℤ j)) (next-parts j) (lt-at 1 (zero-lt-suc 0) (at-whole 1 k) (at-whole 1 (sucℤ j)) h)
+within-one k j h = go (plusℤ k) (minusℤ k) (plusℤ j) (minusℤ j) (plusℤ (sucℤ j)) (minusℤ (sucℤ j)) (next-parts j)
+    (lt-at 1 (zero-lt-suc 0) (at-whole 1 k) (at-whole 1 (sucℤ j)) h)
   where
     go : (p n q m r s : ℕ) → r + m ≡ q + s + 1 → p * 1 + s * 1 < r * 1 + n * 1 → p + m ≤ q + n
     go p n q m r s h k = omega arith
@@ -92,12 +98,14 @@ floor-only x k h l =
     go p n q m h k = omega arith
 
 pub floor-same : {x y : Fraction} → x ≈ y → floorF x ≡ floorF y
-floor-same {x} {y} h = floor-only x (floorF y) (le-same (eq-refl (whole (floorF y))) (back h) (floor-le y)) (le-lt-trans (eq-le x y h) (floor-lt y))
+floor-same {x} {y} h = floor-only x (floorF y) (le-same (eq-refl (whole (floorF y))) (back h) (floor-le y))
+    (le-lt-trans (eq-le x y h) (floor-lt y))
 
 pub floor-mono : {x y : Fraction} → x ≤F y → whole (floorF x) ≤F whole (floorF y)
 floor-mono {x} {y} h =
     at-le 1 (zero-lt-suc 0) (at-whole 1 (floorF x)) (at-whole 1 (floorF y))
-    (let a = within-one (floorF x) (floorF y) (le-lt-trans (le-trans (whole (floorF x)) x y (floor-le x) h) (floor-lt y)) in omega arith)
+    (let a = within-one (floorF x) (floorF y)
+    (le-lt-trans (le-trans (whole (floorF x)) x y (floor-le x) h) (floor-lt y)) in omega arith)
 
 pub floor-whole : (k : ℤ) → floorF (whole k) ≡ k
 floor-whole k =
@@ -107,7 +115,9 @@ floor-whole k =
 -- ---- what is left above it
 pub part-add : (x : Fraction) → x ≈ whole (floorF x) +F partF x
 unfolding partF
-part-add x = common (x ∷ []) (λ D D0 ((_, _, X), _). at-eq D D0 X (at-add (at-whole D (floorF x)) (at-sub X (at-whole D (floorF x)))) (omega arith))
+part-add x = common (x ∷ [])
+    (λ D D0 ((_, _, X), _). at-eq D D0 X (at-add (at-whole D (floorF x)) (at-sub X (at-whole D (floorF x))))
+    (omega arith))
 
 -- t is from 0 to below 1 where k ≤ k + t < k + 1
 module _ (x t : Fraction) (k : ℤ) (h : x ≈ whole k +F t) where
@@ -138,10 +148,15 @@ module _ (x t : Fraction) (k : ℤ) (h : x ≈ whole k +F t) where
       (e, subst (λ (j : ℤ). x -F whole j ≈ t) (sym e) rest)
     where
       rest : x -F whole k ≈ t
-      rest = common (x ∷ t ∷ []) (λ D D0 ((_, _, X), ((_, _, T), _)). let a = eq-at D D0 X (at-add (at-whole D k) T) h in at-eq D D0 (at-sub X (at-whole D k)) T (omega arith))
+      rest = common (x ∷ t ∷ [])
+          (λ D D0 ((_, _, X), ((_, _, T), _)). let a = eq-at D D0 X (at-add (at-whole D k) T) h in
+          at-eq D D0 (at-sub X (at-whole D k)) T (omega arith))
 
 pub part-lt : (x : Fraction) → partF x <F frac 1 1
 part-lt x = part-of x (partF x) (floorF x) (part-add x) (floor-le x) (floor-lt x) .1
 
 pub part-unit : (x : Fraction) → Unit01 (partF x)
-part-unit x = (part-of x (partF x) (floorF x) (part-add x) (floor-le x) (floor-lt x) .0, lt-le (partF x) (frac 1 1) (part-lt x))
+part-unit x = (
+  part-of x (partF x) (floorF x) (part-add x) (floor-le x) (floor-lt x) .0,
+  lt-le (partF x) (frac 1 1) (part-lt x),
+)

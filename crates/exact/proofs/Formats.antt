@@ -1,7 +1,7 @@
--- The numbers of a format: its digits, the weights of its pattern's fields and where it ends. They hold for both formats, by their values or by
--- what the library says of every format.
--- Provides: `prec-pos`, `hid-pos`, `top-pos`; `twice-hid` (the leading digit's weight); `overflow-is`, `whole-room` (where a format ends); `infinite`
--- (the infinity's pattern) and `below-top` (patterns up to it leave the sign's bit clear). Assumes nothing.
+-- The numbers of a format: its digits, the weights of its pattern's fields and where it ends. They hold for both
+-- formats, by their values or by what the library says of every format. Provides: `prec-pos`, `hid-pos`, `top-pos`;
+-- `twice-hid` (the leading digit's weight); `overflow-is`, `whole-room` (where a format ends); `infinite` (the
+-- infinity's pattern) and `below-top` (patterns up to it leave the sign's bit clear). Assumes nothing.
 use mathlib.Core.Path.{_≡_, refl, subst}
 use Prim.Native.Nat.{ℕ, suc, _+_, _-_, _*_, _^_, _≤_, _<_}
 use native.Mathlib.Nat.{lt-of-le-of-lt, lt-suc-self, mul-comm, mul-pos, mul-lt-mul-of-pos-right, zero-lt-suc}
@@ -38,4 +38,6 @@ abbrev pub infinite : Format → ℕ
 infinite f = ones f * hid f
 
 pub below-top : (f : Format) (p : ℕ) → p ≤ infinite f → p < top f
-below-top f p h = lt-of-le-of-lt h (subst (λ (x : ℕ). infinite f < x) (mul-comm (suc (ones f)) (hid f)) (mul-lt-mul-of-pos-right (lt-suc-self (ones f)) (hid-pos f)))
+below-top f p h = lt-of-le-of-lt h
+    (subst (λ (x : ℕ). infinite f < x) (mul-comm (suc (ones f)) (hid f))
+    (mul-lt-mul-of-pos-right (lt-suc-self (ones f)) (hid-pos f)))

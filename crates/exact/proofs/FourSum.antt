@@ -1,6 +1,7 @@
--- The sum of four products beside the sum of their weights. The exact partial sums are at most 1, so each rounded one is below 2 and a rounding adds one unit of
--- 2 ^ -24 at most; and since rounding keeps the order, the products' sum stays at most the weights'.
--- Provides: `Taken` (a product beside its weight), `taken`; `Sums` (the two sums, side by side), `sums-start`, `sums-next`, `sums-four`. Assumes nothing.
+-- The sum of four products beside the sum of their weights. The exact partial sums are at most 1, so each rounded one
+-- is below 2 and a rounding adds one unit of 2 ^ -24 at most; and since rounding keeps the order, the products' sum
+-- stays at most the weights'. Provides: `Taken` (a product beside its weight), `taken`; `Sums` (the two sums, side by
+-- side), `sums-start`, `sums-next`, `sums-four`. Assumes nothing.
 use mathlib.Core.Path.{refl, subst}
 use Prim.Native.Nat.{ℕ, _+_, _^_, _≤_}
 use native.Mathlib.Nat as N
@@ -18,7 +19,15 @@ use Rattle.exact.proofs.Rounds.{rounds-along}
 use Rattle.exact.proofs.Monotone.{rounds-mono, rounds-nonneg, rounds-at-most, rounds-exact}
 use Rattle.exact.proofs.Operations.{add-rounds, mul-rounds}
 use Rattle.exact.proofs.Bounds.{rounds-bound}
-use Rattle.exact.proofs.Samples.{halves, halves-add, halves-le, start-number, start-value, sample-own, sample-mul}
+use Rattle.exact.proofs.Samples.{
+  halves,
+  halves-add,
+  halves-le,
+  start-number,
+  start-value,
+  sample-own,
+  sample-mul,
+}
 
 -- ---- the product x of a weight w and a sample, with the exact W and X
 pub record Taken (x w : Float) (X W : Fraction) (n : ℕ) : Type 0 where
@@ -27,13 +36,17 @@ pub record Taken (x w : Float) (X W : Fraction) (n : ℕ) : Type 0 where
   pub order : value x ≤F value w
   pub exact : X ≤F W
 
-pub taken : (w p : Float) (W : Fraction) (n : ℕ) → Unit01 W → Sample w W (halves n) → Unit32 p → Taken (w ⊗ p) w (W *F value p) W n
+pub taken : (w p : Float) (W : Fraction) (n : ℕ) → Unit01 W → Sample w W (halves n) → Unit32 p
+    → Taken (w ⊗ p) w (W *F value p) W n
 taken w p W n u s u' =
-    let r : Sample (w ⊗ p) (W *F value p) (halves (1 + n)) = subst (λ (k : ℕ). Sample (w ⊗ p) (W *F value p) (halves (1 + k))) (N.add-zero n) (sample-mul n 0 u s (sample-own u')) in
+    let r : Sample (w ⊗ p) (W *F value p) (halves (1 + n)) =
+    subst (λ (k : ℕ). Sample (w ⊗ p) (W *F value p) (halves (1 + k))) (N.add-zero n)
+    (sample-mul n 0 u s (sample-own u')) in
     record {
       product = r;
       weight = s;
-      order = rounds-at-most (mul-rounds binary32 w p (s .is .number) (u' .number)) w (s .is .held) (s .is .number) (r .is .number) (below (value w) (s .is .unit .0));
+      order = rounds-at-most (mul-rounds binary32 w p (s .is .number) (u' .number)) w (s .is .held) (s .is .number)
+          (r .is .number) (below (value w) (s .is .unit .0));
       exact = below W (u .0);
     }
   where
@@ -48,7 +61,8 @@ pub record Summed (r : Float) (X : Fraction) (n : ℕ) : Type 0 where
 
 start-rounds : (x : Float) → T (finite x) → Rounds binary32 (start ⊕ x) (value x)
 start-rounds x t =
-    rounds-along (add-same (value start) (frac 0 1) (value x) (value x) start-value (eq-refl (value x)) ⨟ add-comm (frac 0 1) (value x) ⨟ add-zero (value x))
+    rounds-along (add-same (value start) (frac 0 1) (value x) (value x) start-value (eq-refl (value x)) ⨟ add-comm
+    (frac 0 1) (value x) ⨟ add-zero (value x))
     (add-rounds binary32 start x start-number t)
 
 -- the first sum is exact
@@ -56,14 +70,20 @@ summed-start : (x : Float) {X : Fraction} (n : ℕ) → Sample x X (halves n) �
 summed-start x {X} n s =
     let R = start-rounds x (s .is .number) in
     let w = rounds-exact R x (s .is .held) (s .is .number) (eq-refl (value x)) in
-    record { number = w .0; nonneg = rounds-nonneg R (w .0) (s .is .unit .0); near = within-like (back (w .1)) (eq-refl X) (eq-refl (halves n)) (s .near) }
+    record {
+      number = w .0;
+      nonneg = rounds-nonneg R (w .0) (s .is .unit .0);
+      near = within-like (back (w .1)) (eq-refl X) (eq-refl (halves n)) (s .near);
+    }
 
 -- a value that is not negative and near one of at most 1 is at most 2
-under-two : (z X : Fraction) (n : ℕ) → frac 0 1 ≤F z → Within z X (halves n) → X ≤F frac 1 1 → n ≤ 2 ^ 25 → absF z ≤F frac 2 1
+under-two : (z X : Fraction) (n : ℕ) → frac 0 1 ≤F z → Within z X (halves n) → X ≤F frac 1 1 → n ≤ 2 ^ 25
+    → absF z ≤F frac 2 1
 under-two z X n z0 w h l =
     le-trans (absF z) z (frac 2 1) (abs-self z z0)
     (le-trans z (X +F halves n) (frac 2 1) (within-open z X (halves n) w .0)
-    (le-same (eq-refl (X +F halves n)) two (add-mono X (frac 1 1) (halves n) (frac 1 1) h (le-same (eq-refl (halves n)) full (halves-le n (2 ^ 25) l)))))
+    (le-same (eq-refl (X +F halves n)) two
+    (add-mono X (frac 1 1) (halves n) (frac 1 1) h (le-same (eq-refl (halves n)) full (halves-le n (2 ^ 25) l)))))
   where
     full : halves (2 ^ 25) ≈ frac 1 1
     full = unfold halves in record { eq = refl }
@@ -72,8 +92,15 @@ under-two z X n z0 w h l =
     two = unfold _+F_ in record { eq = refl }
 
 -- each further one adds one unit: two halves
-summed-next : (r x : Float) {X Y : Fraction} (m n : ℕ) → Summed r X m → Sample x Y (halves n) → X +F Y ≤F frac 1 1 → m + n ≤ 2 ^ 25 → Summed (r ⊕ x) (X +F Y) (2 + (m + n))
-summed-next r x {X} {Y} m n a s h l = record { number = c .number; nonneg = rounds-nonneg R (c .number) z0; near = within-like (eq-refl (value (r ⊕ x))) (eq-refl (X +F Y)) (halves-add 2 (m + n)) (within-trans (value (r ⊕ x)) z (X +F Y) (halves 2) (halves (m + n)) unit w) }
+summed-next : (r x : Float) {X Y : Fraction} (m n : ℕ) → Summed r X m → Sample x Y (halves n) → X +F Y ≤F frac 1 1
+    → m + n ≤ 2 ^ 25 → Summed (r ⊕ x) (X +F Y) (2 + (m + n))
+summed-next r x {X} {Y} m n a s h l =
+    record {
+      number = c .number;
+      nonneg = rounds-nonneg R (c .number) z0;
+      near = within-like (eq-refl (value (r ⊕ x))) (eq-refl (X +F Y)) (halves-add 2 (m + n))
+          (within-trans (value (r ⊕ x)) z (X +F Y) (halves 2) (halves (m + n)) unit w);
+    }
   where
     z : Fraction
     z = value r +F value x
@@ -82,10 +109,12 @@ summed-next r x {X} {Y} m n a s h l = record { number = c .number; nonneg = roun
     R = add-rounds binary32 r x (a .number) (s .is .number)
 
     z0 : frac 0 1 ≤F z
-    z0 = le-same (add-zero (frac 0 1)) (eq-refl z) (add-mono (frac 0 1) (value r) (frac 0 1) (value x) (a .nonneg) (s .is .unit .0))
+    z0 = le-same (add-zero (frac 0 1)) (eq-refl z)
+        (add-mono (frac 0 1) (value r) (frac 0 1) (value x) (a .nonneg) (s .is .unit .0))
 
     w : Within z (X +F Y) (halves (m + n))
-    w = within-like (eq-refl z) (eq-refl (X +F Y)) (halves-add m n) (within-add (value r) X (value x) Y (halves m) (halves n) (a .near) (s .near))
+    w = within-like (eq-refl z) (eq-refl (X +F Y)) (halves-add m n)
+        (within-add (value r) X (value x) Y (halves m) (halves n) (a .near) (s .near))
 
     c : Close (r ⊕ x) z (frac 2 (2 ^ 25)) (frac 2 1)
     c = rounds-bound R 150 2 1 2 (2 ^ 25) tt (under-two z (X +F Y) (m + n) z0 w h l)
@@ -107,11 +136,13 @@ sums-start {x} {w} n k =
     record {
       products = p;
       weights = q;
-      order = rounds-mono (start-rounds x (k .product .is .number)) (start-rounds w (k .weight .is .number)) (p .number) (q .number) (k .order);
+      order = rounds-mono (start-rounds x (k .product .is .number)) (start-rounds w (k .weight .is .number))
+          (p .number) (q .number) (k .order);
       exact = k .exact;
     }
 
-pub sums-next : {r s x w : Float} {X W Y Z : Fraction} (m n j : ℕ) → Sums r s X W m n → Taken x w Y Z j → W +F Z ≤F frac 1 1 → m + (1 + j) ≤ 2 ^ 25 → n + j ≤ 2 ^ 25
+pub sums-next : {r s x w : Float} {X W Y Z : Fraction} (m n j : ℕ) → Sums r s X W m n → Taken x w Y Z j → W
+    +F Z ≤F frac 1 1 → m + (1 + j) ≤ 2 ^ 25 → n + j ≤ 2 ^ 25
     → Sums (r ⊕ x) (s ⊕ w) (X +F Y) (W +F Z) (2 + (m + (1 + j))) (2 + (n + j))
 sums-next {r} {s} {x} {w} {X} {W} {Y} {Z} m n j a k h l l' =
     let le : X +F Y ≤F W +F Z = add-mono X W Y Z (a .exact) (k .exact) in
@@ -120,14 +151,18 @@ sums-next {r} {s} {x} {w} {X} {W} {Y} {Z} m n j a k h l l' =
     record {
       products = p;
       weights = q;
-      order = rounds-mono (add-rounds binary32 r x (a .products .number) (k .product .is .number)) (add-rounds binary32 s w (a .weights .number) (k .weight .is .number)) (p .number) (q .number)
+      order = rounds-mono (add-rounds binary32 r x (a .products .number) (k .product .is .number))
+          (add-rounds binary32 s w (a .weights .number) (k .weight .is .number)) (p .number) (q .number)
           (add-mono (value r) (value s) (value x) (value w) (a .order) (k .order));
       exact = le;
     }
 
--- all four taps: the weights are within 3, 2, 2 and 1 halves, so the products' sum is within 18 halves and the weights' within 14
-pub sums-four : {x0 x1 x2 x3 w0 w1 w2 w3 : Float} {X0 X1 X2 X3 W0 W1 W2 W3 : Fraction} → Taken x0 w0 X0 W0 3 → Taken x1 w1 X1 W1 2 → Taken x2 w2 X2 W2 2 → Taken x3 w3 X3 W3 1
+-- all four taps: the weights are within 3, 2, 2 and 1 halves, so the products' sum is within 18 halves and the weights'
+-- within 14
+pub sums-four : {x0 x1 x2 x3 w0 w1 w2 w3 : Float} {X0 X1 X2 X3 W0 W1 W2 W3 : Fraction} → Taken x0 w0 X0 W0 3
+    → Taken x1 w1 X1 W1 2 → Taken x2 w2 X2 W2 2 → Taken x3 w3 X3 W3 1
     → W0 +F W1 ≤F frac 1 1 → W0 +F W1 +F W2 ≤F frac 1 1 → W0 +F W1 +F W2 +F W3 ≤F frac 1 1
     → Sums (fourSum x0 x1 x2 x3) (fourSum w0 w1 w2 w3) (X0 +F X1 +F X2 +F X3) (W0 +F W1 +F W2 +F W3) 18 14
 sums-four a b c d h1 h2 h3 =
-    sums-next 14 11 1 (sums-next 9 7 2 (sums-next 4 3 2 (sums-start 3 a) b h1 (lit≤ tt) (lit≤ tt)) c h2 (lit≤ tt) (lit≤ tt)) d h3 (lit≤ tt) (lit≤ tt)
+    sums-next 14 11 1 (sums-next 9 7 2 (sums-next 4 3 2 (sums-start 3 a) b h1 (lit≤ tt) (lit≤ tt)) c h2 (lit≤ tt)
+    (lit≤ tt)) d h3 (lit≤ tt) (lit≤ tt)

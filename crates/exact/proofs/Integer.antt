@@ -1,5 +1,6 @@
--- Integers that a format counts without a gap, as floats: their values, their sums and differences, which are those of the integers
--- rounded once, and the way back. A sum of floats is the sum of their values, and -0 comes out of none. Assumes nothing.
+-- Integers that a format counts without a gap, as floats: their values, their sums and differences, which are those of
+-- the integers rounded once, and the way back. A sum of floats is the sum of their values, and -0 comes out of none.
+-- Assumes nothing.
 use mathlib.Core.Path.{_≡_, refl, sym, ap, _∙_}
 use Prim.Native.Nat.{ℕ, zero, suc, _+_, _-_, _^_, _≤_, _<_}
 use native.Mathlib.Nat.{zero-lt-suc, not-suc-le-zero, add-zero}
@@ -40,7 +41,9 @@ less-more : (f : Format) (a b : ℕ) → sum f false a true b 1 ≡ ofInt f (sub
 unfolding sum ofInt
 less-more f a b = go (ltb a b) (ltb→lt a b)
   where
-    go : (u : Bool) → (T u → a < b) → cond u (round f true (b - a) 1) (round f false (a - b) 1) ≡ ofInt f (cond u (negsuc (b - suc a)) (pos (a - b)))
+    go : (u : Bool) → (T u → a < b)
+        → cond u (round f true (b - a) 1) (round f false (a - b) 1) ≡ ofInt f
+        (cond u (negsuc (b - suc a)) (pos (a - b)))
     go true h = ap (λ (k : ℕ). round f true k 1) (gap a b (h tt))
     go false h = refl
 
@@ -55,7 +58,8 @@ unfolding sum ofInt
 more-less f a b = go (ltb b a) (ltb a b) (ltb→lt b a) (ltb→lt a b) (nltb→le b a) (nltb→le a b)
   where
     go : (v u : Bool) → (T v → b < a) → (T u → a < b) → (T (not v) → a ≤ b) → (T (not u) → b ≤ a)
-        → cond v (round f false (a - b) 1) (round f (true && u) (b - a) 1) ≡ ofInt f (cond u (negsuc (b - suc a)) (pos (a - b)))
+        → cond v (round f false (a - b) 1) (round f (true && u) (b - a) 1) ≡ ofInt f
+        (cond u (negsuc (b - suc a)) (pos (a - b)))
     go true true k h m l = absurd (clash a b (h tt) (k tt))
     go true false k h m l = refl
     go false true k h m l = ap (λ (j : ℕ). round f true j 1) (gap a b (h tt))
@@ -70,19 +74,25 @@ sum-int f (negsuc a) (negsuc b) = unfold sum ofInt in ap (λ (k : ℕ). round f 
     two-more : (a b : ℕ) → suc a + suc b ≡ suc (suc (a + b))
     two-more a b = omega arith
 
-pub ofInt-add : (f : Format) (z w : ℤ) → T (inFloat f z) → T (inFloat f w) → add f (ofInt f z) (ofInt f w) ≡ ofInt f (z +ℤ w)
-ofInt-add f z w p q = add-values f (ofInt f z) (ofInt f w) (negative z) (negative w) (natAbs z) (natAbs w) 1 (zero-lt-suc 0) (ofInt-value f z p) (ofInt-value f w q) ∙ sum-int f z w
+pub ofInt-add : (f : Format) (z w : ℤ) → T (inFloat f z) → T (inFloat f w)
+    → add f (ofInt f z) (ofInt f w) ≡ ofInt f (z +ℤ w)
+ofInt-add f z w p q = add-values f (ofInt f z) (ofInt f w) (negative z) (negative w) (natAbs z) (natAbs w) 1
+    (zero-lt-suc 0) (ofInt-value f z p) (ofInt-value f w q) ∙ sum-int f z w
 
 -- less -0, which negation makes of 0
 sum-zero : (f : Format) (z : ℤ) → sum f (negative z) (natAbs z) true 0 1 ≡ ofInt f z
-sum-zero f (pos a) = unfold sum ofInt in ap (λ (u : Bool). cond u (round f true (0 - a) 1) (round f false (a - 0) 1)) (no-less a) ∙ ap (λ (k : ℕ). round f false k 1) (less-none a)
+sum-zero f (pos a) = unfold sum ofInt in
+    ap (λ (u : Bool). cond u (round f true (0 - a) 1) (round f false (a - 0) 1)) (no-less a)
+    ∙ ap (λ (k : ℕ). round f false k 1) (less-none a)
   where
     less-none : (a : ℕ) → a - 0 ≡ a
     less-none a = omega arith
 sum-zero f (negsuc a) = unfold sum ofInt in ap (λ (k : ℕ). round f true k 1) (add-zero (suc a))
 
-pub ofInt-sub : (f : Format) (z w : ℤ) → T (inFloat f z) → T (inFloat f w) → sub f (ofInt f z) (ofInt f w) ≡ ofInt f (z -ℤ w)
-ofInt-sub f z w p q = sub-values f (ofInt f z) (ofInt f w) (negative z) (negative w) (natAbs z) (natAbs w) 1 (zero-lt-suc 0) (ofInt-value f z p) (ofInt-value f w q) ∙ flip w
+pub ofInt-sub : (f : Format) (z w : ℤ) → T (inFloat f z) → T (inFloat f w)
+    → sub f (ofInt f z) (ofInt f w) ≡ ofInt f (z -ℤ w)
+ofInt-sub f z w p q = sub-values f (ofInt f z) (ofInt f w) (negative z) (negative w) (natAbs z) (natAbs w) 1
+    (zero-lt-suc 0) (ofInt-value f z p) (ofInt-value f w q) ∙ flip w
   where
     flip : (w : ℤ) → sum f (negative z) (natAbs z) (not (negative w)) (natAbs w) 1 ≡ ofInt f (z -ℤ w)
     flip (pos zero) = sum-zero f z ∙ ap (ofInt f) (sym (+ℤ-idr z))
@@ -90,6 +100,7 @@ ofInt-sub f z w p q = sub-values f (ofInt f z) (ofInt f w) (negative z) (negativ
     flip (negsuc b) = sum-int f z (pos (suc b))
 
 -- ---- and back
-pub ofInt-back : (f : Format) (h : ℕ) (z : ℤ) → T (inFloat f z) → mag z < 2 ^ h → T (inSigned f h (ofInt f z)) × (toSigned h (ofInt f z) ≡ z)
+pub ofInt-back : (f : Format) (h : ℕ) (z : ℤ) → T (inFloat f z) → mag z < 2 ^ h → T (inSigned f h (ofInt f z))
+    × (toSigned h (ofInt f z) ≡ z)
 ofInt-back f h (pos n) t r = positive-back f h n t r
 ofInt-back f h (negsuc n) t r = negative-back f h n t r

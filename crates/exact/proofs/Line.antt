@@ -1,7 +1,7 @@
--- The line through values at whole numbers. It may be evaluated in any cell that x touches, at a border in either, since both mixes
--- are the border's value there. So it moves by at most |x - x'|: within a cell the mix does; over one border go through its value;
--- further apart |x - x'| is above 1, and both values are from 0 to 1.
--- Provides: `lin-unit`, `lin-near`, `lin-like`, `lin-eval`, `lin-same`, `lin-whole`, `lin-move`. Assumes nothing.
+-- The line through values at whole numbers. It may be evaluated in any cell that x touches, at a border in either,
+-- since both mixes are the border's value there. So it moves by at most |x - x'|: within a cell the mix does; over one
+-- border go through its value; further apart |x - x'| is above 1, and both values are from 0 to 1. Provides:
+-- `lin-unit`, `lin-near`, `lin-like`, `lin-eval`, `lin-same`, `lin-whole`, `lin-move`. Assumes nothing.
 use mathlib.Core.Path.{subst}
 use mathlib.Core.List.{[], _∷_}
 use mathlib.Core.Logic.{⊎-elim}
@@ -10,7 +10,19 @@ use lib.IntN.{ℤ, sucℤ}
 use Rattle.exact.specs.Fraction.{Fraction, frac, whole, _≤F_, _<F_, _≈_, _+F_, _-F_, Within, Unit01}
 use Rattle.exact.specs.Surface.{floorF, partF, mix, lin}
 use Rattle.exact.proofs.Scale.{at-le, le-at, lt-at, at-eq, eq-at, at-add, at-sub, common}
-use Rattle.exact.proofs.Near.{le-refl, le-total, add-same, lt-le, le-antisym, within-at, at-within, within-sym, within-more, within-trans, le-trans}
+use Rattle.exact.proofs.Near.{
+  le-refl,
+  le-total,
+  add-same,
+  lt-le,
+  le-antisym,
+  within-at,
+  at-within,
+  within-sym,
+  within-more,
+  within-trans,
+  le-trans,
+}
 use Rattle.exact.proofs.Products.{eq-refl, _⨟_, back, at-zero, at-one, lt-or-le, add-zero, unit-zero}
 use Rattle.exact.proofs.NearProducts.{within-like, within-unit}
 use Rattle.exact.proofs.Floor.{whole-next, floor-le, floor-lt, part-unit, part-add, split-only}
@@ -23,7 +35,8 @@ lin-unit a x h = mix-unit (partF x) (part-unit x) (h (floorF x)) (h (sucℤ (flo
 pub lin-near : (a b : ℤ → Fraction) (x e : Fraction) → ((k : ℤ) → Within (a k) (b k) e) → Within (lin a x) (lin b x) e
 unfolding lin
 lin-near a b x e h =
-    mix-near (partF x) (part-unit x) (a (floorF x)) (b (floorF x)) (a (sucℤ (floorF x))) (b (sucℤ (floorF x))) e (h (floorF x)) (h (sucℤ (floorF x)))
+    mix-near (partF x) (part-unit x) (a (floorF x)) (b (floorF x)) (a (sucℤ (floorF x))) (b (sucℤ (floorF x))) e
+    (h (floorF x)) (h (sucℤ (floorF x)))
 
 -- two families with equal values
 pub lin-like : (a b : ℤ → Fraction) (x : Fraction) → ((k : ℤ) → a k ≈ b k) → lin a x ≈ lin b x
@@ -32,7 +45,8 @@ lin-like a b x h = mix-same (eq-refl (partF x)) (h (floorF x)) (h (sucℤ (floor
 
 module _ (a : ℤ → Fraction) where
   -- t below 1: k is the floor and t the part
-  inside : (x t : Fraction) (k : ℤ) → frac 0 1 ≤F t → t <F frac 1 1 → x ≈ whole k +F t → lin a x ≈ mix t (a k) (a (sucℤ k))
+  inside : (x t : Fraction) (k : ℤ) → frac 0 1 ≤F t → t <F frac 1 1 → x ≈ whole k +F t
+      → lin a x ≈ mix t (a k) (a (sucℤ k))
   unfolding lin
   inside x t k l u h =
       let s = split-only x t k h l u in
@@ -47,13 +61,15 @@ module _ (a : ℤ → Fraction) where
       border l =
           let e : t ≈ frac 1 1 = le-antisym t (frac 1 1) (u .1) l in
           inside x (frac 0 1) (sucℤ k) (unit-zero .0) (record { lt = omega arith })
-          (h ⨟ add-same (whole k) (whole k) t (frac 1 1) (eq-refl (whole k)) e ⨟ back (whole-next k) ⨟ back (add-zero (whole (sucℤ k))))
+          (h ⨟ add-same (whole k) (whole k) t (frac 1 1) (eq-refl (whole k)) e ⨟ back (whole-next k) ⨟ back
+          (add-zero (whole (sucℤ k))))
           ⨟ mix-zero (a (sucℤ k)) (a (sucℤ (sucℤ k)))
           ⨟ back (mix-one (a k) (a (sucℤ k)))
           ⨟ mix-same (back e) (eq-refl (a k)) (eq-refl (a (sucℤ k)))
 
   pub lin-same : {x y : Fraction} → x ≈ y → lin a x ≈ lin a y
-  lin-same {x} {y} h = lin-eval x (partF y) (floorF y) (part-unit y) (h ⨟ part-add y) ⨟ back (lin-eval y (partF y) (floorF y) (part-unit y) (part-add y))
+  lin-same {x} {y} h = lin-eval x (partF y) (floorF y) (part-unit y) (h ⨟ part-add y) ⨟ back
+      (lin-eval y (partF y) (floorF y) (part-unit y) (part-add y))
 
   pub lin-whole : (k : ℤ) → lin a (whole k) ≈ a k
   lin-whole k = lin-eval (whole k) (frac 0 1) k unit-zero (back (add-zero (whole k))) ⨟ mix-zero (a k) (a (sucℤ k))
@@ -76,7 +92,10 @@ module _ (a : ℤ → Fraction) where
             let b = eq-at D D0 J (at-add K (at-one D)) (whole-next k) in
             let c = le-at D D0 K Z (i .0) in
             let e = le-at D D0 Z J (i .1) in
-            lin-eval z (z -F whole k) k (at-le D D0 (at-zero D) (at-sub Z K) (omega arith), at-le D D0 (at-sub Z K) (at-one D) (omega arith)) (at-eq D D0 Z (at-add K (at-sub Z K)) (omega arith)))
+            lin-eval z (z -F whole k) k (
+              at-le D D0 (at-zero D) (at-sub Z K) (omega arith),
+              at-le D D0 (at-sub Z K) (at-one D) (omega arith),
+            ) (at-eq D D0 Z (at-add K (at-sub Z K)) (omega arith)))
 
         moved : Within (x -F whole k) (y -F whole k) d
         moved =
@@ -95,10 +114,13 @@ module _ (a : ℤ → Fraction) where
           let h = le-at D D0 X B (i .1) in
           let j = le-at D D0 B Y f in
           let n = eq-at D D0 B (at-add K (at-one D)) (whole-next k) in
-          within-more (lin a x) (lin a y) ((b -F x) +F (y -F b)) d (at-le D D0 (at-add (at-sub B X) (at-sub Y B)) E (omega arith))
+          within-more (lin a x) (lin a y) ((b -F x) +F (y -F b)) d
+          (at-le D D0 (at-add (at-sub B X) (at-sub Y B)) E (omega arith))
           (within-trans (lin a x) (lin a b) (lin a y) (b -F x) (y -F b)
-          (cell k x b (b -F x) i (at-le D D0 K B (omega arith), le-refl b b) (at-within D D0 X B (at-sub B X) (omega arith) (omega arith)))
-          (cell (sucℤ k) b y (y -F b) (le-refl b b, le-trans b y (whole (sucℤ (sucℤ k))) f g) (f, g) (at-within D D0 B Y (at-sub Y B) (omega arith) (omega arith)))))
+          (cell k x b (b -F x) i (at-le D D0 K B (omega arith), le-refl b b)
+          (at-within D D0 X B (at-sub B X) (omega arith) (omega arith)))
+          (cell (sucℤ k) b y (y -F b) (le-refl b b, le-trans b y (whole (sucℤ (sucℤ k))) f g) (f, g)
+          (at-within D D0 B Y (at-sub Y B) (omega arith) (omega arith)))))
 
       far : whole (sucℤ (sucℤ k)) <F y → Within (lin a x) (lin a y) d
       far g =
@@ -107,7 +129,8 @@ module _ (a : ℤ → Fraction) where
           let h = le-at D D0 X B (i .1) in
           let j = lt-at D D0 C Y g in
           let n = eq-at D D0 C (at-add B (at-one D)) (whole-next (sucℤ k)) in
-          within-more (lin a x) (lin a y) (frac 1 1) d (at-le D D0 (at-one D) E (omega arith)) (within-unit (lin a x) (lin a y) (lin-unit a x u) (lin-unit a y u)))
+          within-more (lin a x) (lin a y) (frac 1 1) d (at-le D D0 (at-one D) E (omega arith))
+          (within-unit (lin a x) (lin a y) (lin-unit a x u) (lin-unit a y u)))
 
       up : Within (lin a x) (lin a y) d
       up = ⊎-elim

@@ -27,16 +27,20 @@ two-parts lo mid hi h g = omega arith
 
 -- ---- `turns`, with the step as a variable
 module _ {A : Type 0} (step : ℕ → A → A) where
-  turns-keep : (P : A → Type 0) (lo n : ℕ) (x : A) → ((j : ℕ) (y : A) → lo ≤ j → j < lo + n → P y → P (step j y)) → P x → P (turns step lo n x)
+  turns-keep : (P : A → Type 0) (lo n : ℕ) (x : A) → ((j : ℕ) (y : A) → lo ≤ j → j < lo + n → P y → P (step j y)) → P x
+      → P (turns step lo n x)
   unfolding turns
   turns-keep P lo zero x h p = p
-  turns-keep P lo (suc n) x h p = h (lo + n) (turns step lo n x) (omega arith) (omega arith) (turns-keep P lo n x (λ j y a b. h j y a (omega arith)) p)
+  turns-keep P lo (suc n) x h p =
+      h (lo + n) (turns step lo n x) (omega arith) (omega arith)
+      (turns-keep P lo n x (λ j y a b. h j y a (omega arith)) p)
 
   turns-stay : (lo m n : ℕ) (x y : A) → ((j : ℕ) → step j y ≡ y) → turns step lo m x ≡ y → turns step lo (m + n) x ≡ y
   unfolding turns
   turns-stay lo m zero x y h e = ap (λ (k : ℕ). turns step lo k x) (add-zero m) ∙ e
   turns-stay lo m (suc n) x y h e =
-      ap (λ (k : ℕ). turns step lo k x) (add-suc m n) ∙ ap (step (lo + (m + n))) (turns-stay lo m n x y h e) ∙ h (lo + (m + n))
+      ap (λ (k : ℕ). turns step lo k x) (add-suc m n) ∙ ap (step (lo + (m + n))) (turns-stay lo m n x y h e)
+      ∙ h (lo + (m + n))
 
   turns-join : (lo m n : ℕ) (x : A) → turns step lo (m + n) x ≡ turns step (lo + m) n (turns step lo m x)
   unfolding turns
@@ -46,11 +50,13 @@ module _ {A : Type 0} (step : ℕ → A → A) where
       ∙ ap (λ (k : ℕ). step k (turns step lo (m + n) x)) (sym (add-assoc lo m n))
       ∙ ap (step (lo + m + n)) (turns-join lo m n x)
 
-turns-same : {A : Type 0} (f g : ℕ → A → A) (lo n : ℕ) (x : A) → ((j : ℕ) (y : A) → lo ≤ j → j < lo + n → f j y ≡ g j y) → turns f lo n x ≡ turns g lo n x
+turns-same : {A : Type 0} (f g : ℕ → A → A) (lo n : ℕ) (x : A)
+    → ((j : ℕ) (y : A) → lo ≤ j → j < lo + n → f j y ≡ g j y) → turns f lo n x ≡ turns g lo n x
 unfolding turns
 turns-same f g lo zero x h = refl
 turns-same f g lo (suc n) x h =
-    h (lo + n) (turns f lo n x) (omega arith) (omega arith) ∙ ap (g (lo + n)) (turns-same f g lo n x (λ j y a b. h j y a (omega arith)))
+    h (lo + n) (turns f lo n x) (omega arith) (omega arith)
+    ∙ ap (g (lo + n)) (turns-same f g lo n x (λ j y a b. h j y a (omega arith)))
 
 -- ---- counting up: the invariant at k is `y ≡ upTo step lo k x`
 module _ {A : Type 0} (step : ℕ → A → A) (lo : ℕ) (x : A) where
@@ -69,13 +75,16 @@ module _ {A : Type 0} (step : ℕ → A → A) (lo : ℕ) (x : A) where
   upTo-last k n a b e = e ∙ ap (λ (j : ℕ). upTo step lo j x) (le-antisymm a b)
 
   -- an early way out: from y on no turn changes anything
-  pub upTo-stay : (k n : ℕ) {y : A} → lo ≤ k → k ≤ n → ((j : ℕ) → step j y ≡ y) → y ≡ upTo step lo k x → y ≡ upTo step lo n x
+  pub upTo-stay : (k n : ℕ) {y : A} → lo ≤ k → k ≤ n → ((j : ℕ) → step j y ≡ y) → y ≡ upTo step lo k x
+      → y ≡ upTo step lo n x
   unfolding upTo
   upTo-stay k n {y} a b h e =
-      sym (turns-stay step lo (k - lo) (n - k) x y h (sym e)) ∙ ap (λ (j : ℕ). turns step lo j x) (sym (two-parts lo k n a b))
+      sym (turns-stay step lo (k - lo) (n - k) x y h (sym e))
+      ∙ ap (λ (j : ℕ). turns step lo j x) (sym (two-parts lo k n a b))
 
   -- what each turn keeps, the loop keeps
-  pub upTo-keep : (P : A → Type 0) (hi : ℕ) → lo ≤ hi → ((j : ℕ) (y : A) → lo ≤ j → j < hi → P y → P (step j y)) → P x → P (upTo step lo hi x)
+  pub upTo-keep : (P : A → Type 0) (hi : ℕ) → lo ≤ hi → ((j : ℕ) (y : A) → lo ≤ j → j < hi → P y → P (step j y)) → P x
+      → P (upTo step lo hi x)
   unfolding upTo
   upTo-keep P hi le h p = turns-keep step P lo (hi - lo) x (λ j y a b. h j y a (omega arith)) p
 
@@ -88,7 +97,8 @@ module _ {A : Type 0} (step : ℕ → A → A) (lo : ℕ) (x : A) where
       ∙ ap (λ (j : ℕ). turns step j (hi - mid) (turns step lo (mid - lo) x)) (back lo mid a)
 
 -- two steps that agree on the range
-pub upTo-same : {A : Type 0} (f g : ℕ → A → A) (lo hi : ℕ) (x : A) → lo ≤ hi → ((j : ℕ) (y : A) → lo ≤ j → j < hi → f j y ≡ g j y) → upTo f lo hi x ≡ upTo g lo hi x
+pub upTo-same : {A : Type 0} (f g : ℕ → A → A) (lo hi : ℕ) (x : A) → lo ≤ hi
+    → ((j : ℕ) (y : A) → lo ≤ j → j < hi → f j y ≡ g j y) → upTo f lo hi x ≡ upTo g lo hi x
 unfolding upTo
 upTo-same f g lo hi x le h = turns-same f g lo (hi - lo) x (λ j y a b. h j y a (omega arith))
 
@@ -109,6 +119,9 @@ module _ {A : Type 0} (step : ℕ → A → A) (hi : ℕ) (x : A) where
   pub downTo-last : (k n : ℕ) {y : A} → k ≤ n → n ≤ k → y ≡ downTo step k hi x → y ≡ downTo step n hi x
   downTo-last k n a b e = e ∙ ap (λ (j : ℕ). downTo step j hi x) (le-antisymm a b)
 
-  pub downTo-keep : (P : A → Type 0) (lo : ℕ) → lo ≤ hi → ((j : ℕ) (y : A) → lo ≤ j → j < hi → P y → P (step j y)) → P x → P (downTo step lo hi x)
+  pub downTo-keep : (P : A → Type 0) (lo : ℕ) → lo ≤ hi → ((j : ℕ) (y : A) → lo ≤ j → j < hi → P y → P (step j y))
+      → P x → P (downTo step lo hi x)
   unfolding downTo turns
-  downTo-keep P lo le h p = turns-keep (λ (n : ℕ). step (hi - 1 - n)) P 0 (hi - lo) x (λ j y a b. h (hi - 1 - j) y (omega arith) (omega arith)) p
+  downTo-keep P lo le h p =
+      turns-keep (λ (n : ℕ). step (hi - 1 - n)) P 0 (hi - lo) x
+      (λ j y a b. h (hi - 1 - j) y (omega arith) (omega arith)) p

@@ -1,6 +1,7 @@
--- Sizes: a fraction at a scale with one part 0 is a sign and a size, and then |x| ≤ b and, for one sign, |x - y| ≤ e are comparisons of sizes.
--- Provides: `at-same` (equal fractions stand alike at a scale); `Sized`, `sized-signed`, `sized-same`, `sized-more`, `sized-mul`; `size-le`, `le-size`; `abs-sized`, `abs-alike`;
--- `sized-within`, `near-sized`. Assumes nothing.
+-- Sizes: a fraction at a scale with one part 0 is a sign and a size, and then |x| ≤ b and, for one sign, |x - y| ≤ e
+-- are comparisons of sizes. Provides: `at-same` (equal fractions stand alike at a scale); `Sized`, `sized-signed`,
+-- `sized-same`, `sized-more`, `sized-mul`; `size-le`, `le-size`; `abs-sized`, `abs-alike`; `sized-within`,
+-- `near-sized`. Assumes nothing.
 use mathlib.Core.Path.{_≡_, sym, ap, subst}
 use mathlib.Core.List.{[], _∷_}
 use mathlib.Core.Logic.{⊎-elim}
@@ -22,7 +23,8 @@ at-same {D} {x} {y} {p} {n} e X = record {
       (go (x .plus) (x .minus) (over x) (y .plus) (y .minus) (over y) D p n (e .eq) (X .at));
 }
   where
-    go : (a b d c f e D p n : ℕ) → a * e + f * d ≡ c * d + b * e → a * D + n * d ≡ p * d + b * D → (c * D + n * e) * d ≡ (p * e + f * D) * d
+    go : (a b d c f e D p n : ℕ) → a * e + f * d ≡ c * d + b * e → a * D + n * d ≡ p * d + b * D
+        → (c * D + n * e) * d ≡ (p * e + f * D) * d
     go a b d c f e D p n h k =
         let h' : (a * e + f * d) * D ≡ (c * d + b * e) * D = ap (λ (z : ℕ). z * D) h in
         let k' : (a * D + n * d) * e ≡ (p * d + b * D) * e = ap (λ (z : ℕ). z * e) k in
@@ -49,7 +51,8 @@ sized-more false D a k {x} X = subst (λ (z : ℕ). At (D * k) x (a * k) z) (non
     none : (k : ℕ) → 0 * k ≡ 0
     none k = omega arith
 
-pub sized-mul : (D E : ℕ) (s : Bool) (a : ℕ) (t : Bool) (b : ℕ) {x y : Fraction} → Sized D x s a → Sized E y t b → Sized (D * E) (x *F y) (unlike s t) (a * b)
+pub sized-mul : (D E : ℕ) (s : Bool) (a : ℕ) (t : Bool) (b : ℕ) {x y : Fraction} → Sized D x s a → Sized E y t b
+    → Sized (D * E) (x *F y) (unlike s t) (a * b)
 sized-mul D E s a t b {x} {y} X Y = go s t X Y
   where
     here : (p n q m : ℕ) → p ≡ q → n ≡ m → At (D * E) (x *F y) p n → At (D * E) (x *F y) q m
@@ -71,10 +74,13 @@ module _ (D : ℕ) (D0 : 0 < D) {x y : Fraction} {a b : ℕ} (X : At D x a 0) (Y
 
 -- ---- |x|
 pub abs-sized : (D : ℕ) → 0 < D → (s : Bool) (a : ℕ) {x : Fraction} → Sized D x s a → At D (absF x) a 0
-abs-sized D D0 s a {x} X = ⊎-elim (λ (h : At D (absF x) (cond s 0 a) (cond s a 0) × (cond s a 0 ≤ cond s 0 a)). plus s (h .0) (h .1)) (λ (h : At D (absF x) (cond s a 0) (cond s 0 a) × (cond s 0 a ≤ cond s a 0)). minus s (h .0) (h .1)) (at-abs x X)
+abs-sized D D0 s a {x} X =
+    ⊎-elim (λ (h : At D (absF x) (cond s 0 a) (cond s a 0) × (cond s a 0 ≤ cond s 0 a)). plus s (h .0) (h .1))
+    (λ (h : At D (absF x) (cond s a 0) (cond s 0 a) × (cond s 0 a ≤ cond s a 0)). minus s (h .0) (h .1)) (at-abs x X)
   where
     zero-here : {x : Fraction} → a ≤ 0 → At D x 0 a → At D x a 0
-    zero-here {x} h X = let z : a ≡ 0 = omega arith in subst (λ (w : ℕ). At D x w 0) (sym z) (subst (λ (w : ℕ). At D x 0 w) z X)
+    zero-here {x} h X = let z : a ≡ 0 = omega arith in
+        subst (λ (w : ℕ). At D x w 0) (sym z) (subst (λ (w : ℕ). At D x 0 w) z X)
 
     plus : (s : Bool) → At D (absF x) (cond s 0 a) (cond s a 0) → cond s a 0 ≤ cond s 0 a → At D (absF x) a 0
     plus true X h = zero-here h X
@@ -87,16 +93,21 @@ abs-sized D D0 s a {x} X = ⊎-elim (λ (h : At D (absF x) (cond s 0 a) (cond s 
 pub abs-alike : (x y : Fraction) → x ≈ y → absF x ≤F absF y
 abs-alike x y e =
     common (x ∷ absF y ∷ [])
-    (λ D D0 ((_, _, X), ((_, _, A), _)). let k = abs-at D D0 (at-same e X) A (le-refl (absF y) (absF y)) in at-abs-le D D0 X A (k .0) (k .1))
+    (λ D D0 ((_, _, X), ((_, _, A), _)). let k = abs-at D D0 (at-same e X) A (le-refl (absF y) (absF y)) in
+    at-abs-le D D0 X A (k .0) (k .1))
 
 -- ---- |x - y| ≤ e, for two of one sign
-pub sized-within : (D : ℕ) → 0 < D → (s : Bool) {x y e : Fraction} (a b r : ℕ) → Sized D x s a → Sized D y s b → At D e r 0 → a ≤ b + r → b ≤ a + r → Within x y e
+pub sized-within : (D : ℕ) → 0 < D → (s : Bool) {x y e : Fraction} (a b r : ℕ) → Sized D x s a → Sized D y s b
+    → At D e r 0 → a ≤ b + r → b ≤ a + r → Within x y e
 sized-within D D0 true a b r X Y E h k = at-within D D0 X Y E (omega arith) (omega arith)
 sized-within D D0 false a b r X Y E h k = at-within D D0 X Y E (omega arith) (omega arith)
 
 -- x is g / L and y is a / c, the error r / (L c E)
-pub near-sized : (s : Bool) (L g c a E r : ℕ) {x y e : Fraction} → 0 < L → 0 < c → 0 < E → Sized L x s g → Sized c y s a → At (L * c * E) e r 0
+pub near-sized : (s : Bool) (L g c a E r : ℕ) {x y e : Fraction} → 0 < L → 0 < c → 0 < E → Sized L x s g
+    → Sized c y s a → At (L * c * E) e r 0
     → g * c * E ≤ a * L * E + r → a * L * E ≤ g * c * E + r → Within x y e
 near-sized s L g c a E r {x} {y} L0 C E0 X Y e h k =
-    sized-within (L * c * E) (mul-pos (mul-pos L0 C) E0) s (g * c * E) (a * L * E) r (sized-more s (L * c) (g * c) E (sized-more s L g c X))
-    (sized-more s (L * c) (a * L) E (subst (λ (z : ℕ). Sized z y s (a * L)) (mul-comm c L) (sized-more s c a L Y))) e h k
+    sized-within (L * c * E) (mul-pos (mul-pos L0 C) E0) s (g * c * E) (a * L * E) r
+    (sized-more s (L * c) (g * c) E (sized-more s L g c X))
+    (sized-more s (L * c) (a * L) E (subst (λ (z : ℕ). Sized z y s (a * L)) (mul-comm c L) (sized-more s c a L Y))) e h
+    k

@@ -1,6 +1,7 @@
--- The mix (1 - t) a + t b of two values: it is a + t (b - a), and it is monotone, so it lies where a and b lie and moves no further than they do;
--- as t moves it moves by at most as much, where a and b are from 0 to 1.
--- Provides: `mix-same`, `mix-line`, `mix-fixed`, `mix-zero`, `mix-one`, `mix-le`, `mix-unit`, `mix-within`, `mix-near`, `mix-slope`. Assumes nothing.
+-- The mix (1 - t) a + t b of two values: it is a + t (b - a), and it is monotone, so it lies where a and b lie and
+-- moves no further than they do; as t moves it moves by at most as much, where a and b are from 0 to 1. Provides:
+-- `mix-same`, `mix-line`, `mix-fixed`, `mix-zero`, `mix-one`, `mix-le`, `mix-unit`, `mix-within`, `mix-near`,
+-- `mix-slope`. Assumes nothing.
 use mathlib.Core.List.{[], _∷_}
 use Prim.Native.Nat.{_*_}
 use native.Mathlib.Nat.{mul-pos}
@@ -9,13 +10,28 @@ use Rattle.exact.specs.Fraction.{Fraction, frac, _≤F_, _≈_, _+F_, _-
 use Rattle.exact.specs.Surface.{mix}
 use Rattle.exact.proofs.Scale.{at-eq, at-more, at-add, at-sub, at-mul, common}
 use Rattle.exact.proofs.Near.{le-refl, add-same, add-mono, within-same, within-add}
-use Rattle.exact.proofs.Products.{eq-refl, _⨟_, back, at-zero, at-one, mul-same, sub-same, mul-one, add-zero, add-comm, le-same, mul-le, unit-rest}
+use Rattle.exact.proofs.Products.{
+  eq-refl,
+  _⨟_,
+  back,
+  at-zero,
+  at-one,
+  mul-same,
+  sub-same,
+  mul-one,
+  add-zero,
+  add-comm,
+  le-same,
+  mul-le,
+  unit-rest,
+}
 use Rattle.exact.proofs.NearProducts.{within-like, within-unit, within-mul-by, within-scale}
 
 pub mix-same : {t t' a a' b b' : Fraction} → t ≈ t' → a ≈ a' → b ≈ b' → mix t a b ≈ mix t' a' b'
 unfolding mix
 mix-same {t} {t'} {a} {a'} {b} {b'} h k l =
-    add-same ((frac 1 1 -F t) *F a) ((frac 1 1 -F t') *F a') (t *F b) (t' *F b') (mul-same (sub-same (eq-refl (frac 1 1)) h) k) (mul-same h l)
+    add-same ((frac 1 1 -F t) *F a) ((frac 1 1 -F t') *F a') (t *F b) (t' *F b')
+    (mul-same (sub-same (eq-refl (frac 1 1)) h) k) (mul-same h l)
 
 module _ (t a b : Fraction) where
   pub mix-line : mix t a b ≈ a +F t *F (b -F a)
@@ -23,7 +39,8 @@ module _ (t a b : Fraction) where
   mix-line =
       common (t ∷ a ∷ b ∷ [])
       (λ D D0 ((_, _, T), ((_, _, A), ((_, _, B), _))).
-      at-eq (D * D) (mul-pos D0 D0) (at-add (at-mul (at-sub (at-one D) T) A) (at-mul T B)) (at-add (at-more D D A) (at-mul T (at-sub B A))) (omega arith))
+      at-eq (D * D) (mul-pos D0 D0) (at-add (at-mul (at-sub (at-one D) T) A) (at-mul T B))
+      (at-add (at-more D D A) (at-mul T (at-sub B A))) (omega arith))
 
 pub mix-fixed : (t a : Fraction) → mix t a a ≈ a
 unfolding mix
@@ -38,21 +55,24 @@ module _ (a b : Fraction) where
   mix-zero =
       common (a ∷ b ∷ [])
       (λ D D0 ((_, _, A), ((_, _, B), _)).
-      at-eq (D * D) (mul-pos D0 D0) (at-add (at-mul (at-sub (at-one D) (at-zero D)) A) (at-mul (at-zero D) B)) (at-more D D A) (omega arith))
+      at-eq (D * D) (mul-pos D0 D0) (at-add (at-mul (at-sub (at-one D) (at-zero D)) A) (at-mul (at-zero D) B))
+      (at-more D D A) (omega arith))
 
   pub mix-one : mix (frac 1 1) a b ≈ b
   unfolding mix
   mix-one =
       common (a ∷ b ∷ [])
       (λ D D0 ((_, _, A), ((_, _, B), _)).
-      at-eq (D * D) (mul-pos D0 D0) (at-add (at-mul (at-sub (at-one D) (at-one D)) A) (at-mul (at-one D) B)) (at-more D D B) (omega arith))
+      at-eq (D * D) (mul-pos D0 D0) (at-add (at-mul (at-sub (at-one D) (at-one D)) A) (at-mul (at-one D) B))
+      (at-more D D B) (omega arith))
 
 -- ---- at one t from 0 to 1
 module _ (t : Fraction) (u : Unit01 t) where
   pub mix-le : {a a' b b' : Fraction} → a ≤F a' → b ≤F b' → mix t a b ≤F mix t a' b'
   unfolding mix
   mix-le {a} {a'} {b} {b'} h k =
-      add-mono ((frac 1 1 -F t) *F a) ((frac 1 1 -F t) *F a') (t *F b) (t *F b') (mul-le (unit-rest u .0) h) (mul-le (u .0) k)
+      add-mono ((frac 1 1 -F t) *F a) ((frac 1 1 -F t) *F a') (t *F b) (t *F b') (mul-le (unit-rest u .0) h)
+      (mul-le (u .0) k)
 
   pub mix-unit : {a b : Fraction} → Unit01 a → Unit01 b → Unit01 (mix t a b)
   mix-unit {a} {b} h k = (
@@ -69,12 +89,14 @@ module _ (t : Fraction) (u : Unit01 t) where
         (within-scale a a' e (frac 1 1 -F t) (unit-rest u .0) h) (within-scale b b' f t (u .0) k)
 
   pub mix-near : (a a' b b' e : Fraction) → Within a a' e → Within b b' e → Within (mix t a b) (mix t a' b') e
-  mix-near a a' b b' e h k = within-like (eq-refl (mix t a b)) (eq-refl (mix t a' b')) (mix-fixed t e) (mix-within a a' b b' e e h k)
+  mix-near a a' b b' e h k =
+      within-like (eq-refl (mix t a b)) (eq-refl (mix t a' b')) (mix-fixed t e) (mix-within a a' b b' e e h k)
 
 -- ---- as t moves
 pub mix-slope : (t t' a b d : Fraction) → Unit01 a → Unit01 b → Within t t' d → Within (mix t a b) (mix t' a b) d
 mix-slope t t' a b d h k w =
-    within-like (back (mix-line t a b)) (back (mix-line t' a b)) (add-comm (frac 0 1) (d *F frac 1 1) ⨟ add-zero (d *F frac 1 1) ⨟ mul-one d)
+    within-like (back (mix-line t a b)) (back (mix-line t' a b))
+    (add-comm (frac 0 1) (d *F frac 1 1) ⨟ add-zero (d *F frac 1 1) ⨟ mul-one d)
     (within-add a a (t *F (b -F a)) (t' *F (b -F a)) (frac 0 1) (d *F frac 1 1)
     (within-same a a (frac 0 1) (eq-refl a) (le-refl (frac 0 1) (frac 0 1)))
     (within-mul-by t t' d (b -F a) (frac 1 1) gap w))

@@ -1,5 +1,6 @@
--- The NaN, and the zero of whose quotient a program makes it: x differs from itself where it is a NaN and nowhere else. By the cases of a float.
--- Provides: `is-nan`, `nan-test`, `number-test` (the test x != x); `zero-bits` (the literal 0), `zero-by-zero`. Assumes nothing.
+-- The NaN, and the zero of whose quotient a program makes it: x differs from itself where it is a NaN and nowhere else.
+-- By the cases of a float. Provides: `is-nan`, `nan-test`, `number-test` (the test x != x); `zero-bits` (the literal
+-- 0), `zero-by-zero`. Assumes nothing.
 use mathlib.Core.Path.{_≡_, refl, sym, ap, _∙_, subst}
 use mathlib.Core.Bool.{Bool, true, false, not, true≢false, false≢true}
 use lib.IntN.{pos}

@@ -1,6 +1,7 @@
 -- Distances between fractions: |x - y| ≤ e is two linear facts at a common scale, so each law here is one omega.
--- Provides: `within-at`, `at-within` (the working form, both ways); `within-open`, `within-close` (as two inequalities of fractions);
--- `within-same`, `within-sym`, `within-trans`, `within-more`, `within-add`, `within-sub`, and the order's own laws. Assumes nothing.
+-- Provides: `within-at`, `at-within` (the working form, both ways); `within-open`, `within-close` (as two inequalities
+-- of fractions); `within-same`, `within-sym`, `within-trans`, `within-more`, `within-add`, `within-sub`, and the
+-- order's own laws. Assumes nothing.
 use mathlib.Core.Path.{_≡_, refl, sym, ap, _∙_, subst}
 use mathlib.Core.List.{List, [], _∷_}
 use mathlib.Core.Logic.{_⊎_, inl, inr, ⊎-elim}
@@ -9,8 +10,38 @@ use Prim.Native.Nat.{ℕ, suc, _+_, _-_, _*_, _≤_, _<_}
 use native.Mathlib.Nat.{le-of-mul-le-mul-right, mul-le-mul-right, le-of-lt, zero-lt-suc}
 use native.Mathlib.Omega.{arith}
 use lib.Dec.{T, leb, leb→le, nleb→lt}
-use Rattle.exact.specs.Fraction.{Fraction, over, ratio, frac, _≤F_, _<F_, _≈_, negF, _+F_, _-F_, _*F_, absF, distance, Within}
-use Rattle.exact.proofs.Scale.{At, at-le, le-at, at-lt, lt-at, at-eq, eq-at, at-ratio, at-neg, at-add, at-sub, over-pos, AllAt, common}
+use Rattle.exact.specs.Fraction.{
+  Fraction,
+  over,
+  ratio,
+  frac,
+  _≤F_,
+  _<F_,
+  _≈_,
+  negF,
+  _+F_,
+  _-F_,
+  _*F_,
+  absF,
+  distance,
+  Within,
+}
+use Rattle.exact.proofs.Scale.{
+  At,
+  at-le,
+  le-at,
+  at-lt,
+  lt-at,
+  at-eq,
+  eq-at,
+  at-ratio,
+  at-neg,
+  at-add,
+  at-sub,
+  over-pos,
+  AllAt,
+  common,
+}
 
 -- ---- the absolute value is x or -x
 same : (a b d D p n : ℕ) → b ≤ a → a * D + n * d ≡ p * d + b * D → (a - b) * D + n * d ≡ p * d + 0 * D
@@ -40,26 +71,37 @@ at-abs {D} x {p} {n} X = go (leb (x .minus) (x .plus)) (leb→le (x .minus) (x .
   where
     go : (t : Bool) → (T t → x .minus ≤ x .plus) → (T (not t) → x .plus < x .minus)
         → AbsAt D (record { plus = cond t (x .plus - x .minus) (x .minus - x .plus); minus = 0; under = x .under }) p n
-    go true a b = inl (record { at = same (x .plus) (x .minus) (over x) D p n (a tt) (X .at) }, below (x .plus) (x .minus) (over x) D p n (over-pos x) (a tt) (X .at))
+    go true a b = inl (
+      record { at = same (x .plus) (x .minus) (over x) D p n (a tt) (X .at) },
+      below (x .plus) (x .minus) (over x) D p n (over-pos x) (a tt) (X .at),
+    )
     go false a b =
         let e = turn (x .plus) (x .minus) (over x) D p n (X .at) in
-        inr (record { at = same (x .minus) (x .plus) (over x) D n p (le-of-lt (b tt)) e }, below (x .minus) (x .plus) (over x) D n p (over-pos x) (le-of-lt (b tt)) e)
+        inr (
+          record { at = same (x .minus) (x .plus) (over x) D n p (le-of-lt (b tt)) e },
+          below (x .minus) (x .plus) (over x) D n p (over-pos x) (le-of-lt (b tt)) e,
+        )
 
 -- ---- the working form of `Within`, both ways
-module _ (D : ℕ) (D0 : 0 < D) {x y e : Fraction} {p n q m r s : ℕ} (X : At D x p n) (Y : At D y q m) (E : At D e r s) where
-  pub within-at : Within x y e → (p + m + s ≤ q + n + r) × (q + n + s ≤ p + m + r)
-  unfolding distance
-  within-at h = ⊎-elim
-      (λ (a : At D (absF (x -F y)) (p + m) (n + q) × (n + q ≤ p + m)). let k = le-at D D0 (a .0) E h in let g = a .1 in (omega arith, omega arith))
-      (λ (a : At D (absF (x -F y)) (n + q) (p + m) × (p + m ≤ n + q)). let k = le-at D D0 (a .0) E h in let g = a .1 in (omega arith, omega arith))
-      (at-abs (x -F y) (at-sub X Y))
+module _ (D : ℕ) (D0 : 0 < D) {x y e : Fraction} {p n q m r s : ℕ} (X : At D x p n) (Y : At D y q m) (E : At D e r s)
+  where
+    pub within-at : Within x y e → (p + m + s ≤ q + n + r) × (q + n + s ≤ p + m + r)
+    unfolding distance
+    within-at h = ⊎-elim
+        (λ (a : At D (absF (x -F y)) (p + m) (n + q) × (n + q ≤ p + m)). let k = le-at D D0 (a .0) E h in
+        let g = a .1 in
+        (omega arith, omega arith))
+        (λ (a : At D (absF (x -F y)) (n + q) (p + m) × (p + m ≤ n + q)). let k = le-at D D0 (a .0) E h in
+        let g = a .1 in
+        (omega arith, omega arith))
+        (at-abs (x -F y) (at-sub X Y))
 
-  pub at-within : p + m + s ≤ q + n + r → q + n + s ≤ p + m + r → Within x y e
-  unfolding distance
-  at-within h k = ⊎-elim
-      (λ (a : At D (absF (x -F y)) (p + m) (n + q) × (n + q ≤ p + m)). at-le D D0 (a .0) E (omega arith))
-      (λ (a : At D (absF (x -F y)) (n + q) (p + m) × (p + m ≤ n + q)). at-le D D0 (a .0) E (omega arith))
-      (at-abs (x -F y) (at-sub X Y))
+    pub at-within : p + m + s ≤ q + n + r → q + n + s ≤ p + m + r → Within x y e
+    unfolding distance
+    at-within h k = ⊎-elim
+        (λ (a : At D (absF (x -F y)) (p + m) (n + q) × (n + q ≤ p + m)). at-le D D0 (a .0) E (omega arith))
+        (λ (a : At D (absF (x -F y)) (n + q) (p + m) × (p + m ≤ n + q)). at-le D D0 (a .0) E (omega arith))
+        (at-abs (x -F y) (at-sub X Y))
 
 -- ---- the order
 module _ (x y : Fraction) where
@@ -77,28 +119,34 @@ module _ (x y : Fraction) where
           go false a b = inr (at-le D D0 Y X (le-of-lt (b tt)))
 
   pub lt-le : x <F y → x ≤F y
-  lt-le h = common (x ∷ y ∷ []) (λ D D0 A. at-le D D0 (A .0 .2) (A .1 .0 .2) (let a = lt-at D D0 (A .0 .2) (A .1 .0 .2) h in omega arith))
+  lt-le h = common (x ∷ y ∷ [])
+      (λ D D0 A. at-le D D0 (A .0 .2) (A .1 .0 .2) (let a = lt-at D D0 (A .0 .2) (A .1 .0 .2) h in omega arith))
 
   pub eq-le : x ≈ y → x ≤F y
-  eq-le h = common (x ∷ y ∷ []) (λ D D0 A. at-le D D0 (A .0 .2) (A .1 .0 .2) (let a = eq-at D D0 (A .0 .2) (A .1 .0 .2) h in omega arith))
+  eq-le h = common (x ∷ y ∷ [])
+      (λ D D0 A. at-le D D0 (A .0 .2) (A .1 .0 .2) (let a = eq-at D D0 (A .0 .2) (A .1 .0 .2) h in omega arith))
 
   pub eq-sym : x ≈ y → y ≈ x
-  eq-sym h = common (x ∷ y ∷ []) (λ D D0 A. at-eq D D0 (A .1 .0 .2) (A .0 .2) (let a = eq-at D D0 (A .0 .2) (A .1 .0 .2) h in omega arith))
+  eq-sym h = common (x ∷ y ∷ [])
+      (λ D D0 A. at-eq D D0 (A .1 .0 .2) (A .0 .2) (let a = eq-at D D0 (A .0 .2) (A .1 .0 .2) h in omega arith))
 
   pub le-antisym : x ≤F y → y ≤F x → x ≈ y
   le-antisym h k =
-      common (x ∷ y ∷ []) (λ D D0 A. at-eq D D0 (A .0 .2) (A .1 .0 .2) (let a = le-at D D0 (A .0 .2) (A .1 .0 .2) h in let b = le-at D D0 (A .1 .0 .2) (A .0 .2) k in omega arith))
+      common (x ∷ y ∷ []) (λ D D0 A. at-eq D D0 (A .0 .2) (A .1 .0 .2) (let a = le-at D D0 (A .0 .2) (A .1 .0 .2) h in
+      let b = le-at D D0 (A .1 .0 .2) (A .0 .2) k in omega arith))
 
 module _ (x y z : Fraction) where
   pub le-trans : x ≤F y → y ≤F z → x ≤F z
   le-trans h k =
       common (x ∷ y ∷ z ∷ [])
-      (λ D D0 A. at-le D D0 (A .0 .2) (A .1 .1 .0 .2) (let a = le-at D D0 (A .0 .2) (A .1 .0 .2) h in let b = le-at D D0 (A .1 .0 .2) (A .1 .1 .0 .2) k in omega arith))
+      (λ D D0 A. at-le D D0 (A .0 .2) (A .1 .1 .0 .2) (let a = le-at D D0 (A .0 .2) (A .1 .0 .2) h in
+      let b = le-at D D0 (A .1 .0 .2) (A .1 .1 .0 .2) k in omega arith))
 
   pub eq-trans : x ≈ y → y ≈ z → x ≈ z
   eq-trans h k =
       common (x ∷ y ∷ z ∷ [])
-      (λ D D0 A. at-eq D D0 (A .0 .2) (A .1 .1 .0 .2) (let a = eq-at D D0 (A .0 .2) (A .1 .0 .2) h in let b = eq-at D D0 (A .1 .0 .2) (A .1 .1 .0 .2) k in omega arith))
+      (λ D D0 A. at-eq D D0 (A .0 .2) (A .1 .1 .0 .2) (let a = eq-at D D0 (A .0 .2) (A .1 .0 .2) h in
+      let b = eq-at D D0 (A .1 .0 .2) (A .1 .1 .0 .2) k in omega arith))
 
 -- ---- sums keep the order
 module _ (x x' y y' : Fraction) where
@@ -106,36 +154,45 @@ module _ (x x' y y' : Fraction) where
   add-mono h k =
       common (x ∷ x' ∷ y ∷ y' ∷ [])
       (λ D D0 A. at-le D D0 (at-add (A .0 .2) (A .1 .1 .0 .2)) (at-add (A .1 .0 .2) (A .1 .1 .1 .0 .2))
-      (let a = le-at D D0 (A .0 .2) (A .1 .0 .2) h in let b = le-at D D0 (A .1 .1 .0 .2) (A .1 .1 .1 .0 .2) k in omega arith))
+      (let a = le-at D D0 (A .0 .2) (A .1 .0 .2) h in let b = le-at D D0 (A .1 .1 .0 .2) (A .1 .1 .1 .0 .2) k in
+      omega arith))
 
   pub add-same : x ≈ x' → y ≈ y' → x +F y ≈ x' +F y'
   add-same h k =
       common (x ∷ x' ∷ y ∷ y' ∷ [])
       (λ D D0 A. at-eq D D0 (at-add (A .0 .2) (A .1 .1 .0 .2)) (at-add (A .1 .0 .2) (A .1 .1 .1 .0 .2))
-      (let a = eq-at D D0 (A .0 .2) (A .1 .0 .2) h in let b = eq-at D D0 (A .1 .1 .0 .2) (A .1 .1 .1 .0 .2) k in omega arith))
+      (let a = eq-at D D0 (A .0 .2) (A .1 .0 .2) h in let b = eq-at D D0 (A .1 .1 .0 .2) (A .1 .1 .1 .0 .2) k in
+      omega arith))
 
 -- ---- distances
 module _ (x y e : Fraction) where
   pub within-open : Within x y e → (x ≤F y +F e) × (y ≤F x +F e)
   within-open h = (
-    common (x ∷ y ∷ e ∷ []) (λ D D0 A. at-le D D0 (A .0 .2) (at-add (A .1 .0 .2) (A .1 .1 .0 .2)) (let a = within-at D D0 (A .0 .2) (A .1 .0 .2) (A .1 .1 .0 .2) h in omega arith)),
-    common (x ∷ y ∷ e ∷ []) (λ D D0 A. at-le D D0 (A .1 .0 .2) (at-add (A .0 .2) (A .1 .1 .0 .2)) (let a = within-at D D0 (A .0 .2) (A .1 .0 .2) (A .1 .1 .0 .2) h in omega arith)),
+    common (x ∷ y ∷ e ∷ []) (λ D D0 A. at-le D D0 (A .0 .2) (at-add (A .1 .0 .2) (A .1 .1 .0 .2))
+        (let a = within-at D D0 (A .0 .2) (A .1 .0 .2) (A .1 .1 .0 .2) h in omega arith)),
+    common (x ∷ y ∷ e ∷ []) (λ D D0 A. at-le D D0 (A .1 .0 .2) (at-add (A .0 .2) (A .1 .1 .0 .2))
+        (let a = within-at D D0 (A .0 .2) (A .1 .0 .2) (A .1 .1 .0 .2) h in omega arith)),
   )
 
   pub within-close : x ≤F y +F e → y ≤F x +F e → Within x y e
   within-close h k =
       common (x ∷ y ∷ e ∷ [])
-      (λ D D0 A. let a = le-at D D0 (A .0 .2) (at-add (A .1 .0 .2) (A .1 .1 .0 .2)) h in let b = le-at D D0 (A .1 .0 .2) (at-add (A .0 .2) (A .1 .1 .0 .2)) k in at-within D D0 (A .0 .2) (A .1 .0 .2) (A .1 .1 .0 .2) (omega arith) (omega arith))
+      (λ D D0 A. let a = le-at D D0 (A .0 .2) (at-add (A .1 .0 .2) (A .1 .1 .0 .2)) h in
+      let b = le-at D D0 (A .1 .0 .2) (at-add (A .0 .2) (A .1 .1 .0 .2)) k in
+      at-within D D0 (A .0 .2) (A .1 .0 .2) (A .1 .1 .0 .2) (omega arith) (omega arith))
 
   pub within-sym : Within x y e → Within y x e
   within-sym h =
       common (x ∷ y ∷ e ∷ [])
-      (λ D D0 A. let a = within-at D D0 (A .0 .2) (A .1 .0 .2) (A .1 .1 .0 .2) h in at-within D D0 (A .1 .0 .2) (A .0 .2) (A .1 .1 .0 .2) (a .1) (a .0))
+      (λ D D0 A. let a = within-at D D0 (A .0 .2) (A .1 .0 .2) (A .1 .1 .0 .2) h in
+      at-within D D0 (A .1 .0 .2) (A .0 .2) (A .1 .1 .0 .2) (a .1) (a .0))
 
   pub within-same : x ≈ y → frac 0 1 ≤F e → Within x y e
   within-same h k =
       common (x ∷ y ∷ e ∷ frac 0 1 ∷ [])
-      (λ D D0 A. let a = eq-at D D0 (A .0 .2) (A .1 .0 .2) h in let b = le-at D D0 (A .1 .1 .1 .0 .2) (A .1 .1 .0 .2) k in let z = zero-at D D0 (A .1 .1 .1 .0 .2) in at-within D D0 (A .0 .2) (A .1 .0 .2) (A .1 .1 .0 .2) (omega arith) (omega arith))
+      (λ D D0 A. let a = eq-at D D0 (A .0 .2) (A .1 .0 .2) h in
+      let b = le-at D D0 (A .1 .1 .1 .0 .2) (A .1 .1 .0 .2) k in let z = zero-at D D0 (A .1 .1 .1 .0 .2) in
+      at-within D D0 (A .0 .2) (A .1 .0 .2) (A .1 .1 .0 .2) (omega arith) (omega arith))
     where
       zero-at : (D : ℕ) → 0 < D → {p n : ℕ} → At D (frac 0 1) p n → p ≡ n
       zero-at D D0 {p} {n} Z = let e = Z .at in omega arith
@@ -144,21 +201,32 @@ module _ (x y e f : Fraction) where
   pub within-more : e ≤F f → Within x y e → Within x y f
   within-more k h =
       common (x ∷ y ∷ e ∷ f ∷ [])
-      (λ D D0 A. let a = within-at D D0 (A .0 .2) (A .1 .0 .2) (A .1 .1 .0 .2) h in let b = le-at D D0 (A .1 .1 .0 .2) (A .1 .1 .1 .0 .2) k in at-within D D0 (A .0 .2) (A .1 .0 .2) (A .1 .1 .1 .0 .2) (omega arith) (omega arith))
+      (λ D D0 A. let a = within-at D D0 (A .0 .2) (A .1 .0 .2) (A .1 .1 .0 .2) h in
+      let b = le-at D D0 (A .1 .1 .0 .2) (A .1 .1 .1 .0 .2) k in
+      at-within D D0 (A .0 .2) (A .1 .0 .2) (A .1 .1 .1 .0 .2) (omega arith) (omega arith))
 
 module _ (x y z e f : Fraction) where
   pub within-trans : Within x y e → Within y z f → Within x z (e +F f)
   within-trans h k =
       common (x ∷ y ∷ z ∷ e ∷ f ∷ [])
-      (λ D D0 A. let a = within-at D D0 (A .0 .2) (A .1 .0 .2) (A .1 .1 .1 .0 .2) h in let b = within-at D D0 (A .1 .0 .2) (A .1 .1 .0 .2) (A .1 .1 .1 .1 .0 .2) k in at-within D D0 (A .0 .2) (A .1 .1 .0 .2) (at-add (A .1 .1 .1 .0 .2) (A .1 .1 .1 .1 .0 .2)) (omega arith) (omega arith))
+      (λ D D0 A. let a = within-at D D0 (A .0 .2) (A .1 .0 .2) (A .1 .1 .1 .0 .2) h in
+      let b = within-at D D0 (A .1 .0 .2) (A .1 .1 .0 .2) (A .1 .1 .1 .1 .0 .2) k in
+      at-within D D0 (A .0 .2) (A .1 .1 .0 .2) (at-add (A .1 .1 .1 .0 .2) (A .1 .1 .1 .1 .0 .2)) (omega arith)
+      (omega arith))
 
 module _ (x x' y y' e f : Fraction) where
   pub within-add : Within x x' e → Within y y' f → Within (x +F y) (x' +F y') (e +F f)
   within-add h k =
       common (x ∷ x' ∷ y ∷ y' ∷ e ∷ f ∷ [])
-      (λ D D0 A. let a = within-at D D0 (A .0 .2) (A .1 .0 .2) (A .1 .1 .1 .1 .0 .2) h in let b = within-at D D0 (A .1 .1 .0 .2) (A .1 .1 .1 .0 .2) (A .1 .1 .1 .1 .1 .0 .2) k in at-within D D0 (at-add (A .0 .2) (A .1 .1 .0 .2)) (at-add (A .1 .0 .2) (A .1 .1 .1 .0 .2)) (at-add (A .1 .1 .1 .1 .0 .2) (A .1 .1 .1 .1 .1 .0 .2)) (omega arith) (omega arith))
+      (λ D D0 A. let a = within-at D D0 (A .0 .2) (A .1 .0 .2) (A .1 .1 .1 .1 .0 .2) h in
+      let b = within-at D D0 (A .1 .1 .0 .2) (A .1 .1 .1 .0 .2) (A .1 .1 .1 .1 .1 .0 .2) k in
+      at-within D D0 (at-add (A .0 .2) (A .1 .1 .0 .2)) (at-add (A .1 .0 .2) (A .1 .1 .1 .0 .2))
+      (at-add (A .1 .1 .1 .1 .0 .2) (A .1 .1 .1 .1 .1 .0 .2)) (omega arith) (omega arith))
 
   pub within-sub : Within x x' e → Within y y' f → Within (x -F y) (x' -F y') (e +F f)
   within-sub h k =
       common (x ∷ x' ∷ y ∷ y' ∷ e ∷ f ∷ [])
-      (λ D D0 A. let a = within-at D D0 (A .0 .2) (A .1 .0 .2) (A .1 .1 .1 .1 .0 .2) h in let b = within-at D D0 (A .1 .1 .0 .2) (A .1 .1 .1 .0 .2) (A .1 .1 .1 .1 .1 .0 .2) k in at-within D D0 (at-sub (A .0 .2) (A .1 .1 .0 .2)) (at-sub (A .1 .0 .2) (A .1 .1 .1 .0 .2)) (at-add (A .1 .1 .1 .1 .0 .2) (A .1 .1 .1 .1 .1 .0 .2)) (omega arith) (omega arith))
+      (λ D D0 A. let a = within-at D D0 (A .0 .2) (A .1 .0 .2) (A .1 .1 .1 .1 .0 .2) h in
+      let b = within-at D D0 (A .1 .1 .0 .2) (A .1 .1 .1 .0 .2) (A .1 .1 .1 .1 .1 .0 .2) k in
+      at-within D D0 (at-sub (A .0 .2) (A .1 .1 .0 .2)) (at-sub (A .1 .0 .2) (A .1 .1 .1 .0 .2))
+      (at-add (A .1 .1 .1 .1 .0 .2) (A .1 .1 .1 .1 .1 .0 .2)) (omega arith) (omega arith))

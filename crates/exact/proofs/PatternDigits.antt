@@ -1,9 +1,20 @@
--- The digits and the place that a pattern below the infinity's stands for, as tests and quotients of it: the digits with their leading one, which a
--- field of 0 lacks, and the field less one.
--- Provides: `digitsOf`, `placeOf`, `pattern-units` (the pattern's value is so many units, for both signs). Assumes nothing.
+-- The digits and the place that a pattern below the infinity's stands for, as tests and quotients of it: the digits
+-- with their leading one, which a field of 0 lacks, and the field less one. Provides: `digitsOf`, `placeOf`,
+-- `pattern-units` (the pattern's value is so many units, for both signs). Assumes nothing.
 use mathlib.Core.Path.{_≡_, sym, ap, _∙_, subst}
 use Prim.Native.Nat.{ℕ, zero, suc, _+_, _-_, _*_, _/_, _%_, _^_, _≤_, _<_}
-use native.Mathlib.Nat.{add-comm, mul-one, mod-lt, mod-eq-of-lt, div-eq-of-lt, div-lt-iff-lt-mul, le-div-iff-mul-le, one-mul, le-trans, le-of-eq}
+use native.Mathlib.Nat.{
+  add-comm,
+  mul-one,
+  mod-lt,
+  mod-eq-of-lt,
+  div-eq-of-lt,
+  div-lt-iff-lt-mul,
+  le-div-iff-mul-le,
+  one-mul,
+  le-trans,
+  le-of-eq,
+}
 use native.Mathlib.Omega.{arith}
 use mathlib.Core.Bool.{Bool, true, false, not, cond}
 use lib.Dec.{T, ltb, ltb→lt, nltb→le}
@@ -59,7 +70,10 @@ module _ (f : Format) (s : Bool) (p : ℕ) (P : p < infinite f) where
       with-lead : (t h : ℕ) → t < h → t + h < 2 * h
       with-lead t h l = omega arith
 
-      go : (b : Bool) → (T b → p < hid f) → (T (not b) → hid f ≤ p) → Units f (ofBits f (cond s (top f) 0 + p)) s (cond b p (p % hid f + hid f)) (cond b 0 (p / hid f - 1))
+      go : (b : Bool) → (T b → p < hid f) → (T (not b) → hid f ≤ p)
+          → Units f (ofBits f (cond s (top f) 0 + p)) s (cond b p (p % hid f + hid f)) (cond b 0 (p / hid f - 1))
       go true y n = of-digits p 0 (few (hid f) p (hid-pos f) (y tt)) (below p (hid f) (y tt))
       go false y n =
-          of-digits (p % hid f + hid f) (p / hid f - 1) (full (hid f) p (hid-pos f) (p / hid f) (field-pos (hid f) p (hid-pos f) (n tt))) (with-lead (p % hid f) (hid f) (mod-lt p (hid-pos f)))
+          of-digits (p % hid f + hid f) (p / hid f - 1)
+          (full (hid f) p (hid-pos f) (p / hid f) (field-pos (hid f) p (hid-pos f) (n tt)))
+          (with-lead (p % hid f) (hid f) (mod-lt p (hid-pos f)))

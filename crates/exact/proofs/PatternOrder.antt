@@ -1,11 +1,29 @@
--- Without signs the order of floats is the order of their patterns, the infinity's included, with a NaN above all: finite values by their sizes,
--- which grow with the patterns, and the infinity and the NaNs by hand.
--- Provides: `worth-grows`, `pattern-order`. Assumes nothing.
+-- Without signs the order of floats is the order of their patterns, the infinity's included, with a NaN above all:
+-- finite values by their sizes, which grow with the patterns, and the infinity and the NaNs by hand. Provides:
+-- `worth-grows`, `pattern-order`. Assumes nothing.
 use mathlib.Core.Path.{_≡_, refl, sym, ap, _∙_, subst}
 use mathlib.Core.Logic.{_⊎_, inl, inr}
 use mathlib.Core.Bool.{true, false, true≢false}
 use Prim.Native.Nat.{ℕ, zero, suc, _+_, _-_, _*_, _/_, _%_, _^_, _≤_, _<_}
-use native.Mathlib.Nat.{le-trans, le-of-eq, le-of-lt, le-of-suc-le-suc, lt-of-lt-of-le, lt-of-le-of-lt, eq-or-lt-of-le, zero-add, mul-one, mul-assoc, mul-le-mul-left, mul-le-mul-right, mul-lt-mul-of-pos-right, mod-eq-of-lt, mod-lt, div-add-mod', pow-succ'}
+use native.Mathlib.Nat.{
+  le-trans,
+  le-of-eq,
+  le-of-lt,
+  le-of-suc-le-suc,
+  lt-of-lt-of-le,
+  lt-of-le-of-lt,
+  eq-or-lt-of-le,
+  zero-add,
+  mul-one,
+  mul-assoc,
+  mul-le-mul-left,
+  mul-le-mul-right,
+  mul-lt-mul-of-pos-right,
+  mod-eq-of-lt,
+  mod-lt,
+  div-add-mod',
+  pow-succ',
+}
 use native.Mathlib.Omega.{arith}
 use lib.Dec.{leb}
 use lib.Pow.{pow-pos, pow-mono, shr-mono}
@@ -17,11 +35,13 @@ use Rattle.exact.proofs.Naturals.{lt-or-le}
 use Rattle.exact.proofs.Order.{sizes-order}
 use Rattle.exact.proofs.Patterns.{lead, worth, pattern-value, pattern-infinity, pattern-nan}
 
--- ---- the size grows with the pattern: from one field to the next, h being the field's weight, and within a field with the digits
+-- ---- the size grows with the pattern: from one field to the next, h being the field's weight, and within a field with
+-- the digits
 lead-under : (h x t : ℕ) → t < h → lead h x t < h * 2 ^ x
 lead-under h zero t l = subst (λ (n : ℕ). t < n) (sym (mul-one h)) l
 lead-under h (suc x) t l =
-    lt-of-lt-of-le (mul-lt-mul-of-pos-right (both h t l) (pow-pos x)) (le-of-eq (mul-assoc h 2 (2 ^ x) ∙ ap (λ (n : ℕ). h * n) (sym (pow-succ' 2 x))))
+    lt-of-lt-of-le (mul-lt-mul-of-pos-right (both h t l) (pow-pos x))
+    (le-of-eq (mul-assoc h 2 (2 ^ x) ∙ ap (λ (n : ℕ). h * n) (sym (pow-succ' 2 x))))
   where
     both : (h t : ℕ) → t < h → h + t < h * 2
     both h t l = omega arith
@@ -32,7 +52,8 @@ fields-grow h x zero t u l g = absurd (nothing x g)
     nothing : (x : ℕ) → x < 0 → ⊥
     nothing x l = omega arith
 fields-grow h x (suc y) t u l g =
-    lt-of-lt-of-le (lead-under h x t l) (le-trans (mul-le-mul-left h (pow-mono (le-of-suc-le-suc g))) (mul-le-mul-right (2 ^ y) (more h u)))
+    lt-of-lt-of-le (lead-under h x t l)
+    (le-trans (mul-le-mul-left h (pow-mono (le-of-suc-le-suc g))) (mul-le-mul-right (2 ^ y) (more h u)))
   where
     more : (h t : ℕ) → h ≤ h + t
     more h t = omega arith
@@ -57,7 +78,9 @@ worth-grows f a b l = go (eq-or-lt-of-le (shr-mono (prec f - 1) (le-of-lt l)))
     go : (a / h ≡ b / h) ⊎ (a / h < b / h) → lead h (a / h) (a % h) < lead h (b / h) (b % h)
     go (inl e) =
         subst (λ (x : ℕ). lead h (a / h) (a % h) < lead h x (b % h)) e
-        (digits-grow h (a / h) (a % h) (b % h) (digits-apart a b (a / h * h) (a % h) (b % h) (div-add-mod' a h) (ap (λ (x : ℕ). x * h + b % h) e ∙ div-add-mod' b h) l))
+        (digits-grow h (a / h) (a % h) (b % h)
+        (digits-apart a b (a / h * h) (a % h) (b % h) (div-add-mod' a h) (ap (λ (x : ℕ). x * h + b % h) e
+        ∙ div-add-mod' b h) l))
     go (inr g) = fields-grow h (a / h) (b / h) (a % h) (b % h) (mod-lt a (hid-pos f)) g
 
 worth-leb : (f : Format) (a b : ℕ) → leb (worth f a) (worth f b) ≡ leb a b
@@ -92,20 +115,30 @@ pub pattern-order : (f : Format) (a b : ℕ) → a < top f → b ≤ infinite f 
 pattern-order f a b A B = go (lt-or-le (infinite f) a)
   where
     value : (p : ℕ) → p < infinite f → HasValue (ofBits f p) false (worth f p) (2 ^ low f)
-    value p h = subst (λ (n : ℕ). HasValue (ofBits f n) false (worth f p) (2 ^ low f)) (zero-add p) (pattern-value f false p h)
+    value p h = subst (λ (n : ℕ). HasValue (ofBits f n) false (worth f p) (2 ^ low f)) (zero-add p)
+        (pattern-value f false p h)
 
     infinity : (p : ℕ) → p ≡ infinite f → ofBits f p ≡ inf false
     infinity p e = ap (ofBits f) (e ∙ sym (zero-add (infinite f))) ∙ pattern-infinity f false
 
-    inner : (a ≡ infinite f) ⊎ (a < infinite f) → (b ≡ infinite f) ⊎ (b < infinite f) → le (ofBits f a) (ofBits f b) ≡ leb a b
-    inner (inl d) (inl e) = (λ i. le (infinity a d i) (infinity b e i)) ∙ infinity-itself ∙ sym (le-leb a b (le-of-eq (d ∙ sym e)))
+    inner : (a ≡ infinite f) ⊎ (a < infinite f) → (b ≡ infinite f) ⊎ (b < infinite f)
+        → le (ofBits f a) (ofBits f b) ≡ leb a b
+    inner (inl d) (inl e) = (λ i. le (infinity a d i) (infinity b e i)) ∙ infinity-itself
+        ∙ sym (le-leb a b (le-of-eq (d ∙ sym e)))
     inner (inl d) (inr l) =
-        ap (λ (x : Float). le x (ofBits f b)) (infinity a d) ∙ below-infinity (ofBits f b) (worth f b) (2 ^ low f) (value b l) .1 ∙ sym (lt-leb a b (subst (λ (n : ℕ). b < n) (sym d) l))
+        ap (λ (x : Float). le x (ofBits f b)) (infinity a d)
+        ∙ below-infinity (ofBits f b) (worth f b) (2 ^ low f) (value b l) .1
+        ∙ sym (lt-leb a b (subst (λ (n : ℕ). b < n) (sym d) l))
     inner (inr k) (inl e) =
-        ap (λ (x : Float). le (ofBits f a) x) (infinity b e) ∙ below-infinity (ofBits f a) (worth f a) (2 ^ low f) (value a k) .0 ∙ sym (le-leb a b (le-of-lt (subst (λ (n : ℕ). a < n) (sym e) k)))
-    inner (inr k) (inr l) = sizes-order (ofBits f a) (ofBits f b) (worth f a) (worth f b) (2 ^ low f) (pow-pos (low f)) (value a k) (value b l) ∙ worth-leb f a b
+        ap (λ (x : Float). le (ofBits f a) x) (infinity b e)
+        ∙ below-infinity (ofBits f a) (worth f a) (2 ^ low f) (value a k) .0
+        ∙ sym (le-leb a b (le-of-lt (subst (λ (n : ℕ). a < n) (sym e) k)))
+    inner (inr k) (inr l) = sizes-order (ofBits f a) (ofBits f b) (worth f a) (worth f b) (2 ^ low f) (pow-pos (low f))
+        (value a k) (value b l) ∙ worth-leb f a b
 
     go : (infinite f < a) ⊎ (a ≤ infinite f) → le (ofBits f a) (ofBits f b) ≡ leb a b
     go (inl h) =
-        ap (λ (x : Float). le x (ofBits f b)) (pattern-nan f a (subst (λ (n : ℕ). infinite f < n) (sym (mod-eq-of-lt A)) h)) ∙ nan-never (ofBits f b) ∙ sym (lt-leb a b (lt-of-le-of-lt B h))
+        ap (λ (x : Float). le x (ofBits f b))
+        (pattern-nan f a (subst (λ (n : ℕ). infinite f < n) (sym (mod-eq-of-lt A)) h)) ∙ nan-never (ofBits f b)
+        ∙ sym (lt-leb a b (lt-of-le-of-lt B h))
     go (inr h) = inner (eq-or-lt-of-le h) (eq-or-lt-of-le B)

@@ -1,11 +1,27 @@
--- What a bit pattern stands for. Without its sign's bit it is a whole number p that counts a format's values in order: the exponent's field and
--- the digits are read off it, with the sign's bit there or not. Up to the infinity's pattern none is a NaN's, and above it each is.
--- Provides: `lead`, `worth` (the size that p stands for, in units of the format's smallest value), `pattern-value`, `pattern-infinity` (of p with
--- either sign); `pattern-rest` (p again, from both); `pattern-nan`, `pattern-number` (which patterns are NaNs); `pattern-back` (what is written for
--- the value that was read). Assumes nothing.
+-- What a bit pattern stands for. Without its sign's bit it is a whole number p that counts a format's values in order:
+-- the exponent's field and the digits are read off it, with the sign's bit there or not. Up to the infinity's pattern
+-- none is a NaN's, and above it each is. Provides: `lead`, `worth` (the size that p stands for, in units of the
+-- format's smallest value), `pattern-value`, `pattern-infinity` (of p with either sign); `pattern-rest` (p again, from
+-- both); `pattern-nan`, `pattern-number` (which patterns are NaNs); `pattern-back` (what is written for the value that
+-- was read). Assumes nothing.
 use mathlib.Core.Path.{_≡_, sym, ap, _∙_, subst}
 use Prim.Native.Nat.{ℕ, zero, suc, _+_, _*_, _/_, _%_, _^_, _≤_, _<_}
-use native.Mathlib.Nat.{le-refl, le-of-eq, le-trans, le-of-lt, lt-irrefl, zero-add, le-add-right, mul-one, mod-eq-of-lt, add-mod-left, mul-add-mod-self-left, mul-mod-left, mul-div-cancel, div-lt-iff-lt-mul}
+use native.Mathlib.Nat.{
+  le-refl,
+  le-of-eq,
+  le-trans,
+  le-of-lt,
+  lt-irrefl,
+  zero-add,
+  le-add-right,
+  mul-one,
+  mod-eq-of-lt,
+  add-mod-left,
+  mul-add-mod-self-left,
+  mul-mod-left,
+  mul-div-cancel,
+  div-lt-iff-lt-mul,
+}
 use native.Mathlib.Omega.{arith}
 use mathlib.Core.Bool.{Bool, true, false, not, cond}
 use lib.Dec.{T, leb, eqb, le→leb}
@@ -31,10 +47,12 @@ pub pattern-rest : (f : Format) (s : Bool) (p : ℕ) → p < top f → (cond s (
 pattern-rest f true p h = add-mod-left (top f) p ∙ mod-eq-of-lt h
 pattern-rest f false p h = ap (λ (x : ℕ). x % top f) (zero-add p) ∙ mod-eq-of-lt h
 
-fields : (f : Format) (s : Bool) (p : ℕ) → p < top f → ofBits f (cond s (top f) 0 + p) ≡ ofFields f s (p / hid f) (p % hid f)
+fields : (f : Format) (s : Bool) (p : ℕ) → p < top f
+    → ofBits f (cond s (top f) 0 + p) ≡ ofFields f s (p / hid f) (p % hid f)
 unfolding ofBits
 fields f true p h =
-    ap (λ (b : Bool). ofFields f b ((top f + p) % top f / hid f) ((top f + p) % hid f)) (is-true (leb (top f) (top f + p)) (le→leb (top f) (top f + p) (le-add-right (top f) p)))
+    ap (λ (b : Bool). ofFields f b ((top f + p) % top f / hid f) ((top f + p) % hid f))
+    (is-true (leb (top f) (top f + p)) (le→leb (top f) (top f + p) (le-add-right (top f) p)))
     ∙ ap (λ (x : ℕ). ofFields f true (x / hid f) ((top f + p) % hid f)) (pattern-rest f true p h)
     ∙ ap (λ (x : ℕ). ofFields f true (p / hid f) x) (mul-add-mod-self-left (hid f) (suc (ones f)) p)
 fields f false p h =
@@ -43,15 +61,19 @@ fields f false p h =
     ∙ ap (λ (x : ℕ). ofFields f false (x / hid f) (p % hid f)) (mod-eq-of-lt h)
 
 -- ---- the value of a finite pattern
-fields-value : (f : Format) (s : Bool) (x t : ℕ) → x < ones f → HasValue (ofFields f s x t) s (lead (hid f) x t) (2 ^ low f)
+fields-value : (f : Format) (s : Bool) (x t : ℕ) → x < ones f
+    → HasValue (ofFields f s x t) s (lead (hid f) x t) (2 ^ low f)
 unfolding ofFields
-fields-value f s zero t h = subst (λ (a : ℕ). HasValue (odd (prec f) s t 0 (low f)) s a (2 ^ low f)) (mul-one t) (odd-sign (prec f) s t 0 (low f))
+fields-value f s zero t h = subst (λ (a : ℕ). HasValue (odd (prec f) s t 0 (low f)) s a (2 ^ low f)) (mul-one t)
+    (odd-sign (prec f) s t 0 (low f))
 fields-value f s (suc x) t h =
-    subst (λ (b : Bool). HasValue (cond b (cond (eqb t 0) (inf s) nan) (odd (prec f) s (hid f + t) x (low f))) s ((hid f + t) * 2 ^ x) (2 ^ low f))
+    subst (λ (b : Bool). HasValue (cond b (cond (eqb t 0) (inf s) nan) (odd (prec f) s (hid f + t) x (low f))) s
+    ((hid f + t) * 2 ^ x) (2 ^ low f))
     (sym (ne-eqb (suc x) (ones f) (λ e. lt-irrefl (ones f) (subst (λ (n : ℕ). n < ones f) e h))))
     (odd-sign (prec f) s (hid f + t) x (low f))
 
-pub pattern-value : (f : Format) (s : Bool) (p : ℕ) → p < infinite f → HasValue (ofBits f (cond s (top f) 0 + p)) s (worth f p) (2 ^ low f)
+pub pattern-value : (f : Format) (s : Bool) (p : ℕ) → p < infinite f
+    → HasValue (ofBits f (cond s (top f) 0 + p)) s (worth f p) (2 ^ low f)
 pattern-value f s p h =
     subst (λ (v : Float). HasValue v s (worth f p) (2 ^ low f)) (sym (fields f s p (below-top f p (le-of-lt h))))
     (fields-value f s (p / hid f) (p % hid f) (div-lt-iff-lt-mul (hid-pos f) .1 h))
@@ -63,7 +85,8 @@ fields-infinity f s zero e = absurd (no-field (emax f) e)
   where
     no-field : (e : ℕ) → 0 ≡ 2 * e + 1 → ⊥
     no-field e h = omega arith
-fields-infinity f s (suc x) e = ap (λ (b : Bool). cond b (inf s) (odd (prec f) s (hid f + 0) x (low f))) (is-true (eqb (suc x) (ones f)) (eq→eqb e))
+fields-infinity f s (suc x) e =
+    ap (λ (b : Bool). cond b (inf s) (odd (prec f) s (hid f + 0) x (low f))) (is-true (eqb (suc x) (ones f)) (eq→eqb e))
 
 pub pattern-infinity : (f : Format) (s : Bool) → ofBits f (cond s (top f) 0 + infinite f) ≡ inf s
 pattern-infinity f s =
@@ -79,11 +102,14 @@ pub pattern-number : (f : Format) (n : ℕ) → n % top f ≤ infinite f → T (
 pattern-number f n h = subst (λ (b : Bool). T (not b)) (sym (nanBits-above f n ∙ le-ltb (infinite f) (n % top f) h)) tt
 
 -- ---- what is written for the value that is read from a pattern
-pub pattern-back : (f : Format) (s : Bool) (p : ℕ) → p ≤ infinite f → toBits f (ofBits f (cond s (top f) 0 + p)) ≡ cond s (top f) 0 + p
+pub pattern-back : (f : Format) (s : Bool) (p : ℕ) → p ≤ infinite f
+    → toBits f (ofBits f (cond s (top f) 0 + p)) ≡ cond s (top f) 0 + p
 pattern-back f s p h =
     let n = cond s (top f) 0 + p in
     let P = below-top f p h in
-    toBits-ofBits f n (wide s (top f) p P) (subst (λ (b : Bool). T (not b)) (nanBits-is f n) (pattern-number f n (le-trans (le-of-eq (pattern-rest f s p P)) h)))
+    toBits-ofBits f n (wide s (top f) p P)
+    (subst (λ (b : Bool). T (not b)) (nanBits-is f n)
+    (pattern-number f n (le-trans (le-of-eq (pattern-rest f s p P)) h)))
   where
     both : (t p : ℕ) → p < t → t + p < 2 * t
     both t p h = omega arith

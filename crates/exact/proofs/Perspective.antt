@@ -1,6 +1,7 @@
--- A quotient of two sums: the denominator is at least 1 / 1,024 and its error tiny beside that, so both errors are divided by it once, and then one rounding.
--- Provides: `denominator-least`, `denominator-passes` (above 1e-12), `quotient-close`; of two sums of three terms: `perspective-passes` and `perspective-close` (within
--- 10241 / 2 ^ 38, that is 0.6251 of 2 ^ -24, and at most 16,385 in size). Assumes nothing.
+-- A quotient of two sums: the denominator is at least 1 / 1,024 and its error tiny beside that, so both errors are
+-- divided by it once, and then one rounding. Provides: `denominator-least`, `denominator-passes` (above 1e-12),
+-- `quotient-close`; of two sums of three terms: `perspective-passes` and `perspective-close` (within 10241 / 2 ^ 38,
+-- that is 0.6251 of 2 ^ -24, and at most 16,385 in size). Assumes nothing.
 use mathlib.Core.List.{[], _∷_}
 use mathlib.Core.Path.{_≡_, refl}
 use mathlib.Core.Bool.{Bool, true, false}
@@ -40,17 +41,20 @@ less = record { le = lit≤ tt }
 
 cancel : (x y z : Fraction) → x +F z ≤F y +F z → x ≤F y
 cancel x y z h =
-    common (x ∷ y ∷ z ∷ []) (λ D D0 ((_, _, X), ((_, _, Y), ((_, _, Z), _))). let k = le-at D D0 (at-add X Z) (at-add Y Z) h in at-le D D0 X Y (omega arith))
+    common (x ∷ y ∷ z ∷ []) (λ D D0 ((_, _, X), ((_, _, Y), ((_, _, Z), _))). let k = le-at D D0 (at-add X Z)
+    (at-add Y Z) h in at-le D D0 X Y (omega arith))
 
 module _ {d : Float} {D s : Fraction} (c : Close d D f s) (h : frac 1 1024 ≤F D) where
   pub denominator-least : b ≤F value d
   denominator-least =
       cancel b (value d) f
-      (le-trans (b +F f) (frac 1 1024) (value d +F f) less (le-trans (frac 1 1024) D (value d +F f) h (within-open (value d) D f (c .near) .1)))
+      (le-trans (b +F f) (frac 1 1024) (value d +F f) less
+      (le-trans (frac 1 1024) D (value d +F f) h (within-open (value d) D f (c .near) .1)))
 
   -- the code's test `wq <= 1e-12` fails
   pub denominator-passes : le d (ofBits binary64 0x3d71_9799_812d_ea11) ≡ false
-  denominator-passes = go (le d (ofBits binary64 0x3d71_9799_812d_ea11)) (λ t. le-value d (ofBits binary64 0x3d71_9799_812d_ea11) (c .number) tiny .0 t)
+  denominator-passes = go (le d (ofBits binary64 0x3d71_9799_812d_ea11))
+      (λ t. le-value d (ofBits binary64 0x3d71_9799_812d_ea11) (c .number) tiny .0 t)
     where
       tiny : T (finite (ofBits binary64 0x3d71_9799_812d_ea11))
       tiny = unfold ofBits in tt
@@ -62,7 +66,8 @@ module _ {d : Float} {D s : Fraction} (c : Close d D f s) (h : frac 1 1024 ≤F 
       far h = lt-irrefl _ (lt-le-trans under h .lt)
 
       go : (t : Bool) → (T t → value d ≤F value (ofBits binary64 0x3d71_9799_812d_ea11)) → t ≡ false
-      go true k = absurd (far (le-trans b (value d) (value (ofBits binary64 0x3d71_9799_812d_ea11)) denominator-least (k tt)))
+      go true k = absurd (far (le-trans b (value d) (value (ofBits binary64 0x3d71_9799_812d_ea11)) denominator-least
+          (k tt)))
       go false k = refl
 
 -- ---- the quotient
@@ -94,15 +99,18 @@ small : q +F frac 10241 (2 ^ 38) ≤F frac 16385 1
 unfolding _+F_
 small = record { le = lit≤ tt }
 
-module _ {n d : Float} {N D r s : Fraction} (top : Close n N e r) (under : Close d D f s) (h : frac 1 1024 ≤F D) (k : absF (N /F D) ≤F q) where
+module _ {n d : Float} {N D r s : Fraction} (top : Close n N e r) (under : Close d D f s) (h : frac 1 1024 ≤F D)
+    (k : absF (N /F D) ≤F q) where
   pub quotient-close : Close (n ⊘ d) (N /F D) (frac 10241 (2 ^ 38)) (frac 16385 1)
   quotient-close =
       let l : b ≤F value d = denominator-least under h in
       let Z : Fraction = value n /F value d in
       let m : Within Z (N /F D) w =
-      within-more Z (N /F D) ((e +F q *F f) /F b) w share (within-div (value n) N (value d) D e f b q b0 l (lt-le-trans above h) k (top .near) (under .near)) in
+      within-more Z (N /F D) ((e +F q *F f) /F b) w share
+      (within-div (value n) N (value d) D e f b q b0 l (lt-le-trans above h) k (top .near) (under .near)) in
       let c : Close (n ⊘ d) Z (frac 1 (2 ^ 39)) (frac 32768 1) =
-      rounds-bound (div-rounds binary64 n d (top .number) (under .number) (lt-le-trans b0 (le-trans b (value d) (absF (value d)) l (abs-grow (value d))))) 1089 32768 1 1 (2 ^ 39) tt
+      rounds-bound (div-rounds binary64 n d (top .number) (under .number)
+      (lt-le-trans b0 (le-trans b (value d) (absF (value d)) l (abs-grow (value d))))) 1089 32768 1 1 (2 ^ 39) tt
       (le-trans (absF Z) (q +F w) (frac 32768 1) (abs-near Z (N /F D) w q m k) room) in
       close-size q (frac 16385 1) (close-more parts (le-refl (frac 32768 1) (frac 32768 1)) (close-move c m)) k small
     where
@@ -110,10 +118,13 @@ module _ {n d : Float} {N D r s : Fraction} (top : Close n N e r) (under : Close
       above = record { lt = lit< tt }
 
 -- of two sums of three terms
-module _ {x y : Float} {X Y : Fraction} (c : Coordinate x X) (d : Coordinate y Y) {m n o : Float} (L : Linear m n o X Y (frac 4 1)) (h : frac 1 1024 ≤F linearF m n o X Y) where
+module _ {x y : Float} {X Y : Fraction} (c : Coordinate x X) (d : Coordinate y Y) {m n o : Float}
+    (L : Linear m n o X Y (frac 4 1)) (h : frac 1 1024 ≤F linearF m n o X Y) where
   pub perspective-passes : le (linear m n o x y) (ofBits binary64 0x3d71_9799_812d_ea11) ≡ false
   perspective-passes = denominator-passes (linear-small c d L) h
 
-  pub perspective-close : {m' n' o' : Float} → Linear m' n' o' X Y (frac 16384 1) → absF (linearF m' n' o' X Y /F linearF m n o X Y) ≤F frac 16384 1
-      → Close (linear m' n' o' x y ⊘ linear m n o x y) (linearF m' n' o' X Y /F linearF m n o X Y) (frac 10241 (2 ^ 38)) (frac 16385 1)
+  pub perspective-close : {m' n' o' : Float} → Linear m' n' o' X Y (frac 16384 1)
+      → absF (linearF m' n' o' X Y /F linearF m n o X Y) ≤F frac 16384 1
+      → Close (linear m' n' o' x y ⊘ linear m n o x y) (linearF m' n' o' X Y /F linearF m n o X Y)
+      (frac 10241 (2 ^ 38)) (frac 16385 1)
   perspective-close M k = quotient-close (linear-terms c d M) (linear-small c d L) h k

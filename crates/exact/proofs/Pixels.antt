@@ -1,6 +1,6 @@
--- Where a pixel asks: i + offset is a whole number of at most 21 digits, and with 0.5 it has one digit more, so nothing is rounded; and no whole number and a half
--- is below 1/2 in size.
--- Provides: `whole-add`, `asked-exact` (a number, with the value i + offset + 1/2), `asked-coordinate` (and from 1/2 to 2 ^ 21 in size). Assumes nothing.
+-- Where a pixel asks: i + offset is a whole number of at most 21 digits, and with 0.5 it has one digit more, so nothing
+-- is rounded; and no whole number and a half is below 1/2 in size. Provides: `whole-add`, `asked-exact` (a number, with
+-- the value i + offset + 1/2), `asked-coordinate` (and from 1/2 to 2 ^ 21 in size). Assumes nothing.
 use mathlib.Core.Path.{_≡_, sym, ap, subst⁻¹}
 use mathlib.Core.Bool.{Bool, true, false, not, cond}
 use Prim.Native.Nat.{ℕ, suc, _+_, _-_, _*_, _^_, _≤_, _<_}
@@ -29,7 +29,8 @@ less-add : (a b : ℕ) → whole (subℕ a (suc b)) ≈ whole (pos a) +F whole (
 unfolding _+F_
 less-add a b = go (ltb a (suc b)) (ltb→lt a (suc b)) (nltb→le a (suc b))
   where
-    go : (t : Bool) → (T t → a < suc b) → (T (not t) → suc b ≤ a) → whole (cond t (negsuc (suc b - suc a)) (pos (a - suc b))) ≈ whole (pos a) +F whole (negsuc b)
+    go : (t : Bool) → (T t → a < suc b) → (T (not t) → suc b ≤ a)
+        → whole (cond t (negsuc (suc b - suc a)) (pos (a - suc b))) ≈ whole (pos a) +F whole (negsuc b)
     go true h k = let l = h tt in record { eq = omega arith }
     go false h k = let l = k tt in record { eq = omega arith }
 
@@ -67,7 +68,8 @@ half-most (pos n) h = omega arith
 half-most (negsuc n) h = omega arith
 
 half-units : (s : Bool) (q : ℕ) → signed s q 2 ≈ signed s (q * 2 ^ 1073) (2 ^ 1074)
-half-units s q = signed-scale s q 2 (q * 2 ^ 1073) (2 ^ 1074) (zero-lt-suc 1) (pow-pos 1074) (sym (mul-assoc q (2 ^ 1073) 2))
+half-units s q = signed-scale s q 2 (q * 2 ^ 1073) (2 ^ 1074) (zero-lt-suc 1) (pow-pos 1074)
+    (sym (mul-assoc q (2 ^ 1073) 2))
 
 -- 0.5
 abbrev half : Float
@@ -81,8 +83,10 @@ module _ (z : ℤ) (h : natAbs z ≤ 1052672) where
   half-exact : T (finite (ofInt binary64 z ⊕ half)) × (value (ofInt binary64 z ⊕ half) ≈ signed (below z) (halves z) 2)
   half-exact =
       let w = int-value binary64 z (counted binary64 z (le-trans h (lit≤ tt))) in
-      let e : value (ofInt binary64 z) +F value half ≈ signed (below z) (halves z) 2 = add-same (value (ofInt binary64 z)) (whole z) (value half) (frac 1 2) (w .1) (half-is .1) ⨟ half-value z in
-      let q = rounds-fixed (add-rounds binary64 (ofInt binary64 z) half (w .0) (half-is .0)) (below z) (halves z) 1073 (le-trans (half-most z h) (lit≤ tt)) (under (halves z) (half-most z h))
+      let e : value (ofInt binary64 z) +F value half ≈ signed (below z) (halves z) 2 =
+      add-same (value (ofInt binary64 z)) (whole z) (value half) (frac 1 2) (w .1) (half-is .1) ⨟ half-value z in
+      let q = rounds-fixed (add-rounds binary64 (ofInt binary64 z) half (w .0) (half-is .0)) (below z) (halves z) 1073
+      (le-trans (half-most z h) (lit≤ tt)) (under (halves z) (half-most z h))
       (e ⨟ half-units (below z) (halves z)) in
       (q .0, q .1 ⨟ e)
     where
@@ -98,18 +102,26 @@ module _ (i : ℕ) (o : ℤ) (I : i ≤ 4096) (O : natAbs o ≤ 1048576) where
       go n h = omega arith
 
   is-int : asked i o ≡ ofInt binary64 (pos i +ℤ o) ⊕ half
-  is-int = ap (λ (s : Float). s ⊕ half) (ofInt-add binary64 (pos i) o (counted binary64 (pos i) (le-trans I (lit≤ tt))) (counted binary64 o (le-trans O (lit≤ tt))))
+  is-int = ap (λ (s : Float). s ⊕ half)
+      (ofInt-add binary64 (pos i) o (counted binary64 (pos i) (le-trans I (lit≤ tt)))
+      (counted binary64 o (le-trans O (lit≤ tt))))
 
   halved : T (finite (asked i o)) × (value (asked i o) ≈ signed (below (pos i +ℤ o)) (halves (pos i +ℤ o)) 2)
-  halved = subst⁻¹ (λ (r : Float). T (finite r) × (value r ≈ signed (below (pos i +ℤ o)) (halves (pos i +ℤ o)) 2)) is-int (half-exact (pos i +ℤ o) in-all)
+  halved = subst⁻¹ (λ (r : Float). T (finite r) × (value r ≈ signed (below (pos i +ℤ o)) (halves (pos i +ℤ o)) 2))
+      is-int (half-exact (pos i +ℤ o) in-all)
 
   pub asked-exact : T (finite (asked i o)) × (value (asked i o) ≈ askedF i o)
-  asked-exact = (halved .0, halved .1 ⨟ back (half-value (pos i +ℤ o)) ⨟ add-same (whole (pos i +ℤ o)) (whole (pos i) +F whole o) (frac 1 2) (frac 1 2) (whole-add i o) (eq-refl (frac 1 2)))
+  asked-exact = (
+    halved .0,
+    halved .1 ⨟ back (half-value (pos i +ℤ o)) ⨟ add-same (whole (pos i +ℤ o)) (whole (pos i)
+        +F whole o) (frac 1 2) (frac 1 2) (whole-add i o) (eq-refl (frac 1 2)),
+  )
 
   pub asked-coordinate : Coordinate (asked i o) (askedF i o)
   asked-coordinate =
       let z : ℤ = pos i +ℤ o in
-      let A = abs-sized 2 (zero-lt-suc 1) (below z) (halves z) (sized-same (below z) (halves z) 2 (zero-lt-suc 1) (back (halved .1))) in
+      let A = abs-sized 2 (zero-lt-suc 1) (below z) (halves z)
+      (sized-same (below z) (halves z) 2 (zero-lt-suc 1) (back (halved .1))) in
       let lo = half-least z in
       let hi = half-most z in-all in
       record {

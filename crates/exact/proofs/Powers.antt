@@ -1,7 +1,9 @@
--- Powers, monomials and terms of a polynomial at a coordinate from 1/2 to 2 ^ 21 in size: each product is one rounding more, so a monomial of degree up to 5 is
--- exact but for a factor within 10 2 ^ -53 of 1; and a coefficient of any size changes nothing about that, so a term of size up to 16,384 is near.
--- Provides, of a `Coordinate` (specs/Sums): `coordinate-relative`, `raised-relative`, `monomial-relative`, `product-relative` (x y); terms with a coefficient: `term`,
--- `term-monomial`, `term-one`, `term-x`, `term-y`, `term-xy`, and `term-close` (within 11 2 ^ -39, at most 16,385 in size); `close-size`. Assumes nothing.
+-- Powers, monomials and terms of a polynomial at a coordinate from 1/2 to 2 ^ 21 in size: each product is one rounding
+-- more, so a monomial of degree up to 5 is exact but for a factor within 10 2 ^ -53 of 1; and a coefficient of any size
+-- changes nothing about that, so a term of size up to 16,384 is near. Provides, of a `Coordinate` (specs/Sums):
+-- `coordinate-relative`, `raised-relative`, `monomial-relative`, `product-relative` (x y); terms with a coefficient:
+-- `term`, `term-monomial`, `term-one`, `term-x`, `term-y`, `term-xy`, and `term-close` (within 11 2 ^ -39, at most
+-- 16,385 in size); `close-size`. Assumes nothing.
 use Prim.Native.Nat.{ℕ, zero, suc, _+_, _-_, _*_, _^_, _≤_}
 use native.Mathlib.Omega.{arith}
 use lib.Dec.{T, lit≤}
@@ -17,7 +19,14 @@ use Rattle.exact.proofs.NearProducts.{abs-near}
 use Rattle.exact.proofs.Operations.{mul-rounds}
 use Rattle.exact.proofs.Steps.{close-more, close-move}
 use Rattle.exact.proofs.Bounds.{rounds-bound}
-use Rattle.exact.proofs.Relative.{relative-own, relative-one, relative-mul, relative-more, relative-along, relative-within}
+use Rattle.exact.proofs.Relative.{
+  relative-own,
+  relative-one,
+  relative-mul,
+  relative-more,
+  relative-along,
+  relative-within,
+}
 
 pub coordinate-relative : {x : Float} {X : Fraction} → Coordinate x X → Relative x X 0 1
 coordinate-relative {x} c = relative-along (relative-own x (c .number) 1 (c .least) (c .most)) (c .is)
@@ -48,9 +57,11 @@ module _ {x : Float} {X : Fraction} (c : Coordinate x X) where
   raised-relative zero h = relative-one
   raised-relative (suc zero) h = relative-along (coordinate-relative c) (back (mul-one X))
   raised-relative (suc (suc zero)) h = relative-along square (two X)
-  raised-relative (suc (suc (suc zero))) h = relative-along (relative-mul (coordinate-relative c) square (lit≤ tt) (lit≤ tt) (lit≤ tt)) (three X)
+  raised-relative (suc (suc (suc zero))) h =
+      relative-along (relative-mul (coordinate-relative c) square (lit≤ tt) (lit≤ tt) (lit≤ tt)) (three X)
   raised-relative (suc (suc (suc (suc zero)))) h = relative-along fourth (four X)
-  raised-relative (suc (suc (suc (suc (suc zero))))) h = relative-along (relative-mul (coordinate-relative c) fourth (lit≤ tt) (lit≤ tt) (lit≤ tt)) (five X)
+  raised-relative (suc (suc (suc (suc (suc zero))))) h =
+      relative-along (relative-mul (coordinate-relative c) fourth (lit≤ tt) (lit≤ tt) (lit≤ tt)) (five X)
   raised-relative (suc (suc (suc (suc (suc (suc n)))))) h = absurd (past n h)
     where
       past : (n : ℕ) → suc (suc (suc (suc (suc (suc n))))) ≤ 5 → ⊥
@@ -60,7 +71,8 @@ module _ {x : Float} {X : Fraction} (c : Coordinate x X) where
 module _ {x y : Float} {X Y : Fraction} (c : Coordinate x X) (d : Coordinate y Y) where
   pub monomial-relative : (i j : ℕ) → i + j ≤ 5 → Relative (raised x i ⊗ raised y j) (powF X i *F powF Y j) 10 (i + j)
   monomial-relative i j h =
-      relative-more (relative-mul (raised-relative c i (left i j h)) (raised-relative d j (right i j h)) (few i j h) (few j i (turn i j h)) (less i j h)) 10 (all i j h)
+      relative-more (relative-mul (raised-relative c i (left i j h)) (raised-relative d j (right i j h)) (few i j h)
+      (few j i (turn i j h)) (less i j h)) 10 (all i j h)
     where
       left : (i j : ℕ) → i + j ≤ 5 → i ≤ 5
       left i j h = omega arith
@@ -84,12 +96,14 @@ module _ {x y : Float} {X Y : Fraction} (c : Coordinate x X) (d : Coordinate y Y
   product-relative = relative-mul (coordinate-relative c) (coordinate-relative d) (lit≤ tt) (lit≤ tt) (lit≤ tt)
 
 -- ---- terms
-module _ {a : Float} {M : Fraction} {m k : ℕ} (R : Relative a M m k) (few : m ≤ 10) (c : Float) (t : T (finite c)) (h : absF (M *F value c) ≤F frac 16384 1) where
+module _ {a : Float} {M : Fraction} {m k : ℕ} (R : Relative a M m k) (few : m ≤ 10) (c : Float) (t : T (finite c))
+    (h : absF (M *F value c) ≤F frac 16384 1) where
   pub term : Term a M c
   term = record { degree = k; monomial = relative-more R 10 few; number = t; size = h }
 
 module _ {x y : Float} {X Y : Fraction} (p : Coordinate x X) (q : Coordinate y Y) (c : Float) (t : T (finite c)) where
-  pub term-monomial : (i j : ℕ) → i + j ≤ 5 → absF (powF X i *F powF Y j *F value c) ≤F frac 16384 1 → Term (raised x i ⊗ raised y j) (powF X i *F powF Y j) c
+  pub term-monomial : (i j : ℕ) → i + j ≤ 5 → absF (powF X i *F powF Y j *F value c) ≤F frac 16384 1
+      → Term (raised x i ⊗ raised y j) (powF X i *F powF Y j) c
   term-monomial i j l h = term (monomial-relative p q i j l) (lit≤ tt) c t h
 
   -- the terms 1, x, y and x y of the order 1.5
@@ -106,18 +120,27 @@ module _ {x y : Float} {X Y : Fraction} (p : Coordinate x X) (q : Coordinate y Y
   term-xy h = term (product-relative p q) (lit≤ tt) c t h
 
 -- a better bound of a float's size, from that of the exact number
-pub close-size : {r : Float} {X e b : Fraction} (a c : Fraction) → Close r X e b → absF X ≤F a → a +F e ≤F c → Close r X e c
-close-size {r} {X} {e} a c C h k = record { number = C .number; near = C .near; small = le-trans (absF (value r)) (a +F e) c (abs-near (value r) X e a (C .near) h) k }
+pub close-size : {r : Float} {X e b : Fraction} (a c : Fraction) → Close r X e b → absF X ≤F a → a +F e ≤F c
+    → Close r X e c
+close-size {r} {X} {e} a c C h k =
+    record {
+      number = C .number;
+      near = C .near;
+      small = le-trans (absF (value r)) (a +F e) c (abs-near (value r) X e a (C .near) h) k;
+    }
 
-pub term-close : {a : Float} {M : Fraction} {c : Float} → Term a M c → Close (a ⊗ c) (M *F value c) (frac 11 (2 ^ 39)) (frac 16385 1)
+pub term-close : {a : Float} {M : Fraction} {c : Float} → Term a M c
+    → Close (a ⊗ c) (M *F value c) (frac 11 (2 ^ 39)) (frac 16385 1)
 term-close {a} {M} {c} t =
     let Z : Fraction = value a *F value c in
     let e : Fraction = frac 16384 1 *F frac 10 (2 ^ 53) in
     let w : Within Z (M *F value c) e = relative-within (t .monomial) (value c) (frac 16384 1) (t .size) in
     let r : Close (a ⊗ c) Z (frac 1 (2 ^ 39)) (frac 32768 1) =
     rounds-bound (mul-rounds binary64 a c (t .monomial .number) (t .number)) 1089 32768 1 1 (2 ^ 39) tt
-    (le-trans (absF Z) (frac 16384 1 +F e) (frac 32768 1) (abs-near Z (M *F value c) e (frac 16384 1) w (t .size)) room) in
-    close-size (frac 16384 1) (frac 16385 1) (close-more parts (le-refl (frac 32768 1) (frac 32768 1)) (close-move r w)) (t .size) small
+    (le-trans (absF Z) (frac 16384 1 +F e) (frac 32768 1) (abs-near Z (M *F value c) e (frac 16384 1) w (t .size))
+    room) in
+    close-size (frac 16384 1) (frac 16385 1)
+    (close-more parts (le-refl (frac 32768 1) (frac 32768 1)) (close-move r w)) (t .size) small
   where
     room : frac 16384 1 +F frac 16384 1 *F frac 10 (2 ^ 53) ≤F frac 32768 1
     room = unfold _+F_ _*F_ in record { le = lit≤ tt }

@@ -1,9 +1,10 @@
--- Products of fractions: at one scale a product of fractions is a product of naturals, so each ring law is one omega, and each law
--- of order is one omega from the rearrangement p a + n b ≤ p b + n a (n ≤ p, a ≤ b).
--- Provides: `eq-refl`, `_⨟_`, `back` (equality in chains); `at-zero`, `at-one` (0 and 1 at any scale); the ring: `mul-same`, `sub-same`,
--- `mul-comm`, `mul-assoc`, `mul-one`, `one-mul`, `mul-zero`, `mul-add`, `add-mul`, `mul-sub`, `sub-mul`, `sub-neg`, `add-zero`, `add-comm`,
--- `add-assoc`; the order: `lt-or-le`, `lt-le-trans`, `le-lt-trans`, `le-same`, `rearrange`, `mul-le`, `le-mul`, `mul-mono`, `nonneg-mul`,
--- `mul-cancel-le`; from 0 to 1: `unit-zero`, `unit-one`, `unit-same`, `unit-mul`, `unit-rest` (1 - t). Assumes nothing.
+-- Products of fractions: at one scale a product of fractions is a product of naturals, so each ring law is one omega,
+-- and each law of order is one omega from the rearrangement p a + n b ≤ p b + n a (n ≤ p, a ≤ b). Provides: `eq-refl`,
+-- `_⨟_`, `back` (equality in chains); `at-zero`, `at-one` (0 and 1 at any scale); the ring: `mul-same`, `sub-same`,
+-- `mul-comm`, `mul-assoc`, `mul-one`, `one-mul`, `mul-zero`, `mul-add`, `add-mul`, `mul-sub`, `sub-mul`, `sub-neg`,
+-- `add-zero`, `add-comm`, `add-assoc`; the order: `lt-or-le`, `lt-le-trans`, `le-lt-trans`, `le-same`, `rearrange`,
+-- `mul-le`, `le-mul`, `mul-mono`, `nonneg-mul`, `mul-cancel-le`; from 0 to 1: `unit-zero`, `unit-one`, `unit-same`,
+-- `unit-mul`, `unit-rest` (1 - t). Assumes nothing.
 use mathlib.Core.Path.{_≡_, refl, ap, _∙_, subst}
 use mathlib.Core.List.{[], _∷_}
 use mathlib.Core.Logic.{_⊎_, inl, inr, ⊎-elim}
@@ -13,7 +14,20 @@ use native.Mathlib.Nat.{mul-le-mul-right, mul-pos, le-of-mul-le-mul-right}
 use native.Mathlib.Omega.{arith}
 use lib.Dec.{T, ltb, ltb→lt, nltb→le}
 use Rattle.exact.specs.Fraction.{Fraction, over, frac, _≤F_, _<F_, _≈_, negF, _+F_, _-F_, _*F_, Unit01}
-use Rattle.exact.proofs.Scale.{At, at-le, le-at, at-lt, lt-at, at-eq, eq-at, at-more, at-add, at-sub, at-mul, common}
+use Rattle.exact.proofs.Scale.{
+  At,
+  at-le,
+  le-at,
+  at-lt,
+  lt-at,
+  at-eq,
+  eq-at,
+  at-more,
+  at-add,
+  at-sub,
+  at-mul,
+  common,
+}
 use Rattle.exact.proofs.Near.{eq-sym, eq-trans, eq-le, le-trans}
 
 -- ---- equality in chains
@@ -39,10 +53,12 @@ module _ {x x' y y' : Fraction} where
   pub mul-same : x ≈ x' → y ≈ y' → x *F y ≈ x' *F y'
   mul-same h k =
       common (x ∷ x' ∷ y ∷ y' ∷ [])
-      (λ D D0 ((a, b, X), ((p, n, X'), ((c, f, Y), ((q, m, Y'), _)))). at-eq (D * D) (mul-pos D0 D0) (at-mul X Y) (at-mul X' Y')
+      (λ D D0 ((a, b, X), ((p, n, X'), ((c, f, Y), ((q, m, Y'), _)))). at-eq (D * D) (mul-pos D0 D0) (at-mul X Y)
+      (at-mul X' Y')
       (go a b p n c f q m (eq-at D D0 X X' h) (eq-at D D0 Y Y' k)))
     where
-      go : (a b p n c f q m : ℕ) → a + n ≡ p + b → c + m ≡ q + f → a * c + b * f + (p * m + n * q) ≡ p * q + n * m + (a * f + b * c)
+      go : (a b p n c f q m : ℕ) → a + n ≡ p + b → c + m ≡ q + f
+          → a * c + b * f + (p * m + n * q) ≡ p * q + n * m + (a * f + b * c)
       go a b p n c f q m h k =
           let h1 : (a + n) * c ≡ (p + b) * c = ap (λ (z : ℕ). z * c) h in
           let h2 : (a + n) * f ≡ (p + b) * f = ap (λ (z : ℕ). z * f) h in
@@ -59,23 +75,28 @@ module _ {x x' y y' : Fraction} where
 -- ---- the ring
 module _ (x : Fraction) where
   pub mul-one : x *F frac 1 1 ≈ x
-  mul-one = common (x ∷ []) (λ D D0 ((_, _, X), _). at-eq (D * D) (mul-pos D0 D0) (at-mul X (at-one D)) (at-more D D X) (omega arith))
+  mul-one = common (x ∷ []) (λ D D0 ((_, _, X), _). at-eq (D * D) (mul-pos D0 D0) (at-mul X (at-one D)) (at-more D D X)
+      (omega arith))
 
   pub one-mul : frac 1 1 *F x ≈ x
-  one-mul = common (x ∷ []) (λ D D0 ((_, _, X), _). at-eq (D * D) (mul-pos D0 D0) (at-mul (at-one D) X) (at-more D D X) (omega arith))
+  one-mul = common (x ∷ []) (λ D D0 ((_, _, X), _). at-eq (D * D) (mul-pos D0 D0) (at-mul (at-one D) X) (at-more D D X)
+      (omega arith))
 
   pub mul-zero : x *F frac 0 1 ≈ frac 0 1
-  mul-zero = common (x ∷ []) (λ D D0 ((_, _, X), _). at-eq (D * D) (mul-pos D0 D0) (at-mul X (at-zero D)) (at-zero (D * D)) (omega arith))
+  mul-zero = common (x ∷ [])
+      (λ D D0 ((_, _, X), _). at-eq (D * D) (mul-pos D0 D0) (at-mul X (at-zero D)) (at-zero (D * D)) (omega arith))
 
   pub add-zero : x +F frac 0 1 ≈ x
   add-zero = common (x ∷ []) (λ D D0 ((_, _, X), _). at-eq D D0 (at-add X (at-zero D)) X (omega arith))
 
 module _ (x y : Fraction) where
   pub mul-comm : x *F y ≈ y *F x
-  mul-comm = common (x ∷ y ∷ []) (λ D D0 ((_, _, X), ((_, _, Y), _)). at-eq (D * D) (mul-pos D0 D0) (at-mul X Y) (at-mul Y X) (omega arith))
+  mul-comm = common (x ∷ y ∷ [])
+      (λ D D0 ((_, _, X), ((_, _, Y), _)). at-eq (D * D) (mul-pos D0 D0) (at-mul X Y) (at-mul Y X) (omega arith))
 
   pub add-comm : x +F y ≈ y +F x
-  add-comm = common (x ∷ y ∷ []) (λ D D0 ((_, _, X), ((_, _, Y), _)). at-eq D D0 (at-add X Y) (at-add Y X) (omega arith))
+  add-comm = common (x ∷ y ∷ [])
+      (λ D D0 ((_, _, X), ((_, _, Y), _)). at-eq D D0 (at-add X Y) (at-add Y X) (omega arith))
 
   pub sub-neg : x -F y ≈ x +F negF y
   unfolding _-F_
@@ -84,7 +105,8 @@ module _ (x y : Fraction) where
 module _ (x y z : Fraction) where
   -- the same parts, one by one
   pub mul-assoc : x *F y *F z ≈ x *F (y *F z)
-  mul-assoc = subst (λ (w : Fraction). x *F y *F z ≈ w) (λ i. record { plus = parts .0 i; minus = parts .1 i; under = unders i }) (eq-refl (x *F y *F z))
+  mul-assoc = subst (λ (w : Fraction). x *F y *F z ≈ w)
+      (λ i. record { plus = parts .0 i; minus = parts .1 i; under = unders i }) (eq-refl (x *F y *F z))
     where
       parts : ((x *F y *F z) .plus ≡ (x *F (y *F z)) .plus) × ((x *F y *F z) .minus ≡ (x *F (y *F z)) .minus)
       parts = unfold _*F_ in (omega arith, omega arith)
@@ -95,7 +117,8 @@ module _ (x y z : Fraction) where
   pub add-assoc : x +F y +F z ≈ x +F (y +F z)
   add-assoc =
       common (x ∷ y ∷ z ∷ [])
-      (λ D D0 ((_, _, X), ((_, _, Y), ((_, _, Z), _))). at-eq D D0 (at-add (at-add X Y) Z) (at-add X (at-add Y Z)) (omega arith))
+      (λ D D0 ((_, _, X), ((_, _, Y), ((_, _, Z), _))). at-eq D D0 (at-add (at-add X Y) Z) (at-add X (at-add Y Z))
+      (omega arith))
 
   pub mul-add : x *F (y +F z) ≈ x *F y +F x *F z
   mul-add =
@@ -123,7 +146,8 @@ module _ (x y z : Fraction) where
 
 -- ---- the order
 pub lt-or-le : (x y : Fraction) → (x <F y) ⊎ (y ≤F x)
-lt-or-le x y = ⊎-elim (λ h. inl (record { lt = h })) (λ h. inr (record { le = h })) (side (x .plus * over y + y .minus * over x) (y .plus * over x + x .minus * over y))
+lt-or-le x y = ⊎-elim (λ h. inl (record { lt = h })) (λ h. inr (record { le = h }))
+    (side (x .plus * over y + y .minus * over x) (y .plus * over x + x .minus * over y))
   where
     side : (a b : ℕ) → (a < b) ⊎ (b ≤ a)
     side a b = go (ltb a b) (ltb→lt a b) (nltb→le a b)
@@ -137,14 +161,19 @@ le-same {x} {x'} {y} {y'} h k l = le-trans x' x y' (eq-le x' x (back h)) (le-tra
 
 module _ {x y z : Fraction} where
   pub lt-le-trans : x <F y → y ≤F z → x <F z
-  lt-le-trans h k = common (x ∷ y ∷ z ∷ []) (λ D D0 ((_, _, X), ((_, _, Y), ((_, _, Z), _))). let a = lt-at D D0 X Y h in let b = le-at D D0 Y Z k in at-lt D D0 X Z (omega arith))
+  lt-le-trans h k = common (x ∷ y ∷ z ∷ [])
+      (λ D D0 ((_, _, X), ((_, _, Y), ((_, _, Z), _))). let a = lt-at D D0 X Y h in let b = le-at D D0 Y Z k in
+      at-lt D D0 X Z (omega arith))
 
   pub le-lt-trans : x ≤F y → y <F z → x <F z
-  le-lt-trans h k = common (x ∷ y ∷ z ∷ []) (λ D D0 ((_, _, X), ((_, _, Y), ((_, _, Z), _))). let a = le-at D D0 X Y h in let b = lt-at D D0 Y Z k in at-lt D D0 X Z (omega arith))
+  le-lt-trans h k = common (x ∷ y ∷ z ∷ [])
+      (λ D D0 ((_, _, X), ((_, _, Y), ((_, _, Z), _))). let a = le-at D D0 X Y h in let b = lt-at D D0 Y Z k in
+      at-lt D D0 X Z (omega arith))
 
 pub rearrange : (p n a b : ℕ) → n ≤ p → a ≤ b → p * a + n * b ≤ p * b + n * a
 rearrange p n a b h k =
-    go (p - n) n a b (p * a) (p * b) (ap (λ (z : ℕ). z * a) (whole n p h)) (ap (λ (z : ℕ). z * b) (whole n p h)) (mul-le-mul-right (p - n) k)
+    go (p - n) n a b (p * a) (p * b) (ap (λ (z : ℕ). z * a) (whole n p h)) (ap (λ (z : ℕ). z * b) (whole n p h))
+    (mul-le-mul-right (p - n) k)
   where
     whole : (n p : ℕ) → n ≤ p → n + (p - n) ≡ p
     whole n p h = omega arith
@@ -170,7 +199,8 @@ module _ {w x y : Fraction} where
   mul-cancel-le h k =
       common (w ∷ x ∷ y ∷ [])
       (λ D D0 ((a, b, W), ((p, n, X), ((q, m, Y), _))). at-le D D0 X Y
-      (let z = lt-at D D0 (at-zero D) W h in go a b p n q m (omega arith) (le-at (D * D) (mul-pos D0 D0) (at-mul X W) (at-mul Y W) k)))
+      (let z = lt-at D D0 (at-zero D) W h in
+      go a b p n q m (omega arith) (le-at (D * D) (mul-pos D0 D0) (at-mul X W) (at-mul Y W) k)))
     where
       above : (b a : ℕ) → b < a → 0 < a - b
       above b a h = omega arith
@@ -183,9 +213,11 @@ module _ {w x y : Fraction} where
 
       go : (a b p n q m : ℕ) → b < a → p * a + n * b + (q * b + m * a) ≤ q * a + m * b + (p * b + n * a) → p + m ≤ q + n
       go a b p n q m h k =
-          le-of-mul-le-mul-right (last (a * (p + m)) (a * (q + n)) b p n q m ((p + m) * (a - b)) ((q + n) * (a - b)) (omega arith) (split b a (p + m) h) (split b a (q + n) h)) (above b a h)
+          le-of-mul-le-mul-right (last (a * (p + m)) (a * (q + n)) b p n q m ((p + m) * (a - b)) ((q + n) * (a - b))
+          (omega arith) (split b a (p + m) h) (split b a (q + n) h)) (above b a h)
         where
-          last : (l r b p n q m s t : ℕ) → l + b * (n + q) ≤ r + b * (m + p) → l ≡ b * (p + m) + s → r ≡ b * (q + n) + t → s ≤ t
+          last : (l r b p n q m s t : ℕ) → l + b * (n + q) ≤ r + b * (m + p) → l ≡ b * (p + m) + s
+              → r ≡ b * (q + n) + t → s ≤ t
           last l r b p n q m s t h u v = omega arith
 
 pub mul-mono : {x x' y y' : Fraction} → frac 0 1 ≤F x → frac 0 1 ≤F y' → x ≤F x' → y ≤F y' → x *F y ≤F x' *F y'
@@ -205,12 +237,17 @@ pub unit-same : {x y : Fraction} → x ≈ y → Unit01 x → Unit01 y
 unit-same h u = (le-same (eq-refl (frac 0 1)) h (u .0), le-same h (eq-refl (frac 1 1)) (u .1))
 
 pub unit-mul : {x y : Fraction} → Unit01 x → Unit01 y → Unit01 (x *F y)
-unit-mul {x} {y} h k = (nonneg-mul (h .0) (k .0), le-same (eq-refl (x *F y)) (mul-one (frac 1 1)) (mul-mono (h .0) (unit-one .0) (h .1) (k .1)))
+unit-mul {x} {y} h k = (
+  nonneg-mul (h .0) (k .0),
+  le-same (eq-refl (x *F y)) (mul-one (frac 1 1)) (mul-mono (h .0) (unit-one .0) (h .1) (k .1)),
+)
 
 pub unit-rest : {t : Fraction} → Unit01 t → Unit01 (frac 1 1 -F t)
 unit-rest {t} h =
     common (t ∷ [])
     (λ D D0 ((_, _, X), _).
     let a = le-at D D0 (at-zero D) X (h .0) in
-    let b = le-at D D0 X (at-one D) (h .1) in
-    (at-le D D0 (at-zero D) (at-sub (at-one D) X) (omega arith), at-le D D0 (at-sub (at-one D) X) (at-one D) (omega arith)))
+    let b = le-at D D0 X (at-one D) (h .1) in (
+      at-le D D0 (at-zero D) (at-sub (at-one D) X) (omega arith),
+      at-le D D0 (at-sub (at-one D) X) (at-one D) (omega arith),
+    ))

@@ -1,7 +1,8 @@
--- Powers of two as bounds: 2 ^ -k and 2 ^ n are whole numbers of a format's units, so rounding keeps what lies from one to the other there, and the error is
--- relative between them.
--- Provides: `power-mono`, `least-power`, `most-power` (2 ^ -k and 2 ^ n in units), `least-mul`, `most-mul` (their products), `part-pos`, `abs-grow`; of `Rounds f r X`: `rounds-least` (not
--- below 2 ^ K units where X is not), `rounds-range` (finite, from 2 ^ -k to 2 ^ n, and X times a factor within 2 ^ -prec of 1). Assumes nothing.
+-- Powers of two as bounds: 2 ^ -k and 2 ^ n are whole numbers of a format's units, so rounding keeps what lies from one
+-- to the other there, and the error is relative between them. Provides: `power-mono`, `least-power`, `most-power` (2 ^
+-- -k and 2 ^ n in units), `least-mul`, `most-mul` (their products), `part-pos`, `abs-grow`; of `Rounds f r X`:
+-- `rounds-least` (not below 2 ^ K units where X is not), `rounds-range` (finite, from 2 ^ -k to 2 ^ n, and X times a
+-- factor within 2 ^ -prec of 1). Assumes nothing.
 use mathlib.Core.Path.{_≡_, sym, ap, _∙_, subst}
 use mathlib.Core.Bool.{false}
 use Prim.Native.Nat.{ℕ, suc, _+_, _-_, _*_, _^_, _≤_, _<_}
@@ -31,7 +32,8 @@ level h = omega arith
 
 module _ (f : Format) where
   pub power-mono : (i j : ℕ) → i ≤ j → power f i ≤F power f j
-  power-mono i j h = signed-le false (2 ^ i) (2 ^ low f) false (2 ^ j) (2 ^ low f) (pow-pos (low f)) (pow-pos (low f)) (plain (mul-le-mul-right (2 ^ low f) (pow-mono h)))
+  power-mono i j h = signed-le false (2 ^ i) (2 ^ low f) false (2 ^ j) (2 ^ low f) (pow-pos (low f)) (pow-pos (low f))
+      (plain (mul-le-mul-right (2 ^ low f) (pow-mono h)))
 
   pub least-power : (k : ℕ) → k ≤ low f → frac 1 (2 ^ k) ≈ power f (low f - k)
   least-power k h =
@@ -48,14 +50,18 @@ module _ (f : Format) where
 
 pub least-mul : (i j : ℕ) → frac 1 (2 ^ i) *F frac 1 (2 ^ j) ≈ frac 1 (2 ^ (i + j))
 least-mul i j =
-    at-eq (2 ^ i * 2 ^ j) (mul-pos (pow-pos i) (pow-pos j)) (at-mul (at-ratio 1 0 (2 ^ i) (pow-pos i)) (at-ratio 1 0 (2 ^ j) (pow-pos j))) (at-there (2 ^ (i + j)) (2 ^ i * 2 ^ j) (pow-add 2 i j) (pow-pos (i + j))) (omega arith)
+    at-eq (2 ^ i * 2 ^ j) (mul-pos (pow-pos i) (pow-pos j))
+    (at-mul (at-ratio 1 0 (2 ^ i) (pow-pos i)) (at-ratio 1 0 (2 ^ j) (pow-pos j)))
+    (at-there (2 ^ (i + j)) (2 ^ i * 2 ^ j) (pow-add 2 i j) (pow-pos (i + j))) (omega arith)
   where
     at-there : (a b : ℕ) → a ≡ b → 0 < a → At b (frac 1 a) 1 0
     at-there a b e h = subst (λ (z : ℕ). At z (frac 1 a) 1 0) e (at-ratio 1 0 a h)
 
 pub most-mul : (i j : ℕ) → frac (2 ^ i) 1 *F frac (2 ^ j) 1 ≈ frac (2 ^ (i + j)) 1
 most-mul i j =
-    at-eq (1 * 1) (zero-lt-suc 0) (at-mul (at-ratio (2 ^ i) 0 1 (zero-lt-suc 0)) (at-ratio (2 ^ j) 0 1 (zero-lt-suc 0))) (at-ratio (2 ^ (i + j)) 0 1 (zero-lt-suc 0)) (go (2 ^ i) (2 ^ j) (2 ^ (i + j)) (pow-add 2 i j))
+    at-eq (1 * 1) (zero-lt-suc 0)
+    (at-mul (at-ratio (2 ^ i) 0 1 (zero-lt-suc 0)) (at-ratio (2 ^ j) 0 1 (zero-lt-suc 0)))
+    (at-ratio (2 ^ (i + j)) 0 1 (zero-lt-suc 0)) (go (2 ^ i) (2 ^ j) (2 ^ (i + j)) (pow-add 2 i j))
   where
     go : (a b c : ℕ) → c ≡ a * b → a * b + 0 * 0 + 0 ≡ c + (a * 0 + 0 * b)
     go a b c e = omega arith
@@ -78,7 +84,8 @@ module _ {f : Format} {r : Float} {X : Fraction} (R : Rounds f r X) where
       let Q = rounds-self f false (2 ^ K) L (pow-pos (low f)) in
       let w = rounds-fixed Q false 1 K (pow-pos (prec f)) under own in
       le-trans (power f K) (absF (value q)) (absF (value r))
-      (le-trans (power f K) (value q) (absF (value q)) (eq-le (power f K) (value q) (eq-sym (value q) (power f K) (w .1))) (abs-grow (value q)))
+      (le-trans (power f K) (value q) (absF (value q))
+      (eq-le (power f K) (value q) (eq-sym (value q) (power f K) (w .1))) (abs-grow (value q)))
       (rounds-abs Q R (w .0) t (le-trans (absF (power f K)) (power f K) (absF X) (abs-self (power f K) nonneg) h))
     where
       up : (K l e : ℕ) → K ≤ l + e → K < l + suc e
@@ -97,17 +104,25 @@ module _ {f : Format} {r : Float} {X : Fraction} (R : Rounds f r X) where
           go a b = omega arith
 
   -- X from 2 ^ -k to 2 ^ n, in the range of full precision
-  pub rounds-range : (k n : ℕ) → prec f - 1 + k ≤ low f → n ≤ emax f → frac 1 (2 ^ k) ≤F absF X → absF X ≤F frac (2 ^ n) 1
-      → T (finite r) × Factor (value r) X (frac 1 (2 ^ prec f)) × (frac 1 (2 ^ k) ≤F absF (value r)) × (absF (value r) ≤F frac (2 ^ n) 1)
+  pub rounds-range : (k n : ℕ) → prec f - 1 + k ≤ low f → n ≤ emax f → frac 1 (2 ^ k) ≤F absF X
+      → absF X ≤F frac (2 ^ n) 1
+      → T (finite r) × Factor (value r) X (frac 1 (2 ^ prec f)) × (frac 1 (2 ^ k) ≤F absF (value r))
+      × (absF (value r) ≤F frac (2 ^ n) 1)
   rounds-range k n normal top h g =
       let lo = least-power f k (small (prec f - 1) k (low f) normal) in
       let hi = most-power f n in
       let least : power f (low f - k) ≤F absF X = le-same lo (eq-refl (absF X)) h in
-      let c : Close r X (half-ulp f (low f + n)) (power f (low f + n)) = rounds-within R (low f + n) (more (low f) n (emax f) top) (le-same (eq-refl (absF X)) hi g) in (
+      let c : Close r X (half-ulp f (low f + n)) (power f (low f + n)) =
+      rounds-within R (low f + n) (more (low f) n (emax f) top) (le-same (eq-refl (absF X)) hi g) in (
         c .number,
-        factor-near (value r) X (frac 1 (2 ^ prec f)) (lt-le (frac 0 1) (frac 1 (2 ^ prec f)) (part-pos (2 ^ prec f) (pow-pos (prec f)))) (lt-le-trans (part-pos (2 ^ k) (pow-pos k)) h)
-            (rounds-normal R (c .number) (le-trans (power f (prec f - 1)) (power f (low f - k)) (absF X) (power-mono f (prec f - 1) (low f - k) (room (prec f - 1) k (low f) normal)) least)),
-        le-same (back lo) (eq-refl (absF (value r))) (rounds-least (low f - k) (fewer (low f) k (emax f)) least (c .number)),
+        factor-near (value r) X (frac 1 (2 ^ prec f))
+            (lt-le (frac 0 1) (frac 1 (2 ^ prec f)) (part-pos (2 ^ prec f) (pow-pos (prec f))))
+            (lt-le-trans (part-pos (2 ^ k) (pow-pos k)) h)
+            (rounds-normal R (c .number)
+            (le-trans (power f (prec f - 1)) (power f (low f - k)) (absF X)
+            (power-mono f (prec f - 1) (low f - k) (room (prec f - 1) k (low f) normal)) least)),
+        le-same (back lo) (eq-refl (absF (value r)))
+            (rounds-least (low f - k) (fewer (low f) k (emax f)) least (c .number)),
         le-same (eq-refl (absF (value r))) (back hi) (c .small),
       )
     where

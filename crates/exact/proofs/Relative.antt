@@ -1,7 +1,8 @@
--- Relative errors of products: a float is its exact value times a factor near 1, factors multiply, and each rounding in the normal range is one factor more. So
--- the errors of powers and monomials count roundings, whatever their size.
--- Provides, of `Relative r X m k` (specs/Sums): `relative-own` (a coordinate), `relative-one`, `relative-mul`, `relative-more`, `relative-along`; `relative-near` (the
--- distance), `relative-within` (of a product with any other factor). Assumes nothing.
+-- Relative errors of products: a float is its exact value times a factor near 1, factors multiply, and each rounding in
+-- the normal range is one factor more. So the errors of powers and monomials count roundings, whatever their size.
+-- Provides, of `Relative r X m k` (specs/Sums): `relative-own` (a coordinate), `relative-one`, `relative-mul`,
+-- `relative-more`, `relative-along`; `relative-near` (the distance), `relative-within` (of a product with any other
+-- factor). Assumes nothing.
 use mathlib.Core.Path.{_≡_, subst}
 use mathlib.Core.Bool.{false}
 use Prim.Native.Nat.{ℕ, _+_, _*_, _^_, _≤_, _<_}
@@ -30,7 +31,8 @@ parts-le a b d D h = signed-le false a d false b d D D (go (mul-le-mul-right d h
 
 -- ---- where a chain starts
 module _ (x : Float) (t : T (finite x)) where
-  pub relative-own : (k : ℕ) → frac 1 (2 ^ k) ≤F absF (value x) → absF (value x) ≤F frac (2 ^ (21 * k)) 1 → Relative x (value x) 0 k
+  pub relative-own : (k : ℕ) → frac 1 (2 ^ k) ≤F absF (value x) → absF (value x) ≤F frac (2 ^ (21 * k)) 1
+      → Relative x (value x) 0 k
   relative-own k h g = record {
     number = t;
     factor = frac 1 1;
@@ -43,7 +45,8 @@ module _ (x : Float) (t : T (finite x)) where
 -- 1.0
 pub relative-one : Relative (ofBits binary64 0x3ff0_0000_0000_0000) (frac 1 1) 0 0
 unfolding ofBits absF
-relative-one = relative-own (ofBits binary64 0x3ff0_0000_0000_0000) tt 0 (record { le = lit≤ tt }) (record { le = lit≤ tt })
+relative-one = relative-own (ofBits binary64 0x3ff0_0000_0000_0000) tt 0 (record { le = lit≤ tt })
+    (record { le = lit≤ tt })
 
 module _ {r : Float} {X : Fraction} {m k : ℕ} (R : Relative r X m k) where
   pub relative-more : (n : ℕ) → m ≤ n → Relative r X n k
@@ -51,13 +54,21 @@ module _ {r : Float} {X : Fraction} {m k : ℕ} (R : Relative r X m k) where
     number = R .number;
     factor = R .factor;
     is = R .is;
-    near = within-more (R .factor) (frac 1 1) (frac m (2 ^ 53)) (frac n (2 ^ 53)) (parts-le m n (2 ^ 53) (pow-pos 53) h) (R .near);
+    near = within-more (R .factor) (frac 1 1) (frac m (2 ^ 53)) (frac n (2 ^ 53))
+        (parts-le m n (2 ^ 53) (pow-pos 53) h) (R .near);
     least = R .least;
     most = R .most;
   }
 
   pub relative-along : {Y : Fraction} → X ≈ Y → Relative r Y m k
-  relative-along e = record { number = R .number; factor = R .factor; is = R .is ⨟ mul-same e (eq-refl (R .factor)); near = R .near; least = R .least; most = R .most }
+  relative-along e = record {
+    number = R .number;
+    factor = R .factor;
+    is = R .is ⨟ mul-same e (eq-refl (R .factor));
+    near = R .near;
+    least = R .least;
+    most = R .most;
+  }
 
   pub relative-near : Within (value r) X (absF X *F frac m (2 ^ 53))
   relative-near =
@@ -67,7 +78,8 @@ module _ {r : Float} {X : Fraction} {m k : ℕ} (R : Relative r X m k) where
   -- with any other factor c, whose product with X is at most b in size
   pub relative-within : (c b : Fraction) → absF (X *F c) ≤F b → Within (value r *F c) (X *F c) (b *F frac m (2 ^ 53))
   relative-within c b h =
-      within-like (back (mul-same (R .is) (eq-refl c) ⨟ swap X (R .factor) c)) (mul-one (X *F c)) (eq-refl (b *F frac m (2 ^ 53)))
+      within-like (back (mul-same (R .is) (eq-refl c) ⨟ swap X (R .factor) c)) (mul-one (X *F c))
+      (eq-refl (b *F frac m (2 ^ 53)))
       (mul-within (R .factor) (frac 1 1) (frac m (2 ^ 53)) (X *F c) b h (R .near))
     where
       swap : (x y z : Fraction) → x *F y *F z ≈ x *F z *F y
@@ -82,8 +94,10 @@ module _ {x y : Float} {X Y : Fraction} {m n i j : ℕ} (A : Relative x X m i) (
       record {
         number = w .0;
         factor = A .factor *F B .factor *F w .1 .0;
-        is = w .1 .1 ⨟ mul-same (mul-same (A .is) (B .is)) (eq-refl (w .1 .0)) ⨟ regroup X (A .factor) Y (B .factor) (w .1 .0);
-        near = near-three (2 ^ 53) m n (pow-pos 53) (tiny (2 ^ 53) m n (lit≤ tt) M N) (A .factor) (B .factor) (w .1 .0) (A .near) (B .near) (w .1 .2);
+        is = w .1 .1 ⨟ mul-same (mul-same (A .is) (B .is)) (eq-refl (w .1 .0)) ⨟ regroup X (A .factor) Y (B .factor)
+            (w .1 .0);
+        near = near-three (2 ^ 53) m n (pow-pos 53) (tiny (2 ^ 53) m n (lit≤ tt) M N) (A .factor) (B .factor) (w .1 .0)
+            (A .near) (B .near) (w .1 .2);
         least = w .2;
         most = w .3;
       }
@@ -95,11 +109,15 @@ module _ {x y : Float} {X Y : Fraction} {m n i j : ℕ} (A : Relative x X m i) (
       top i j h = omega arith
 
       least : frac 1 (2 ^ (i + j)) ≤F absF (value x *F value y)
-      least = le-same (least-mul i j) (eq-refl (absF (value x *F value y))) (abs-least (value x) (value y) (frac 1 (2 ^ i)) (frac 1 (2 ^ j)) (lt-le (frac 0 1) (frac 1 (2 ^ i)) (part-pos (2 ^ i) (pow-pos i))) (abs-nonneg (value y) (absF (value y)) (le-refl (absF (value y)) (absF (value y)))) (A .least) (B .least))
+      least = le-same (least-mul i j) (eq-refl (absF (value x *F value y)))
+          (abs-least (value x) (value y) (frac 1 (2 ^ i)) (frac 1 (2 ^ j))
+          (lt-le (frac 0 1) (frac 1 (2 ^ i)) (part-pos (2 ^ i) (pow-pos i)))
+          (abs-nonneg (value y) (absF (value y)) (le-refl (absF (value y)) (absF (value y)))) (A .least) (B .least))
 
       most : absF (value x *F value y) ≤F frac (2 ^ (21 * (i + j))) 1
       most =
-          le-same (eq-refl (absF (value x *F value y))) (most-mul (21 * i) (21 * j) ⨟ powers (21 * i + 21 * j) (21 * (i + j)) (omega arith))
+          le-same (eq-refl (absF (value x *F value y)))
+          (most-mul (21 * i) (21 * j) ⨟ powers (21 * i + 21 * j) (21 * (i + j)) (omega arith))
           (abs-mul (value x) (value y) (frac (2 ^ (21 * i)) 1) (frac (2 ^ (21 * j)) 1) (A .most) (B .most))
         where
           powers : (a b : ℕ) → a ≡ b → frac (2 ^ a) 1 ≈ frac (2 ^ b) 1
@@ -119,4 +137,6 @@ module _ {x y : Float} {X Y : Fraction} {m n i j : ℕ} (A : Relative x X m i) (
         where
           swap4 : (x a y b : Fraction) → x *F a *F (y *F b) ≈ x *F y *F (a *F b)
           swap4 x a y b =
-              mul-assoc x a (y *F b) ⨟ mul-same (eq-refl x) (back (mul-assoc a y b) ⨟ mul-same (mul-comm a y) (eq-refl b) ⨟ mul-assoc y a b) ⨟ back (mul-assoc x y (a *F b))
+              mul-assoc x a (y *F b) ⨟ mul-same (eq-refl x)
+              (back (mul-assoc a y b) ⨟ mul-same (mul-comm a y) (eq-refl b) ⨟ mul-assoc y a b) ⨟ back
+              (mul-assoc x y (a *F b))

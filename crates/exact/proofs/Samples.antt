@@ -1,7 +1,8 @@
--- Samples from 0 to 1, step by step: one rounding of a value from 0 to 1 keeps it there and adds half a unit of 2 ^ -24; a product of two such values adds
--- their errors. Errors are counted in halves of a unit, so that a chain's error is a sum of numerals.
--- Provides: `halves`, `at-halves`, `halves-add`, `halves-le`, `halves-nonneg`, `halves-units`; of `one` and `start`: `one-number`, `one-value`, `start-number`, `start-value`;
--- `sample-own`, `sample-more`, `sample-along`, `sample-round`, `sample-rest` (1 - t), `sample-mul`. Assumes nothing.
+-- Samples from 0 to 1, step by step: one rounding of a value from 0 to 1 keeps it there and adds half a unit of 2 ^
+-- -24; a product of two such values adds their errors. Errors are counted in halves of a unit, so that a chain's error
+-- is a sum of numerals. Provides: `halves`, `at-halves`, `halves-add`, `halves-le`, `halves-nonneg`, `halves-units`; of
+-- `one` and `start`: `one-number`, `one-value`, `start-number`, `start-value`; `sample-own`, `sample-more`,
+-- `sample-along`, `sample-round`, `sample-rest` (1 - t), `sample-mul`. Assumes nothing.
 use mathlib.Core.Path.{refl}
 use Prim.Native.Nat.{ℕ, _+_, _*_, _^_, _≤_, _<_}
 use native.Mathlib.Omega.{arith}
@@ -66,7 +67,11 @@ start-value = record { eq = refl }
 
 -- ---- from sample to sample
 pub sample-own : {r : Float} → Unit32 r → Sample r (value r) (halves 0)
-sample-own {r} u = record { is = u; near = within-same (value r) (value r) (halves 0) (eq-refl (value r)) (halves-nonneg 0) }
+sample-own {r} u = record {
+  is = u;
+  near = within-same (value r) (value r) (halves 0) (eq-refl (value r))
+      (halves-nonneg 0);
+}
 
 pub sample-more : {r : Float} {X e f : Fraction} → e ≤F f → Sample r X e → Sample r X f
 sample-more {r} {X} {e} {f} h s = record { is = s .is; near = within-more (value r) X e f h (s .near) }
@@ -75,10 +80,12 @@ pub sample-along : {r : Float} {X Y e f : Fraction} → X ≈ Y → e ≈ f → 
 sample-along {r} h k s = record { is = s .is; near = within-like (eq-refl (value r)) h k (s .near) }
 
 -- r is Y rounded once, and Y is near X
-pub sample-round : {r : Float} {Y X : Fraction} (n : ℕ) → Rounds binary32 r Y → Unit01 Y → Within Y X (halves n) → Sample r X (halves (1 + n))
+pub sample-round : {r : Float} {Y X : Fraction} (n : ℕ) → Rounds binary32 r Y → Unit01 Y → Within Y X (halves n)
+    → Sample r X (halves (1 + n))
 sample-round {r} {Y} {X} n R u w = record {
   is = record { number = rounds-unit R u .0; held = rounds-fits R; unit = rounds-unit R u .1 };
-  near = within-like (eq-refl (value r)) (eq-refl X) (halves-add 1 n) (within-trans (value r) Y X (halves 1) (halves n) half w);
+  near = within-like (eq-refl (value r)) (eq-refl X) (halves-add 1 n)
+      (within-trans (value r) Y X (halves 1) (halves n) half w);
 }
   where
     half : Within (value r) Y (halves 1)
@@ -87,11 +94,14 @@ sample-round {r} {Y} {X} n R u w = record {
 pub sample-rest : (t : Float) → Unit32 t → Sample (one ⊖ t) (frac 1 1 -F value t) (halves 1)
 sample-rest t u =
     let Y : Fraction = frac 1 1 -F value t in
-    sample-round 0 (rounds-along (sub-same one-value (eq-refl (value t))) (sub-rounds binary32 one t one-number (u .number))) (unit-rest (u .unit))
+    sample-round 0 (rounds-along (sub-same one-value (eq-refl (value t)))
+    (sub-rounds binary32 one t one-number (u .number))) (unit-rest (u .unit))
     (within-same Y Y (halves 0) (eq-refl Y) (halves-nonneg 0))
 
-pub sample-mul : {a b : Float} {X Y : Fraction} (m n : ℕ) → Unit01 X → Sample a X (halves m) → Sample b Y (halves n) → Sample (a ⊗ b) (X *F Y) (halves (1 + (m + n)))
+pub sample-mul : {a b : Float} {X Y : Fraction} (m n : ℕ) → Unit01 X → Sample a X (halves m) → Sample b Y (halves n)
+    → Sample (a ⊗ b) (X *F Y) (halves (1 + (m + n)))
 sample-mul {a} {b} {X} {Y} m n u s r =
-    sample-round (m + n) (mul-rounds binary32 a b (s .is .number) (r .is .number)) (unit-mul (s .is .unit) (r .is .unit))
+    sample-round (m + n) (mul-rounds binary32 a b (s .is .number) (r .is .number))
+    (unit-mul (s .is .unit) (r .is .unit))
     (within-like (eq-refl (value a *F value b)) (eq-refl (X *F Y)) (halves-add m n)
     (within-mul-unit (value a) X (value b) Y (halves m) (halves n) u (r .is .unit) (s .near) (r .near)))

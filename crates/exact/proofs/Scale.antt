@@ -1,11 +1,25 @@
--- The working form of a fraction: `At D x p n` says that x is (p - n) / D. At one scale D the order of fractions is an order
--- of naturals, sums are sums and products are products, so a linear fact about fractions is one omega about naturals.
--- Provides: `at-le`, `le-at`, `at-lt`, `lt-at`, `at-eq`, `eq-at` (both ways), `at-own`, `at-more`, `at-ratio`, `at-neg`, `at-add`,
--- `at-sub`, `at-mul`, and `common`, one scale for a list of fractions. Assumes nothing.
+-- The working form of a fraction: `At D x p n` says that x is (p - n) / D. At one scale D the order of fractions is an
+-- order of naturals, sums are sums and products are products, so a linear fact about fractions is one omega about
+-- naturals. Provides: `at-le`, `le-at`, `at-lt`, `lt-at`, `at-eq`, `eq-at` (both ways), `at-own`, `at-more`,
+-- `at-ratio`, `at-neg`, `at-add`, `at-sub`, `at-mul`, and `common`, one scale for a list of fractions. Assumes nothing.
 use mathlib.Core.Path.{_≡_, refl, sym, ap, _∙_, subst}
 use mathlib.Core.List.{List, [], _∷_}
 use Prim.Native.Nat.{ℕ, suc, _+_, _-_, _*_, _≤_, _<_}
-use native.Mathlib.Nat.{mul-pos, mul-le-mul-right, mul-lt-mul-of-pos-right, le-of-mul-le-mul-right, eq-of-mul-eq-mul-right, zero-lt-suc, mul-comm, le-of-eq, le-antisymm, lt-of-not-le, not-le-of-lt, lt-irrefl, le-trans}
+use native.Mathlib.Nat.{
+  mul-pos,
+  mul-le-mul-right,
+  mul-lt-mul-of-pos-right,
+  le-of-mul-le-mul-right,
+  eq-of-mul-eq-mul-right,
+  zero-lt-suc,
+  mul-comm,
+  le-of-eq,
+  le-antisymm,
+  lt-of-not-le,
+  not-le-of-lt,
+  lt-irrefl,
+  le-trans,
+}
 use native.Mathlib.Omega.{arith}
 use Rattle.exact.specs.Fraction.{Fraction, over, ratio, _≤F_, _<F_, _≈_, both, negF, _+F_, _-F_, _*F_}
 
@@ -19,14 +33,16 @@ times : (k : ℕ) {a b : ℕ} → a ≡ b → a * k ≡ b * k
 times k e = ap (λ (z : ℕ). z * k) e
 
 -- ---- the order, both ways
-cross-le : (D p n q m a b d c f e : ℕ) → a * D + n * d ≡ p * d + b * D → c * D + m * e ≡ q * e + f * D → p + m ≤ q + n → (a * e + f * d) * D ≤ (c * d + b * e) * D
+cross-le : (D p n q m a b d c f e : ℕ) → a * D + n * d ≡ p * d + b * D → c * D + m * e ≡ q * e + f * D → p + m ≤ q + n
+    → (a * e + f * d) * D ≤ (c * d + b * e) * D
 cross-le D p n q m a b d c f e x y h =
     let x' : (a * D + n * d) * e ≡ (p * d + b * D) * e = times e x in
     let y' : (c * D + m * e) * d ≡ (q * e + f * D) * d = times d y in
     let h' : (p + m) * (d * e) ≤ (q + n) * (d * e) = mul-le-mul-right (d * e) h in
     omega arith
 
-uncross-le : (D p n q m a b d c f e : ℕ) → a * D + n * d ≡ p * d + b * D → c * D + m * e ≡ q * e + f * D → a * e + f * d ≤ c * d + b * e → (p + m) * (d * e) ≤ (q + n) * (d * e)
+uncross-le : (D p n q m a b d c f e : ℕ) → a * D + n * d ≡ p * d + b * D → c * D + m * e ≡ q * e + f * D
+    → a * e + f * d ≤ c * d + b * e → (p + m) * (d * e) ≤ (q + n) * (d * e)
 uncross-le D p n q m a b d c f e x y h =
     let x' : (a * D + n * d) * e ≡ (p * d + b * D) * e = times e x in
     let y' : (c * D + m * e) * d ≡ (q * e + f * D) * d = times d y in
@@ -35,7 +51,10 @@ uncross-le D p n q m a b d c f e x y h =
 
 module _ (D : ℕ) (D0 : 0 < D) {x y : Fraction} {p n q m : ℕ} (X : At D x p n) (Y : At D y q m) where
   pub at-le : p + m ≤ q + n → x ≤F y
-  at-le h = record { le = le-of-mul-le-mul-right (cross-le D p n q m (x .plus) (x .minus) (over x) (y .plus) (y .minus) (over y) (X .at) (Y .at) h) D0 }
+  at-le h = record {
+    le = le-of-mul-le-mul-right
+        (cross-le D p n q m (x .plus) (x .minus) (over x) (y .plus) (y .minus) (over y) (X .at) (Y .at) h) D0;
+  }
 
   pub le-at : x ≤F y → p + m ≤ q + n
   le-at h =
@@ -45,7 +64,8 @@ module _ (D : ℕ) (D0 : 0 < D) {x y : Fraction} {p n q m : ℕ} (X : At D x p n
 
   pub at-lt : p + m < q + n → x <F y
   at-lt h = record {
-    lt = lt-of-not-le (λ (g : y .plus * over x + x .minus * over y ≤ x .plus * over y + y .minus * over x). not-le-of-lt h
+    lt = lt-of-not-le (λ (g : y .plus * over x + x .minus * over y ≤ x .plus * over y + y .minus * over x).
+        not-le-of-lt h
         (le-of-mul-le-mul-right
         (uncross-le D q m p n (y .plus) (y .minus) (over y) (x .plus) (x .minus) (over x) (Y .at) (X .at) g)
         (mul-pos (over-pos y) (over-pos x))));
@@ -53,19 +73,22 @@ module _ (D : ℕ) (D0 : 0 < D) {x y : Fraction} {p n q m : ℕ} (X : At D x p n
 
   pub lt-at : x <F y → p + m < q + n
   lt-at h = lt-of-not-le (λ (g : q + n ≤ p + m). not-le-of-lt (h .lt)
-      (le-of-mul-le-mul-right (cross-le D q m p n (y .plus) (y .minus) (over y) (x .plus) (x .minus) (over x) (Y .at) (X .at) g) D0))
+      (le-of-mul-le-mul-right (cross-le D q m p n (y .plus) (y .minus) (over y) (x .plus) (x .minus) (over x) (Y .at)
+      (X .at) g) D0))
 
   pub at-eq : p + m ≡ q + n → x ≈ y
   at-eq h = record {
     eq = le-antisymm
         (at-le (le-of-eq h) .le)
-        (le-of-mul-le-mul-right (cross-le D q m p n (y .plus) (y .minus) (over y) (x .plus) (x .minus) (over x) (Y .at) (X .at) (le-of-eq (sym h))) D0);
+        (le-of-mul-le-mul-right (cross-le D q m p n (y .plus) (y .minus) (over y) (x .plus) (x .minus) (over x) (Y .at)
+        (X .at) (le-of-eq (sym h))) D0);
   }
 
   pub eq-at : x ≈ y → p + m ≡ q + n
   eq-at h = le-antisymm (le-at (record { le = le-of-eq (h .eq) }))
       (le-of-mul-le-mul-right
-      (uncross-le D q m p n (y .plus) (y .minus) (over y) (x .plus) (x .minus) (over x) (Y .at) (X .at) (le-of-eq (sym (h .eq))))
+      (uncross-le D q m p n (y .plus) (y .minus) (over y) (x .plus) (x .minus) (over x) (Y .at) (X .at)
+      (le-of-eq (sym (h .eq))))
       (mul-pos (over-pos y) (over-pos x)))
 
 -- ---- where a scale comes from
@@ -85,7 +108,8 @@ pub at-ratio : (p m d : ℕ) → 0 < d → At d (ratio p m d) p m
 at-ratio p m d h = record { at = go p m d (suc (d - 1)) (omega arith) }
   where
     go : (p m d d' : ℕ) → d' ≡ d → p * d + m * d' ≡ p * d' + m * d
-    go p m d d' e = let a : p * d' ≡ p * d = ap (λ (z : ℕ). p * z) e in let b : m * d' ≡ m * d = ap (λ (z : ℕ). m * z) e in omega arith
+    go p m d d' e = let a : p * d' ≡ p * d = ap (λ (z : ℕ). p * z) e in let b : m * d' ≡ m * d =
+        ap (λ (z : ℕ). m * z) e in omega arith
 
 -- ---- the operations at a scale
 pub at-neg : {D : ℕ} {x : Fraction} {p n : ℕ} → At D x p n → At D (negF x) n p
@@ -97,10 +121,12 @@ at-neg {D} {x} {p} {n} X = record { at = go (x .plus) (x .minus) (over x) D p n 
 
 pub at-add : {D : ℕ} {x y : Fraction} {p n q m : ℕ} → At D x p n → At D y q m → At D (x +F y) (p + q) (n + m)
 unfolding _+F_
-at-add {D} {x} {y} {p} {n} {q} {m} X Y = record { at = go (x .plus) (x .minus) (x .under) (y .plus) (y .minus) (y .under) D p n q m (X .at) (Y .at) }
+at-add {D} {x} {y} {p} {n} {q} {m} X Y =
+    record { at = go (x .plus) (x .minus) (x .under) (y .plus) (y .minus) (y .under) D p n q m (X .at) (Y .at) }
   where
     go : (a b u c f v D p n q m : ℕ) → a * D + n * suc u ≡ p * suc u + b * D → c * D + m * suc v ≡ q * suc v + f * D
-        → (a * suc v + c * suc u) * D + (n + m) * suc (both u v) ≡ (p + q) * suc (both u v) + (b * suc v + f * suc u) * D
+        → (a * suc v + c * suc u) * D + (n + m) * suc (both u v) ≡ (p + q) * suc (both u v) + (b * suc v + f * suc u) *
+        D
     go a b u c f v D p n q m h k =
         let h' : (a * D + n * suc u) * suc v ≡ (p * suc u + b * D) * suc v = times (suc v) h in
         let k' : (c * D + m * suc v) * suc u ≡ (q * suc v + f * D) * suc u = times (suc u) k in
@@ -111,7 +137,8 @@ unfolding _-F_
 at-sub X Y = at-add X (at-neg Y)
 
 -- (a - b) (c - f) = (p - n) (q - m) from a - b = p - n and c - f = q - m
-products : (a b c f p n q m : ℕ) → a + n ≡ p + b → c + m ≡ q + f → a * c + b * f + (p * m + n * q) ≡ p * q + n * m + (a * f + b * c)
+products : (a b c f p n q m : ℕ) → a + n ≡ p + b → c + m ≡ q + f
+    → a * c + b * f + (p * m + n * q) ≡ p * q + n * m + (a * f + b * c)
 products a b c f p n q m h k =
     let h1 : (a + n) * c ≡ (p + b) * c = times c h in
     let h2 : (a + n) * f ≡ (p + b) * f = times f h in
@@ -119,15 +146,20 @@ products a b c f p n q m h k =
     let k2 : (c + m) * n ≡ (q + f) * n = times n k in
     omega arith
 
-pub at-mul : {D E : ℕ} {x y : Fraction} {p n q m : ℕ} → At D x p n → At E y q m → At (D * E) (x *F y) (p * q + n * m) (p * m + n * q)
+pub at-mul : {D E : ℕ} {x y : Fraction} {p n q m : ℕ} → At D x p n → At E y q m
+    → At (D * E) (x *F y) (p * q + n * m) (p * m + n * q)
 unfolding _*F_
-at-mul {D} {E} {x} {y} {p} {n} {q} {m} X Y = record { at = go (x .plus) (x .minus) (x .under) (y .plus) (y .minus) (y .under) D E p n q m (X .at) (Y .at) }
+at-mul {D} {E} {x} {y} {p} {n} {q} {m} X Y =
+    record { at = go (x .plus) (x .minus) (x .under) (y .plus) (y .minus) (y .under) D E p n q m (X .at) (Y .at) }
   where
-    left : (a b c f D E p m n q s t : ℕ) → (a * c + b * f) * (D * E) + (p * m + n * q) * (s * t) ≡ a * D * (c * E) + b * D * (f * E) + (p * s * (m * t) + n * s * (q * t))
+    left : (a b c f D E p m n q s t : ℕ)
+        → (a * c + b * f) * (D * E) + (p * m + n * q) * (s * t) ≡ a * D * (c * E) + b * D * (f * E) +
+        (p * s * (m * t) + n * s * (q * t))
     left a b c f D E p m n q s t = omega arith
 
     go : (a b u c f v D E p n q m : ℕ) → a * D + n * suc u ≡ p * suc u + b * D → c * E + m * suc v ≡ q * suc v + f * E
-        → (a * c + b * f) * (D * E) + (p * m + n * q) * suc (both u v) ≡ (p * q + n * m) * suc (both u v) + (a * f + b * c) * (D * E)
+        → (a * c + b * f) * (D * E) + (p * m + n * q) * suc (both u v) ≡ (p * q + n * m) * suc (both u v) +
+        (a * f + b * c) * (D * E)
     go a b u c f v D E p n q m h k =
         let w : suc (both u v) ≡ suc u * suc v = omega arith in
         ap (λ (z : ℕ). (a * c + b * f) * (D * E) + (p * m + n * q) * z) w
@@ -136,7 +168,8 @@ at-mul {D} {E} {x} {y} {p} {n} {q} {m} X Y = record { at = go (x .plus) (x .minu
         ∙ sym (left p n q m (suc u) (suc v) a f b c D E)
         ∙ ap (λ (z : ℕ). (p * q + n * m) * z + (a * f + b * c) * (D * E)) (sym w)
 
--- ---- one scale for several fractions; the continuation sees the scale and the parts as variables, which keeps omega's atoms few
+-- ---- one scale for several fractions; the continuation sees the scale and the parts as variables, which keeps omega's
+-- atoms few
 abbrev pub AllAt : ℕ → List Fraction → Type 0
 AllAt D [] = Unit {0}
 AllAt D (x ∷ xs) = ((p : ℕ) × (n : ℕ) × At D x p n) × AllAt D xs
@@ -148,5 +181,12 @@ more-all D k (x ∷ xs) A = ((A .0 .0 * k, A .0 .1 * k, at-more D k (A .0 .2)), 
 pub common : {R : Type 0} (xs : List Fraction) → ((D : ℕ) → 0 < D → AllAt D xs → R) → R
 common [] k = k 1 (zero-lt-suc 0) tt
 common (x ∷ xs) k =
-    common xs (λ D D0 A. k (D * over x) (mul-pos D0 (over-pos x))
-    ((x .plus * D, x .minus * D, subst (λ (z : ℕ). At z x (x .plus * D) (x .minus * D)) (mul-comm (over x) D) (at-own x D)), more-all D (over x) xs A))
+    common xs (λ D D0 A. k (D * over x) (mul-pos D0 (over-pos x)) (
+      (
+        x .plus * D,
+        x .minus * D,
+        subst (λ (z : ℕ). At z x (x .plus * D) (x .minus * D)) (mul-comm (over x) D)
+            (at-own x D),
+      ),
+      more-all D (over x) xs A,
+    ))

@@ -1,8 +1,8 @@
--- A size with its sign, as a fraction: at one scale its two parts are 0 and the size, by the sign, so the order of two of them is one
--- comparison of naturals, which the float comparisons make too.
--- Provides: `signed-at`, `signed-le`, `le-signed`, `signed-lt`, `lt-signed`, `signed-eq`, `eq-signed` (the order, both ways), `signed-scale` (equal
--- fractions), `has-value` (from the library's words), `neg-value`, `finite-both`, and `lt-value`, `eq-value`, `le-value`: what the comparisons of
--- finite floats say of their values, both ways and for both signs. Assumes nothing.
+-- A size with its sign, as a fraction: at one scale its two parts are 0 and the size, by the sign, so the order of two
+-- of them is one comparison of naturals, which the float comparisons make too. Provides: `signed-at`, `signed-le`,
+-- `le-signed`, `signed-lt`, `lt-signed`, `signed-eq`, `eq-signed` (the order, both ways), `signed-scale` (equal
+-- fractions), `has-value` (from the library's words), `neg-value`, `finite-both`, and `lt-value`, `eq-value`,
+-- `le-value`: what the comparisons of finite floats say of their values, both ways and for both signs. Assumes nothing.
 use mathlib.Core.Path.{_≡_, subst}
 use mathlib.Core.Logic.{_⊎_, inl, inr, ⊎-elim, _↔_}
 use mathlib.Core.Bool.{Bool, true, false, _||_, cond}
@@ -23,8 +23,10 @@ use Rattle.exact.proofs.Products.{eq-refl}
 
 -- ---- at a scale
 pub signed-at : (s : Bool) (a c k : ℕ) → 0 < c → At (c * k) (signed s a c) (cond s 0 (a * k)) (cond s (a * k) 0)
-signed-at true a c k C = subst (λ (z : ℕ). At (c * k) (ratio 0 a c) z (a * k)) (zero-mul k) (at-more c k (at-ratio 0 a c C))
-signed-at false a c k C = subst (λ (z : ℕ). At (c * k) (ratio a 0 c) (a * k) z) (zero-mul k) (at-more c k (at-ratio a 0 c C))
+signed-at true a c k C =
+    subst (λ (z : ℕ). At (c * k) (ratio 0 a c) z (a * k)) (zero-mul k) (at-more c k (at-ratio 0 a c C))
+signed-at false a c k C =
+    subst (λ (z : ℕ). At (c * k) (ratio a 0 c) (a * k) z) (zero-mul k) (at-more c k (at-ratio a 0 c C))
 
 -- ---- the order: ±x is at most ±y
 abbrev pub Lower : Bool → ℕ → Bool → ℕ → Type 0
@@ -41,7 +43,8 @@ module _ (s : Bool) (a c : ℕ) (t : Bool) (b d : ℕ) (C : 0 < c) (D : 0 < d) w
   left = signed-at s a c d C
 
   right : At (c * d) (signed t b d) (cond t 0 (b * c)) (cond t (b * c) 0)
-  right = subst (λ (z : ℕ). At z (signed t b d) (cond t 0 (b * c)) (cond t (b * c) 0)) (mul-comm d c) (signed-at t b d c D)
+  right = subst (λ (z : ℕ). At z (signed t b d) (cond t 0 (b * c)) (cond t (b * c) 0)) (mul-comm d c)
+      (signed-at t b d c D)
 
   pub signed-le : Lower s (a * d) t (b * c) → signed s a c ≤F signed t b d
   signed-le h = at-le (c * d) (mul-pos C D) left right h
@@ -74,7 +77,8 @@ pub has-value : (x : Float) (s : Bool) (a c : ℕ) → 0 < c → HasValue x s a 
 has-value nan s a c C v = absurd v
 has-value (inf t) s a c C v = absurd v
 has-value (fin t m e) s a c C v =
-    subst (λ (z : Bool). signed t (m * up e) (down e) ≈ signed z a c) (v .0) (signed-scale t (m * up e) (down e) a c (down-pos e) C (v .1))
+    subst (λ (z : Bool). signed t (m * up e) (down e) ≈ signed z a c) (v .0)
+    (signed-scale t (m * up e) (down e) a c (down-pos e) C (v .1))
 
 pub has-finite : (x : Float) (s : Bool) (a c : ℕ) → HasValue x s a c → T (finite x)
 has-finite nan s a c v = absurd v
@@ -101,23 +105,38 @@ below-less false a true b = (λ h. absurd h, λ (h : a + b < 0 + 0). absurd (non
   where
     none : a + b < 0 + 0 → ⊥
     none h = omega arith
-below-less true a false b = (λ h. let k = ltb→lt 0 (a + b) h in omega arith, λ (h : 0 + 0 < b + a). lt→ltb 0 (a + b) (omega arith))
+below-less true a false b =
+    (λ h. let k = ltb→lt 0 (a + b) h in omega arith, λ (h : 0 + 0 < b + a). lt→ltb 0 (a + b) (omega arith))
 below-less true a true b = (λ h. let k = ltb→lt b a h in omega arith, λ (h : 0 + b < 0 + a). lt→ltb b a (omega arith))
 
 level-same : (s : Bool) (a : ℕ) (t : Bool) (b : ℕ) → T (level s a t b) ↔ Level s a t b
-level-same true a true b = (λ h. let k = eqb→eq a b (and-l (eqb a b) true h) in omega arith, λ (h : 0 + b ≡ 0 + a). and-i (eqb a b) true (eq→eqb {a = a} {b = b} (omega arith)) tt)
-level-same false a false b = (λ h. let k = eqb→eq a b (and-l (eqb a b) true h) in omega arith, λ (h : a + 0 ≡ b + 0). and-i (eqb a b) true (eq→eqb {a = a} {b = b} (omega arith)) tt)
+level-same true a true b = (
+  λ h. let k = eqb→eq a b (and-l (eqb a b) true h) in
+      omega arith,
+  λ (h : 0 + b ≡ 0 + a). and-i (eqb a b) true (eq→eqb {a = a} {b = b} (omega arith)) tt,
+)
+level-same false a false b = (
+  λ h. let k = eqb→eq a b (and-l (eqb a b) true h) in
+      omega arith,
+  λ (h : a + 0 ≡ b + 0). and-i (eqb a b) true (eq→eqb {a = a} {b = b} (omega arith)) tt,
+)
 level-same true a false b = (
-  λ h. let k = eqb→eq a b (and-l (eqb a b) (eqb a 0) h) in let z = eqb→eq a 0 (and-r (eqb a b) (eqb a 0) h) in omega arith,
-  λ (h : 0 + 0 ≡ b + a). and-i (eqb a b) (eqb a 0) (eq→eqb {a = a} {b = b} (omega arith)) (eq→eqb {a = a} {b = 0} (omega arith)),
+  λ h. let k = eqb→eq a b (and-l (eqb a b) (eqb a 0) h) in let z = eqb→eq a 0 (and-r (eqb a b) (eqb a 0) h) in
+      omega arith,
+  λ (h : 0 + 0 ≡ b + a). and-i (eqb a b) (eqb a 0) (eq→eqb {a = a} {b = b} (omega arith))
+      (eq→eqb {a = a} {b = 0} (omega arith)),
 )
 level-same false a true b = (
-  λ h. let k = eqb→eq a b (and-l (eqb a b) (eqb a 0) h) in let z = eqb→eq a 0 (and-r (eqb a b) (eqb a 0) h) in omega arith,
-  λ (h : a + b ≡ 0 + 0). and-i (eqb a b) (eqb a 0) (eq→eqb {a = a} {b = b} (omega arith)) (eq→eqb {a = a} {b = 0} (omega arith)),
+  λ h. let k = eqb→eq a b (and-l (eqb a b) (eqb a 0) h) in let z = eqb→eq a 0 (and-r (eqb a b) (eqb a 0) h) in
+      omega arith,
+  λ (h : a + b ≡ 0 + 0). and-i (eqb a b) (eqb a 0) (eq→eqb {a = a} {b = b} (omega arith))
+      (eq→eqb {a = a} {b = 0} (omega arith)),
 )
 
 -- two finite floats are two sizes with their signs
-pub finite-both : (P : Float → Float → Type 0) → ((s : Bool) (m : ℕ) (e : ℤ) (t : Bool) (n : ℕ) (d : ℤ) → P (fin s m e) (fin t n d)) → (x y : Float) → T (finite x) → T (finite y) → P x y
+pub finite-both : (P : Float → Float → Type 0)
+    → ((s : Bool) (m : ℕ) (e : ℤ) (t : Bool) (n : ℕ) (d : ℤ) → P (fin s m e) (fin t n d)) → (x y : Float)
+    → T (finite x) → T (finite y) → P x y
 finite-both P k nan y p q = absurd p
 finite-both P k (inf s) y p q = absurd p
 finite-both P k (fin s m e) nan p q = absurd q
@@ -126,17 +145,19 @@ finite-both P k (fin s m e) (fin t n d) p q = k s m e t n d
 
 pub lt-value : (x y : Float) → T (finite x) → T (finite y) → T (lt x y) ↔ (value x <F value y)
 unfolding lt
-lt-value = finite-both (λ x y. T (lt x y) ↔ (value x <F value y)) (λ s m e t n d. let k = below-less s (m * up e * down d) t (n * up d * down e) in (
-  λ h. signed-lt s (m * up e) (down e) t (n * up d) (down d) (down-pos e) (down-pos d) (k .0 h),
-  λ h. k .1 (lt-signed s (m * up e) (down e) t (n * up d) (down d) (down-pos e) (down-pos d) h),
-))
+lt-value = finite-both (λ x y. T (lt x y) ↔ (value x <F value y))
+    (λ s m e t n d. let k = below-less s (m * up e * down d) t (n * up d * down e) in (
+      λ h. signed-lt s (m * up e) (down e) t (n * up d) (down d) (down-pos e) (down-pos d) (k .0 h),
+      λ h. k .1 (lt-signed s (m * up e) (down e) t (n * up d) (down d) (down-pos e) (down-pos d) h),
+    ))
 
 pub eq-value : (x y : Float) → T (finite x) → T (finite y) → T (eq x y) ↔ (value x ≈ value y)
 unfolding eq
-eq-value = finite-both (λ x y. T (eq x y) ↔ (value x ≈ value y)) (λ s m e t n d. let k = level-same s (m * up e * down d) t (n * up d * down e) in (
-  λ h. signed-eq s (m * up e) (down e) t (n * up d) (down d) (down-pos e) (down-pos d) (k .0 h),
-  λ h. k .1 (eq-signed s (m * up e) (down e) t (n * up d) (down d) (down-pos e) (down-pos d) h),
-))
+eq-value = finite-both (λ x y. T (eq x y) ↔ (value x ≈ value y))
+    (λ s m e t n d. let k = level-same s (m * up e * down d) t (n * up d * down e) in (
+      λ h. signed-eq s (m * up e) (down e) t (n * up d) (down d) (down-pos e) (down-pos d) (k .0 h),
+      λ h. k .1 (eq-signed s (m * up e) (down e) t (n * up d) (down d) (down-pos e) (down-pos d) h),
+    ))
 
 or-split : (a b : Bool) → T (a || b) → T a ⊎ T b
 or-split true b t = inl tt
@@ -152,8 +173,12 @@ unfolding le
 le-value x y p q =
     let less = lt-value x y p q in
     let same = eq-value x y p q in (
-      λ h. ⊎-elim (λ (k : T (lt x y)). lt-le (value x) (value y) (less .0 k)) (λ (k : T (eq x y)). eq-le (value x) (value y) (same .0 k)) (or-split (lt x y) (eq x y) h),
-      λ (h : value x ≤F value y). or-join (lt x y) (eq x y) (⊎-elim (λ (k : value x ≈ value y). inr (same .1 k)) (λ (k : value x <F value y). inl (less .1 k)) (le-cases h)),
+      λ h. ⊎-elim (λ (k : T (lt x y)). lt-le (value x) (value y) (less .0 k))
+          (λ (k : T (eq x y)). eq-le (value x) (value y) (same .0 k)) (or-split (lt x y) (eq x y) h),
+      λ (h : value x ≤F value y).
+          or-join (lt x y) (eq x y)
+          (⊎-elim (λ (k : value x ≈ value y). inr (same .1 k)) (λ (k : value x <F value y). inl (less .1 k))
+          (le-cases h)),
     )
   where
     le-cases : value x ≤F value y → (value x ≈ value y) ⊎ (value x <F value y)

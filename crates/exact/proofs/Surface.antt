@@ -20,24 +20,28 @@ pub surface-unit : (a : ℤ → ℤ → Fraction) (x y : Fraction) → ((i j : �
 unfolding surface
 surface-unit a x y h = lin-unit (along a x) y (λ j. lin-unit (row a j) x (λ i. h i j))
 
-pub surface-near : (a b : ℤ → ℤ → Fraction) (x y e : Fraction) → ((i j : ℤ) → Within (a i j) (b i j) e) → Within (surface a x y) (surface b x y) e
+pub surface-near : (a b : ℤ → ℤ → Fraction) (x y e : Fraction) → ((i j : ℤ) → Within (a i j) (b i j) e)
+    → Within (surface a x y) (surface b x y) e
 unfolding surface
 surface-near a b x y e h = lin-near (along a x) (along b x) y e (λ j. lin-near (row a j) (row b j) x e (λ i. h i j))
 
 module _ (a : ℤ → ℤ → Fraction) where
   pub surface-same : {x x' y y' : Fraction} → x ≈ x' → y ≈ y' → surface a x y ≈ surface a x' y'
   unfolding surface
-  surface-same {x} {x'} {y} {y'} h k = lin-like (along a x) (along a x') y (λ j. lin-same (row a j) h) ⨟ lin-same (along a x') k
+  surface-same {x} {x'} {y} {y'} h k =
+      lin-like (along a x) (along a x') y (λ j. lin-same (row a j) h) ⨟ lin-same (along a x') k
 
   -- in any cell that the point touches: the fractions may be 1
   pub surface-eval : (x y t s : Fraction) (k l : ℤ) → Unit01 t → Unit01 s → x ≈ whole k +F t → y ≈ whole l +F s
       → surface a x y ≈ mix s (mix t (a k l) (a (sucℤ k) l)) (mix t (a k (sucℤ l)) (a (sucℤ k) (sucℤ l)))
   unfolding surface
   surface-eval x y t s k l u v h g =
-      lin-eval (along a x) y s l v g ⨟ mix-same (eq-refl s) (lin-eval (row a l) x t k u h) (lin-eval (row a (sucℤ l)) x t k u h)
+      lin-eval (along a x) y s l v g ⨟ mix-same (eq-refl s) (lin-eval (row a l) x t k u h)
+      (lin-eval (row a (sucℤ l)) x t k u h)
 
   -- between any two points of the plane: first along the row, then along the column
-  pub surface-move : ((i j : ℤ) → Unit01 (a i j)) → (x x' y y' d e : Fraction) → Within x x' d → Within y y' e → Within (surface a x y) (surface a x' y') (d +F e)
+  pub surface-move : ((i j : ℤ) → Unit01 (a i j)) → (x x' y y' d e : Fraction) → Within x x' d → Within y y' e
+      → Within (surface a x y) (surface a x' y') (d +F e)
   unfolding surface
   surface-move u x x' y y' d e h k =
       within-trans (lin (along a x) y) (lin (along a x') y) (lin (along a x') y') d e

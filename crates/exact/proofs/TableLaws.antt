@@ -1,5 +1,5 @@
--- A table read row by row: a row that holds gives its number, one that does not is passed over, and where the answer is 0 no
--- row held; and a table in two parts. By the two cases of a test. Assumes nothing.
+-- A table read row by row: a row that holds gives its number, one that does not is passed over, and where the answer is
+-- 0 no row held; and a table in two parts. By the two cases of a test. Assumes nothing.
 use mathlib.Core.Path.{_≡_, refl}
 use mathlib.Core.Bool.{Bool, true, false, false≢true, true≢false}
 use mathlib.Core.List.{List, [], _∷_, _++_}
@@ -12,7 +12,8 @@ unfolding firstOf
 row-holds n true rows e = refl
 row-holds n false rows e = absurd (false≢true e)
 
-pub row-passed : (n : ℕ) (b : Bool) (rows : List (ℕ × Bool)) {x : ℕ} → b ≡ false → x ≡ firstOf rows → x ≡ firstOf ((n, b) ∷ rows)
+pub row-passed : (n : ℕ) (b : Bool) (rows : List (ℕ × Bool)) {x : ℕ} → b ≡ false → x ≡ firstOf rows
+    → x ≡ firstOf ((n, b) ∷ rows)
 unfolding firstOf
 row-passed n true rows e h = absurd (true≢false e)
 row-passed n false rows e h = h
@@ -22,7 +23,8 @@ unfolding firstOf
 no-rows = refl
 
 -- of a row whose number is not 0
-pub row-failed : (n : ℕ) (b : Bool) (rows : List (ℕ × Bool)) → firstOf ((suc n, b) ∷ rows) ≡ 0 → (b ≡ false) × (firstOf rows ≡ 0)
+pub row-failed : (n : ℕ) (b : Bool) (rows : List (ℕ × Bool)) → firstOf ((suc n, b) ∷ rows) ≡ 0 → (b ≡ false)
+    × (firstOf rows ≡ 0)
 unfolding firstOf
 row-failed n true rows e = absurd (above n e)
   where
@@ -47,7 +49,8 @@ first-part ((m, true) ∷ rows) more n h e = e
 first-part ((m, false) ∷ rows) more n h e = first-part rows more n h e
 
 -- and where that has none, the second part answers
-pub second-part : (rows more : List (ℕ × Bool)) → Numbered rows → firstOf rows ≡ 0 → firstOf (rows ++ more) ≡ firstOf more
+pub second-part : (rows more : List (ℕ × Bool)) → Numbered rows → firstOf rows ≡ 0
+    → firstOf (rows ++ more) ≡ firstOf more
 unfolding firstOf
 second-part [] more h e = refl
 second-part ((m, true) ∷ rows) more h e = absurd (none m (h .0) e)

@@ -1,6 +1,7 @@
--- Blends along two axes and three, as mixes and as sums of taps; and the surface as such a blend. The law that the callers use is `taps-near`:
--- however the point was put into a cell, with a fraction of 1 too, four taps near the surface's values give a blend near the surface.
--- Provides: `bilinear`, `trilinear`, `four-taps`, `surface-blend`, `taps-near`. Assumes nothing.
+-- Blends along two axes and three, as mixes and as sums of taps; and the surface as such a blend. The law that the
+-- callers use is `taps-near`: however the point was put into a cell, with a fraction of 1 too, four taps near the
+-- surface's values give a blend near the surface. Provides: `bilinear`, `trilinear`, `four-taps`, `surface-blend`,
+-- `taps-near`. Assumes nothing.
 use mathlib.Core.Path.{refl}
 use mathlib.Core.List.{List, [], _∷_}
 use mathlib.Core.Bool.{Bool, false, cond, _&&_}
@@ -24,22 +25,27 @@ use Rattle.exact.proofs.Blend.{blend-near, blend-fold, blend-one}
 pub bilinear : (t s a b c d : Fraction) → blend (t ∷ s ∷ []) (a ∷ b ∷ c ∷ d ∷ []) ≈ mix s (mix t a b) (mix t c d)
 unfolding folded
 bilinear t s a b c d =
-    blend-fold t (s ∷ []) (a ∷ b ∷ c ∷ d ∷ []) ⨟ blend-fold s [] (mix t a b ∷ mix t c d ∷ []) ⨟ blend-one (mix s (mix t a b) (mix t c d))
+    blend-fold t (s ∷ []) (a ∷ b ∷ c ∷ d ∷ []) ⨟ blend-fold s [] (mix t a b ∷ mix t c d ∷ []) ⨟ blend-one
+    (mix s (mix t a b) (mix t c d))
 
 pub trilinear : (t s r a b c d a' b' c' d' : Fraction)
-    → blend (t ∷ s ∷ r ∷ []) (a ∷ b ∷ c ∷ d ∷ a' ∷ b' ∷ c' ∷ d' ∷ []) ≈ mix r (mix s (mix t a b) (mix t c d)) (mix s (mix t a' b') (mix t c' d'))
+    → blend (t ∷ s ∷ r ∷ []) (a ∷ b ∷ c ∷ d ∷ a' ∷ b' ∷ c' ∷ d' ∷ []) ≈ mix r (mix s (mix t a b) (mix t c d))
+    (mix s (mix t a' b') (mix t c' d'))
 unfolding folded
 trilinear t s r a b c d a' b' c' d' =
-    blend-fold t (s ∷ r ∷ []) (a ∷ b ∷ c ∷ d ∷ a' ∷ b' ∷ c' ∷ d' ∷ []) ⨟ bilinear s r (mix t a b) (mix t c d) (mix t a' b') (mix t c' d')
+    blend-fold t (s ∷ r ∷ []) (a ∷ b ∷ c ∷ d ∷ a' ∷ b' ∷ c' ∷ d' ∷ []) ⨟ bilinear s r (mix t a b) (mix t c d)
+    (mix t a' b') (mix t c' d')
 
 -- the sum of four taps, from the left
 pub four-taps : (t s a b c d : Fraction)
-    → blend (t ∷ s ∷ []) (a ∷ b ∷ c ∷ d ∷ []) ≈ (frac 1 1 -F t) *F (frac 1 1 -F s) *F a +F t *F (frac 1 1 -F s) *F b +F (frac 1 1 -F t) *F s *F c +F t *F s *F d
+    → blend (t ∷ s ∷ []) (a ∷ b ∷ c ∷ d ∷ []) ≈ (frac 1 1 -F t) *F (frac 1 1 -F s) *F a +F t *F (frac 1 1 -F s) *F b
+    +F (frac 1 1 -F t) *F s *F c +F t *F s *F d
 unfolding blend dot
 four-taps t s a b c d =
     let t' : Fraction = frac 1 1 -F t in
     let s' : Fraction = frac 1 1 -F s in
-    dot-same (weights (t ∷ s ∷ [])) ((t' *F s') ∷ (t *F s') ∷ (t' *F s) ∷ (t *F s) ∷ []) (a ∷ b ∷ c ∷ d ∷ []) (a ∷ b ∷ c ∷ d ∷ []) (weights-two t s)
+    dot-same (weights (t ∷ s ∷ [])) ((t' *F s') ∷ (t *F s') ∷ (t' *F s) ∷ (t *F s) ∷ []) (a ∷ b ∷ c ∷ d ∷ []) (a ∷ b
+    ∷ c ∷ d ∷ []) (weights-two t s)
     (eq-refl a, (eq-refl b, (eq-refl c, (eq-refl d, tt))))
     ⨟ left (t' *F s' *F a) (t *F s' *F b) (t' *F s *F c) (t *F s *F d)
   where
@@ -47,22 +53,28 @@ four-taps t s a b c d =
     left x y z w =
         common (x ∷ y ∷ z ∷ w ∷ [])
         (λ D D0 ((_, _, X), ((_, _, Y), ((_, _, Z), ((_, _, W), _)))).
-        at-eq D D0 (at-add X (at-add Y (at-add Z (at-add W (at-zero D))))) (at-add (at-add (at-add X Y) Z) W) (omega arith))
+        at-eq D D0 (at-add X (at-add Y (at-add Z (at-add W (at-zero D))))) (at-add (at-add (at-add X Y) Z) W)
+        (omega arith))
 
 -- ---- the surface is the blend of the four values around the point, in any cell that the point touches
 module _ (a : ℤ → ℤ → Fraction) where
-  pub surface-blend : (x y t s : Fraction) (k l : ℤ) → Unit01 t → Unit01 s → x ≈ whole k +F t → y ≈ whole l +F s → surface a x y ≈ blend (t ∷ s ∷ []) (corners a k l)
+  pub surface-blend : (x y t s : Fraction) (k l : ℤ) → Unit01 t → Unit01 s → x ≈ whole k +F t → y ≈ whole l +F s
+      → surface a x y ≈ blend (t ∷ s ∷ []) (corners a k l)
   surface-blend x y t s k l u v h g =
-      surface-eval a x y t s k l u v h g ⨟ back (bilinear t s (a k l) (a (sucℤ k) l) (a k (sucℤ l)) (a (sucℤ k) (sucℤ l)))
+      surface-eval a x y t s k l u v h g ⨟ back
+      (bilinear t s (a k l) (a (sucℤ k) l) (a k (sucℤ l)) (a (sucℤ k) (sucℤ l)))
 
   -- four taps, each near its value, blended at a point near (x, y), in whatever cell that point was put
-  pub taps-near : ((i j : ℤ) → Unit01 (a i j)) → (x y t s d e c : Fraction) (k l : ℤ) (vs : List Fraction) → Unit01 t → Unit01 s
-      → Within (whole k +F t) x d → Within (whole l +F s) y e → frac 0 1 ≤F c → Pairwise (λ v w. Within v w c) vs (corners a k l)
+  pub taps-near : ((i j : ℤ) → Unit01 (a i j)) → (x y t s d e c : Fraction) (k l : ℤ) (vs : List Fraction) → Unit01 t
+      → Unit01 s
+      → Within (whole k +F t) x d → Within (whole l +F s) y e → frac 0 1 ≤F c
+      → Pairwise (λ v w. Within v w c) vs (corners a k l)
       → Within (blend (t ∷ s ∷ []) vs) (surface a x y) (c +F (d +F e))
   taps-near values x y t s d e c k l vs u v h g c0 near =
       within-trans (blend (t ∷ s ∷ []) vs) (blend (t ∷ s ∷ []) (corners a k l)) (surface a x y) c (d +F e)
       (blend-near (t ∷ s ∷ []) (u, (v, tt)) vs (corners a k l) c c0 near)
-      (within-like (surface-blend (whole k +F t) (whole l +F s) t s k l u v (eq-refl (whole k +F t)) (eq-refl (whole l +F s))) (eq-refl (surface a x y)) (eq-refl (d +F e))
+      (within-like (surface-blend (whole k +F t) (whole l +F s) t s k l u v (eq-refl (whole k +F t))
+      (eq-refl (whole l +F s))) (eq-refl (surface a x y)) (eq-refl (d +F e))
       (surface-move a values (whole k +F t) x (whole l +F s) y d e h g))
 
 -- ---- by example

@@ -1,4 +1,5 @@
--- The laws of one warp at numbers: a blend whose error is above 4 units, computed, and a sample for which every premise holds. Assumes nothing.
+-- The laws of one warp at numbers: a blend whose error is above 4 units, computed, and a sample for which every premise
+-- holds. Assumes nothing.
 use mathlib.Core.Path.{_≡_, refl}
 use mathlib.Core.List.{[], _∷_}
 use mathlib.Core.Bool.{Bool, true, false, cond}
@@ -77,7 +78,8 @@ quarter = fin false 1 (negsuc 1)
 cell : Cell (sub binary64 u half) (pos 1) quarter
 unfolding ofBits sub floorF quarter fits
 cell =
-    cell-of (sub binary64 u half) (fin false 1 (pos 0)) tt tt (record { eq = refl }) quarter (rounds-along (record { eq = refl }) (rounds-own binary32 quarter tt tt))
+    cell-of (sub binary64 u half) (fin false 1 (pos 0)) tt tt (record { eq = refl }) quarter
+    (rounds-along (record { eq = refl }) (rounds-own binary32 quarter tt tt))
 
 -- a column of a between columns of b, taken exactly
 picture : ℤ → ℤ → Float
@@ -106,8 +108,14 @@ exact i j = value (picture i j)
 
 own : (i j : ℤ) → Sample (picture i j) (exact i j) (frac 0 1)
 unfolding exact
-own i j = record { is = picture-unit i j; near = within-same (value (picture i j)) (value (picture i j)) (frac 0 1) (eq-refl (value (picture i j))) (le-refl (frac 0 1) (frac 0 1)) }
+own i j = record {
+  is = picture-unit i j;
+  near = within-same (value (picture i j)) (value (picture i j)) (frac 0 1)
+      (eq-refl (value (picture i j))) (le-refl (frac 0 1) (frac 0 1));
+}
 
-sample : Sample (colour quarter quarter (picture (pos 1) (pos 1)) (picture (pos 2) (pos 1)) (picture (pos 1) (pos 2)) (picture (pos 2) (pos 2))) (exactSample exact (more -F frac 1 2) (less -F frac 1 2)) (frac 0 1 +F frac 1 524288)
+sample : Sample (colour quarter quarter (picture (pos 1) (pos 1)) (picture (pos 2) (pos 1)) (picture (pos 1) (pos 2))
+    (picture (pos 2) (pos 2))) (exactSample exact (more -F frac 1 2) (less -F frac 1 2)) (frac 0 1 +F frac 1 524288)
 unfolding exact
-sample = warp-demand exact (λ i j. picture-unit i j .unit) (frac 0 1) u u quarter quarter more less (pos 1) (pos 1) u-more u-less cell cell picture own
+sample = warp-demand exact (λ i j. picture-unit i j .unit) (frac 0 1) u u quarter quarter more less (pos 1) (pos 1)
+    u-more u-less cell cell picture own

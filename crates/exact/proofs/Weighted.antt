@@ -1,6 +1,8 @@
--- The f32 blend of four opaque taps against the exact one: the products' sum is within 9 units of the exact blend and the weights' sum within 7 of 1, so the quotient is
--- within 17. It is from 0 to 1 since the products' sum is at most the weights'; and alpha is 1 since both sums of weights are the same float.
--- Provides: `four-turns` (a loop over four taps), `one-is`, `total-one` (the exact weights), `weight-sum` (finite, above 0, near 1, above 1e-9), `alpha-sum`, `alpha-one`, `colour-near`. Assumes nothing.
+-- The f32 blend of four opaque taps against the exact one: the products' sum is within 9 units of the exact blend and
+-- the weights' sum within 7 of 1, so the quotient is within 17. It is from 0 to 1 since the products' sum is at most
+-- the weights'; and alpha is 1 since both sums of weights are the same float. Provides: `four-turns` (a loop over four
+-- taps), `one-is`, `total-one` (the exact weights), `weight-sum` (finite, above 0, near 1, above 1e-9), `alpha-sum`,
+-- `alpha-one`, `colour-near`. Assumes nothing.
 use mathlib.Core.Path.{_≡_, refl, sym, ap, _∙_, subst}
 use mathlib.Core.List.{[], _∷_}
 use mathlib.Core.Bool.{false}
@@ -15,14 +17,43 @@ use Rattle.exact.specs.Fraction.{Fraction, frac, value, _≤F_, _<F_, _�
 use Rattle.exact.specs.Blend.{blend}
 use Rattle.exact.specs.Loop.{upTo}
 use Rattle.exact.specs.Single.{_⊕_, _⊗_, _⊘_}
-use Rattle.exact.specs.Weighted.{one, start, least, w00, w10, w01, w11, e00, e10, e01, e11, fourSum, weightSum, alphaSum, colour, alpha, units24, Unit32, Sample, blendError}
+use Rattle.exact.specs.Weighted.{
+  one,
+  start,
+  least,
+  w00,
+  w10,
+  w01,
+  w11,
+  e00,
+  e10,
+  e01,
+  e11,
+  fourSum,
+  weightSum,
+  alphaSum,
+  colour,
+  alpha,
+  units24,
+  Unit32,
+  Sample,
+  blendError,
+}
 use Rattle.exact.proofs.Scale.{at-le, le-at, at-eq, eq-at, at-add, at-sub, at-mul, common}
 use Rattle.exact.proofs.Near.{le-trans}
 use Rattle.exact.proofs.Products.{eq-refl, back, at-zero, at-one, unit-same, unit-mul, unit-rest}
 use Rattle.exact.proofs.NearProducts.{within-like}
 use Rattle.exact.proofs.Blend.{blend-unit}
 use Rattle.exact.proofs.Taps.{four-taps}
-use Rattle.exact.proofs.Samples.{halves, halves-units, sample-own, sample-more, sample-along, sample-rest, sample-mul}
+use Rattle.exact.proofs.Samples.{
+  halves,
+  halves-units,
+  sample-own,
+  sample-more,
+  sample-along,
+  sample-rest,
+  sample-mul,
+}
 use Rattle.exact.proofs.Ones.{times-one, over-itself, above-least}
 use Rattle.exact.proofs.FourSum.{Taken, taken, Sums, sums-four}
 use Rattle.exact.proofs.SumQuotient.{sum-near, sum-least, sum-positive, quotient}
@@ -42,7 +73,8 @@ total-one t s =
     common (t ∷ s ∷ [])
     (λ D D0 ((_, _, T'), ((_, _, S), _)).
     at-eq (D * D) (mul-pos D0 D0)
-    (at-add (at-add (at-add (at-mul (at-sub (at-one D) T') (at-sub (at-one D) S)) (at-mul T' (at-sub (at-one D) S))) (at-mul (at-sub (at-one D) T') S)) (at-mul T' S)) (at-one (D * D)) (omega arith))
+    (at-add (at-add (at-add (at-mul (at-sub (at-one D) T') (at-sub (at-one D) S)) (at-mul T' (at-sub (at-one D) S)))
+    (at-mul (at-sub (at-one D) T') S)) (at-mul T' S)) (at-one (D * D)) (omega arith))
 
 partial : (a b c d : Fraction) → frac 0 1 ≤F c → frac 0 1 ≤F d → a +F b +F c +F d ≈ frac 1 1
     → (a +F b ≤F frac 1 1) × ((a +F b +F c ≤F frac 1 1) × (a +F b +F c +F d ≤F frac 1 1))
@@ -53,7 +85,10 @@ partial a b c d hc hd e =
     let x = le-at D D0 (at-zero D) C hc in
     let y = le-at D D0 (at-zero D) E hd in (
       at-le D D0 (at-add A B) (at-one D) (omega arith),
-      (at-le D D0 (at-add (at-add A B) C) (at-one D) (omega arith), at-le D D0 (at-add (at-add (at-add A B) C) E) (at-one D) (omega arith)),
+      (
+        at-le D D0 (at-add (at-add A B) C) (at-one D) (omega arith),
+        at-le D D0 (at-add (at-add (at-add A B) C) E) (at-one D) (omega arith),
+      ),
     ))
 
 -- ---- the four weights in f32
@@ -80,14 +115,16 @@ module _ (tx ty : Float) (x : Unit32 tx) (y : Unit32 ty) where
   -- ---- with the taps' samples
   module _ (a b c d : Float) (pa : Unit32 a) (pb : Unit32 b) (pc : Unit32 c) (pd : Unit32 d) where
     abbrev pub exact : Fraction
-    exact = e00 (value tx) (value ty) *F value a +F e10 (value tx) (value ty) *F value b +F e01 (value tx) (value ty) *F value c +F e11 (value tx) (value ty) *F value d
+    exact = e00 (value tx) (value ty) *F value a +F e10 (value tx) (value ty) *F value b
+        +F e01 (value tx) (value ty) *F value c +F e11 (value tx) (value ty) *F value d
 
     abbrev products : Float
     products = fourSum (w00 tx ty ⊗ a) (w10 tx ty ⊗ b) (w01 tx ty ⊗ c) (w11 tx ty ⊗ d)
 
     -- each product beside its weight
     take00 : Taken (w00 tx ty ⊗ a) (w00 tx ty) (e00 (value tx) (value ty) *F value a) (e00 (value tx) (value ty)) 3
-    take00 = taken (w00 tx ty) a (e00 (value tx) (value ty)) 3 (unit-mul (unit-rest (x .unit)) (unit-rest (y .unit))) weight00 pa
+    take00 = taken (w00 tx ty) a (e00 (value tx) (value ty)) 3 (unit-mul (unit-rest (x .unit)) (unit-rest (y .unit)))
+        weight00 pa
 
     take10 : Taken (w10 tx ty ⊗ b) (w10 tx ty) (e10 (value tx) (value ty) *F value b) (e10 (value tx) (value ty)) 2
     take10 = taken (w10 tx ty) b (e10 (value tx) (value ty)) 2 (unit-mul (x .unit) (unit-rest (y .unit))) weight10 pb
@@ -98,9 +135,12 @@ module _ (tx ty : Float) (x : Unit32 tx) (y : Unit32 ty) where
     take11 : Taken (w11 tx ty ⊗ d) (w11 tx ty) (e11 (value tx) (value ty) *F value d) (e11 (value tx) (value ty)) 1
     take11 = taken (w11 tx ty) d (e11 (value tx) (value ty)) 1 (unit-mul (x .unit) (y .unit)) weight11 pd
 
-    sums : Sums products (weightSum tx ty) exact (e00 (value tx) (value ty) +F e10 (value tx) (value ty) +F e01 (value tx) (value ty) +F e11 (value tx) (value ty)) 18 14
+    sums : Sums products (weightSum tx ty) exact (e00 (value tx) (value ty) +F e10 (value tx) (value ty)
+        +F e01 (value tx) (value ty) +F e11 (value tx) (value ty)) 18 14
     sums =
-        let h = partial (e00 (value tx) (value ty)) (e10 (value tx) (value ty)) (e01 (value tx) (value ty)) (e11 (value tx) (value ty)) (unit-mul (unit-rest (x .unit)) (y .unit) .0) (unit-mul (x .unit) (y .unit) .0) (total-one (value tx) (value ty)) in
+        let h = partial (e00 (value tx) (value ty)) (e10 (value tx) (value ty)) (e01 (value tx) (value ty))
+        (e11 (value tx) (value ty)) (unit-mul (unit-rest (x .unit)) (y .unit) .0) (unit-mul (x .unit) (y .unit) .0)
+        (total-one (value tx) (value ty)) in
         sums-four take00 take10 take01 take11 (h .0) (h .1 .0) (h .1 .1)
 
     -- a factor of 1 changes nothing
@@ -110,10 +150,13 @@ module _ (tx ty : Float) (x : Unit32 tx) (y : Unit32 ty) where
         plain : {z w : Float} {X W : Fraction} {n : ℕ} → Taken z w X W n → z ≡ z ⊗ one
         plain {z} t = sym (times-one z (t .product .is .held) (t .product .is .number))
 
-    pub colour-near : Sample (colour tx ty a b c d) (blend (value tx ∷ value ty ∷ []) (value a ∷ value b ∷ value c ∷ value d ∷ [])) blendError
+    pub colour-near : Sample (colour tx ty a b c d)
+        (blend (value tx ∷ value ty ∷ []) (value a ∷ value b ∷ value c ∷ value d ∷ [])) blendError
     colour-near =
-        subst (λ (z : Float). Sample z (blend (value tx ∷ value ty ∷ []) (value a ∷ value b ∷ value c ∷ value d ∷ [])) blendError) colour-is
-        (sample-more enough (sample-along (back taps) (eq-refl (halves 34)) (quotient sums (total-one (value tx) (value ty)) (unit-same taps unit))))
+        subst (λ (z : Float). Sample z (blend (value tx ∷ value ty ∷ []) (value a ∷ value b ∷ value c ∷ value d ∷ []))
+        blendError) colour-is
+        (sample-more enough (sample-along (back taps) (eq-refl (halves 34))
+        (quotient sums (total-one (value tx) (value ty)) (unit-same taps unit))))
       where
         enough : halves 34 ≤F blendError
         enough = unfold halves in record { le = lit≤ tt }
@@ -122,10 +165,13 @@ module _ (tx ty : Float) (x : Unit32 tx) (y : Unit32 ty) where
         taps = four-taps (value tx) (value ty) (value a) (value b) (value c) (value d)
 
         unit : Unit01 (blend (value tx ∷ value ty ∷ []) (value a ∷ value b ∷ value c ∷ value d ∷ []))
-        unit = blend-unit (value tx ∷ value ty ∷ []) (x .unit, (y .unit, tt)) (value a ∷ value b ∷ value c ∷ value d ∷ []) (pa .unit, (pb .unit, (pc .unit, (pd .unit, tt))))
+        unit = blend-unit (value tx ∷ value ty ∷ []) (x .unit, (y .unit, tt)) (value a ∷ value b ∷ value c ∷ value d
+            ∷ []) (pa .unit, (pb .unit, (pc .unit, (pd .unit, tt))))
 
   -- ---- the sum of the weights
-  pub weight-sum : T (finite (weightSum tx ty)) × ((frac 0 1 <F value (weightSum tx ty)) × (Within (value (weightSum tx ty)) (frac 1 1) (units24 7) × T (lt least (weightSum tx ty))))
+  pub weight-sum : T (finite (weightSum tx ty))
+      × ((frac 0 1 <F value (weightSum tx ty))
+      × (Within (value (weightSum tx ty)) (frac 1 1) (units24 7) × T (lt least (weightSum tx ty))))
   weight-sum =
       let k = sums tx tx tx tx x x x x in
       let o = total-one (value tx) (value ty) in
@@ -135,7 +181,8 @@ module _ (tx ty : Float) (x : Unit32 tx) (y : Unit32 ty) where
           sum-positive k o,
           (
             within-like (eq-refl (value S)) (eq-refl (frac 1 1)) (halves-units 7) (sum-near k o),
-            above-least S (k .weights .number) (le-trans (frac 1 2) (frac 33554418 33554432) (value S) (record { le = lit≤ tt }) (sum-least k o)),
+            above-least S (k .weights .number)
+                (le-trans (frac 1 2) (frac 33554418 33554432) (value S) (record { le = lit≤ tt }) (sum-least k o)),
           ),
         ),
       )
@@ -143,4 +190,6 @@ module _ (tx ty : Float) (x : Unit32 tx) (y : Unit32 ty) where
   pub alpha-one : alpha tx ty ≡ one
   alpha-one =
       let k = sums tx tx tx tx x x x x in
-      ap (λ (z : Float). z ⊘ weightSum tx ty) alpha-sum ∙ over-itself (weightSum tx ty) (k .weights .number) (sum-positive k (total-one (value tx) (value ty))) ∙ sym one-is
+      ap (λ (z : Float). z ⊘ weightSum tx ty) alpha-sum
+      ∙ over-itself (weightSum tx ty) (k .weights .number) (sum-positive k (total-one (value tx) (value ty)))
+      ∙ sym one-is

@@ -1,6 +1,6 @@
--- The weights of a blend, by induction over the axes: one more axis parts each weight w into (1 - t) w and t w, which keeps the
--- weights from 0 to 1, keeps their sum, and doubles their number.
--- Provides: `weights-unit`, `weights-total`, `weights-length`, `weights-two`. Assumes nothing.
+-- The weights of a blend, by induction over the axes: one more axis parts each weight w into (1 - t) w and t w, which
+-- keeps the weights from 0 to 1, keeps their sum, and doubles their number. Provides: `weights-unit`, `weights-total`,
+-- `weights-length`, `weights-two`. Assumes nothing.
 use mathlib.Core.Path.{_≡_, refl, sym, ap, _∙_}
 use mathlib.Core.List.{List, [], _∷_}
 use Prim.Native.Nat.{ℕ, suc, _*_, _^_}
@@ -11,7 +11,18 @@ use Rattle.exact.specs.Fraction.{Fraction, frac, _≈_, _+F_, _-F_, _*F_
 use Rattle.exact.specs.Surface.{mix}
 use Rattle.exact.specs.Blend.{parted, weights, total, Each, Pairwise}
 use Rattle.exact.proofs.Near.{add-same}
-use Rattle.exact.proofs.Products.{eq-refl, _⨟_, back, mul-same, mul-one, add-zero, add-assoc, unit-one, unit-mul, unit-rest}
+use Rattle.exact.proofs.Products.{
+  eq-refl,
+  _⨟_,
+  back,
+  mul-same,
+  mul-one,
+  add-zero,
+  add-assoc,
+  unit-one,
+  unit-mul,
+  unit-rest,
+}
 use Rattle.exact.proofs.Mix.{mix-fixed}
 
 -- ---- one more axis
@@ -49,13 +60,18 @@ weights-total (t ∷ ts) = parted-total t (weights ts) ⨟ weights-total ts
 pub weights-length : (ts : List Fraction) → length (weights ts) ≡ 2 ^ length ts
 unfolding weights
 weights-length [] = refl
-weights-length (t ∷ ts) = parted-length t (weights ts) ∙ ap (λ (n : ℕ). 2 * n) (weights-length ts) ∙ sym (pow-succ' 2 (length ts))
+weights-length (t ∷ ts) = parted-length t (weights ts) ∙ ap (λ (n : ℕ). 2 * n) (weights-length ts)
+    ∙ sym (pow-succ' 2 (length ts))
 
 -- ---- two axes, as a bilinear picture takes them
 pub weights-two : (t s : Fraction)
-    → Pairwise _≈_ (weights (t ∷ s ∷ [])) (((frac 1 1 -F t) *F (frac 1 1 -F s)) ∷ (t *F (frac 1 1 -F s)) ∷ ((frac 1 1 -F t) *F s) ∷ (t *F s) ∷ [])
+    → Pairwise _≈_ (weights (t ∷ s ∷ [])) (((frac 1 1 -F t) *F (frac 1 1 -F s)) ∷ (t *F (frac 1 1 -F s))
+    ∷ ((frac 1 1 -F t) *F s) ∷ (t *F s) ∷ [])
 unfolding weights parted
 weights-two t s = (
   mul-same (eq-refl (frac 1 1 -F t)) (mul-one (frac 1 1 -F s)),
-  (mul-same (eq-refl t) (mul-one (frac 1 1 -F s)), (mul-same (eq-refl (frac 1 1 -F t)) (mul-one s), (mul-same (eq-refl t) (mul-one s), tt))),
+  (
+    mul-same (eq-refl t) (mul-one (frac 1 1 -F s)),
+    (mul-same (eq-refl (frac 1 1 -F t)) (mul-one s), (mul-same (eq-refl t) (mul-one s), tt)),
+  ),
 )

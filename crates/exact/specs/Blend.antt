@@ -1,6 +1,6 @@
--- The blend of 2^n corners by n fractions, each from 0 to 1: a weight for each corner, and the sum of the corners' values times
--- their weights. The first fraction's corners come fastest: for two it is (0,0), (1,0), (0,1), (1,1), as `Bilinear` takes its
--- taps; for three it is a cube with the first axis fastest. Assumes nothing.
+-- The blend of 2^n corners by n fractions, each from 0 to 1: a weight for each corner, and the sum of the corners'
+-- values times their weights. The first fraction's corners come fastest: for two it is (0,0), (1,0), (0,1), (1,1), as
+-- `Bilinear` takes its taps; for three it is a cube with the first axis fastest. Assumes nothing.
 use mathlib.Core.List.{List, [], _∷_}
 use lib.IntN.{ℤ, sucℤ}
 use Rattle.exact.specs.Fraction.{Fraction, frac, _+F_, _-F_, _*F_, distance}
@@ -38,7 +38,8 @@ unfolding _+F_
 total [] = frac 0 1
 total (w ∷ ws) = w +F total ws
 
--- the corners' values mixed along the first axis: half as many are left (a last one that has no partner counts against 0)
+-- the corners' values mixed along the first axis: half as many are left (a last one that has no partner counts against
+-- 0)
 unfoldable pub folded : Fraction → List Fraction → List Fraction
 unfolding mix _-F_ _*F_
 folded t [] = []

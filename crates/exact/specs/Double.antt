@@ -1,5 +1,5 @@
--- The f64 operations, each rounded once, under the field's circled signs. A definition that opens this file
--- reads like the code beside it. Assumes nothing.
+-- The f64 operations, each rounded once, under the field's circled signs. A definition that opens this file reads like
+-- the code beside it. Specification 4. Assumes nothing.
 use lib.Ieee.{Float, binary64, add, sub, mul, div}
 
 infixl 6 _⊕_ _⊖_

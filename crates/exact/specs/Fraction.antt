@@ -1,7 +1,7 @@
--- Fractions: the exact numbers of the chain conditions and of the exact chain. A fraction is a whole number over a whole
--- number above 0, and two are compared by cross-multiplying. The whole number is the difference `plus - minus` of two
--- naturals, so that no sum or product goes by cases on signs; the denominator is `under + 1`, above 0 by its form. Nothing is
--- brought to lowest terms. Assumes nothing.
+-- Fractions: the exact numbers of the chain conditions and of the exact chain. A fraction is a whole number over a
+-- whole number above 0, and two are compared by cross-multiplying. The whole number is the difference `plus - minus` of
+-- two naturals, so that no sum or product goes by cases on signs; the denominator is `under + 1`, above 0 by its form.
+-- Nothing is brought to lowest terms. Specification 11.2. Assumes nothing.
 use Prim.Native.Nat.{ℕ, suc, _+_, _-_, _*_, _/_, _≤_, _<_}
 use mathlib.Core.Path.{_≡_}
 use mathlib.Core.Bool.{cond}
@@ -31,7 +31,8 @@ abbrev pub whole : ℤ → Fraction
 whole (pos n) = ratio n 0 1
 whole (negsuc n) = ratio 0 (suc n) 1
 
--- the fraction that a finite float's bits name: m * 2 ^ e with its sign (0 where there is none: `finite` stands beside it)
+-- the fraction that a finite float's bits name: m * 2 ^ e with its sign (0 where there is none: `finite` stands beside
+-- it)
 abbrev pub value : Float → Fraction
 value nan = ratio 0 0 1
 value (inf s) = ratio 0 0 1
@@ -59,14 +60,22 @@ unfoldable pub negF : Fraction → Fraction
 negF x = record { plus = x .minus; minus = x .plus; under = x .under }
 
 unfoldable pub _+F_ : Fraction → Fraction → Fraction
-x +F y = record { plus = x .plus * over y + y .plus * over x; minus = x .minus * over y + y .minus * over x; under = both (x .under) (y .under) }
+x +F y = record {
+  plus = x .plus * over y + y .plus * over x;
+  minus = x .minus * over y + y .minus * over x;
+  under = both (x .under) (y .under);
+}
 
 unfoldable pub _-F_ : Fraction → Fraction → Fraction
 unfolding _+F_ negF
 x -F y = x +F negF y
 
 unfoldable pub _*F_ : Fraction → Fraction → Fraction
-x *F y = record { plus = x .plus * y .plus + x .minus * y .minus; minus = x .plus * y .minus + x .minus * y .plus; under = both (x .under) (y .under) }
+x *F y = record {
+  plus = x .plus * y .plus + x .minus * y .minus;
+  minus = x .plus * y .minus + x .minus * y .plus;
+  under = both (x .under) (y .under);
+}
 
 -- x / y for a y that is not 0: the denominator of y over its numerator, with the numerator's sign
 unfoldable pub _/F_ : Fraction → Fraction → Fraction
@@ -76,7 +85,11 @@ x /F y =
     (ratio (x .minus * over y) (x .plus * over y) (over x * (y .minus - y .plus)))
 
 unfoldable pub absF : Fraction → Fraction
-absF x = record { plus = cond (leb (x .minus) (x .plus)) (x .plus - x .minus) (x .minus - x .plus); minus = 0; under = x .under }
+absF x = record {
+  plus = cond (leb (x .minus) (x .plus)) (x .plus - x .minus) (x .minus - x .plus);
+  minus = 0;
+  under = x .under;
+}
 
 -- |x - y|
 unfoldable pub distance : Fraction → Fraction → Fraction

@@ -8,5 +8,6 @@ pub mod Single
 pub mod Sums
 pub mod Surface
 pub mod Table
+pub mod Vector
 pub mod Warp
 pub mod Weighted

@@ -1,5 +1,5 @@
--- What it says that a float is an exact fraction, rounded once. `round f s a c` rounds a / c with the sign s: an operation works out its
--- exact result so, and which a and c it wrote does not matter. Assumes nothing.
+-- What it says that a float is an exact fraction, rounded once. `round f s a c` rounds a / c with the sign s: an
+-- operation works out its exact result so, and which a and c it wrote does not matter. Assumes nothing.
 use Prim.Native.Nat.{ℕ, _+_, _-_, _*_, _^_, _<_}
 use mathlib.Core.Path.{_≡_}
 use mathlib.Core.Bool.{Bool, _&&_, cond}
@@ -38,7 +38,9 @@ power f K = frac (2 ^ K) (2 ^ low f)
 abbrev pub half-ulp : Format → ℕ → Fraction
 half-ulp f K = frac (2 ^ (K - prec f)) (2 ^ low f * 2)
 
--- b / d is 2 ^ K units, and e / g is half an ulp below it at least: a test of closed numbers, for the machine to compute
+-- b / d is 2 ^ K units, and e / g is half an ulp below it at least: a test of closed numbers, for the machine to
+-- compute
 abbrev pub fine : Format → ℕ → ℕ → ℕ → ℕ → ℕ → Bool
 fine f K b d e g =
-    leb K (low f + emax f) && (ltb 0 d && (ltb 0 g && (eqb (b * 2 ^ low f) (2 ^ K * d) && leb (2 ^ (K - prec f) * g) (e * (2 ^ low f * 2)))))
+    leb K (low f + emax f) && (ltb 0 d
+    && (ltb 0 g && (eqb (b * 2 ^ low f) (2 ^ K * d) && leb (2 ^ (K - prec f) * g) (e * (2 ^ low f * 2)))))

@@ -1,5 +1,5 @@
--- Sums in order and powers by repeated squaring, as the source coordinates are worked out: each in floats, rounded operation by operation, and in exact
--- fractions. Assumes nothing.
+-- Sums in order and powers by repeated squaring, as the source coordinates are worked out: each in floats, rounded
+-- operation by operation, and in exact fractions. Assumes nothing.
 use Prim.Native.Nat.{ℕ, zero, suc, _*_, _^_}
 use lib.Dec.{T}
 use lib.IntN.{ℤ, pos}
@@ -30,7 +30,8 @@ unfolding _*F_
 powF x zero = frac 1 1
 powF x (suc n) = x *F powF x n
 
--- r is a number and X times a factor at most m 2 ^ -53 away from 1; it lies from 2 ^ -k to 2 ^ (21 k) in size, as a product of k coordinates does
+-- r is a number and X times a factor at most m 2 ^ -53 away from 1; it lies from 2 ^ -k to 2 ^ (21 k) in size, as a
+-- product of k coordinates does
 pub record Relative (r : Float) (X : Fraction) (m k : ℕ) : Type 0 where
   pub number : T (finite r)
   pub factor : Fraction
@@ -70,7 +71,8 @@ pub record Linear (m n o : Float) (X Y b : Fraction) : Type 0 where
   pub term-y : absF (value n *F Y) ≤F b
   pub term-1 : absF (value o) ≤F b
 
--- a term of a polynomial: a is the monomial M with few roundings, c the coefficient, and their exact product is at most 16,384 in size
+-- a term of a polynomial: a is the monomial M with few roundings, c the coefficient, and their exact product is at most
+-- 16,384 in size
 pub record Term (a : Float) (M : Fraction) (c : Float) : Type 0 where
   pub degree : ℕ
   pub monomial : Relative a M 10 degree

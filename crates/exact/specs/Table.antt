@@ -1,5 +1,5 @@
--- A table of refusals: tests in order, each with the number that it gives. The answer is the number of the first test that
--- holds, and 0 where none does. Assumes nothing.
+-- A table of refusals: tests in order, each with the number that it gives. The answer is the number of the first test
+-- that holds, and 0 where none does. Specification 2. Assumes nothing.
 use Prim.Native.Nat.{ℕ}
 use mathlib.Core.Bool.{Bool, cond}
 use mathlib.Core.List.{List, [], _∷_}

@@ -1,5 +1,6 @@
--- One sample of one warp: where the f32 steps take the point from, and how far the sample may be from the exact one. The point is a coordinate worked in f64, less 0.5, whose
--- floor names the cell and whose rest above the floor, narrowed to f32, is the fraction. Assumes nothing.
+-- One sample of one warp: where the f32 steps take the point from, and how far the sample may be from the exact one.
+-- The point is a coordinate worked in f64, less 0.5, whose floor names the cell and whose rest above the floor,
+-- narrowed to f32, is the fraction. Assumes nothing.
 use Prim.Native.Nat.{_^_}
 use mathlib.Core.Path.{_≡_}
 use lib.IntN.{ℤ, sucℤ}
@@ -30,7 +31,8 @@ coordinateError = frac 3 (2 ^ 26)
 abbrev pub Coordinate : Float → Fraction → Type 0
 Coordinate u exact = Close u exact coordinateError (frac 16385 1)
 
--- how far the point is from the exact one, in each direction: its cell, the difference u - 0.5, which is below 32,768 in size, and the coordinate
+-- how far the point is from the exact one, in each direction: its cell, the difference u - 0.5, which is below 32,768
+-- in size, and the coordinate
 abbrev pub positionError : Fraction
 positionError = cellError +F (frac 1 (2 ^ 39) +F coordinateError)
 
@@ -40,7 +42,8 @@ warpError = units24 20
 
 -- ---- the exact sample: the four taps around the point (x, y), each times its weight
 abbrev pub tapSum : (ℤ → ℤ → Fraction) → ℤ → ℤ → Fraction → Fraction → Fraction
-tapSum a k l t s = e00 t s *F a k l +F e10 t s *F a (sucℤ k) l +F e01 t s *F a k (sucℤ l) +F e11 t s *F a (sucℤ k) (sucℤ l)
+tapSum a k l t s = e00 t s *F a k l +F e10 t s *F a (sucℤ k) l +F e01 t s *F a k (sucℤ l)
+    +F e11 t s *F a (sucℤ k) (sucℤ l)
 
 abbrev pub exactSample : (ℤ → ℤ → Fraction) → Fraction → Fraction → Fraction
 exactSample a x y = tapSum a (floorF x) (floorF y) (partF x) (partF y)

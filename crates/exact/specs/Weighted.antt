@@ -1,5 +1,6 @@
--- What `weighted` of the Rust works out in f32 for the four taps of a cell where all are opaque, so that each alpha is 1. The taps are `Bilinear`'s, in its
--- order: the point's own column and row, the next column, the next row, both. Each sum starts at +0. Assumes nothing.
+-- What `weighted` of the Rust works out in f32 for the four taps of a cell where all are opaque, so that each alpha is
+-- 1. The taps are `Bilinear`'s, in its order: the point's own column and row, the next column, the next row, both. Each
+-- sum starts at +0. Assumes nothing.
 use Prim.Native.Nat.{ℕ, _^_}
 use lib.Dec.{T}
 use lib.Ieee.{Float, binary32, ofBits, fits}
@@ -52,7 +53,8 @@ alphaSum tx ty = fourSum (w00 tx ty ⊗ one) (w10 tx ty ⊗ one) (w01 tx ty ⊗ 
 
 -- acc[c], for the taps' samples a, b, c, d of one colour
 abbrev pub colourSum : Float → Float → Float → Float → Float → Float → Float
-colourSum tx ty a b c d = fourSum (w00 tx ty ⊗ a ⊗ one) (w10 tx ty ⊗ b ⊗ one) (w01 tx ty ⊗ c ⊗ one) (w11 tx ty ⊗ d ⊗ one)
+colourSum tx ty a b c d =
+    fourSum (w00 tx ty ⊗ a ⊗ one) (w10 tx ty ⊗ b ⊗ one) (w01 tx ty ⊗ c ⊗ one) (w11 tx ty ⊗ d ⊗ one)
 
 abbrev pub colour : Float → Float → Float → Float → Float → Float → Float
 colour tx ty a b c d = colourSum tx ty a b c d ⊘ alphaSum tx ty

@@ -1,1 +1,2 @@
-// Mathematics only: the definitions are in specs/, the laws in proofs/. There is no code here.
+// Mathematics, no code: the rounded operations, counted loops, fractions, distances, the surface and the blend, and the
+// errors of rounding. Every crate with floats writes its definitions in these words.

@@ -1,6 +1,6 @@
--- A row added by the code is the definition's next row, where its numbers and its right-hand side are the definition's: for one row a
--- pair and for two. Then the cases of what has a solution or none, and how many terms
--- there can be. Assumes nothing.
+-- A row added by the code is the definition's next row, where its numbers and its right-hand side are the definition's:
+-- for one row a pair and for two. Then the cases of what has a solution or none, and how many terms there can be.
+-- Assumes nothing.
 use mathlib.Core.Path.{_≡_, sym, ap, _∙_, subst⁻¹}
 use mathlib.Core.Bool.{Bool, true, false, _&&_, cond}
 use mathlib.Core.List.{_++_}
@@ -13,21 +13,27 @@ use lib.Ieee.{Float}
 use lib.ListN.{take}
 use Rattle.mappings.specs.declared.mapping.Mapping.{Mapping}
 use Rattle.mappings.specs.declared.mapping.Fitted.{Fitted}
-use Rattle.solve.specs.declared.solve.Solution.{Solution}
+use Rattle.linear.specs.declared.solve.Solution.{Solution}
 use Rattle.mappings.specs.Mapping.{mapping, fitted, refused, solvedOr8}
 use Rattle.fit.specs.Fit.{both}
-use Rattle.matrix.specs.Matrix.{Vector, System}
-use Rattle.solve.specs.Normal.{addRow, normal, inTurn}
-use Rattle.solve.proofs.NormalLaws.{normal-next, normal-next-two}
+use Rattle.exact.specs.Vector.{Vector}
+use Rattle.linear.specs.Matrix.{System}
+use Rattle.linear.specs.Normal.{addRow, normal, inTurn}
+use Rattle.linear.proofs.NormalLaws.{normal-next, normal-next-two}
 
-same-row : {row r : Vector} {y z : Float} (n : ℕ) {s t : System} → row ≡ r → y ≡ z → s ≡ t → addRow row y n s ≡ addRow r z n t
+same-row : {row r : Vector} {y z : Float} (n : ℕ) {s t : System} → row ≡ r → y ≡ z → s ≡ t
+    → addRow row y n s ≡ addRow r z n t
 same-row n e f h i = addRow (e i) (f i) n (h i)
 
-pub row-added : (rowOf : ℕ → Vector) (yOf : ℕ → Float) (n j : ℕ) {row : Vector} {y : Float} {s t : System} → row ≡ rowOf j → y ≡ yOf j → s ≡ normal rowOf yOf n j → t ≡ addRow row y n s → t ≡ normal rowOf yOf n (j + 1)
+pub row-added : (rowOf : ℕ → Vector) (yOf : ℕ → Float) (n j : ℕ) {row : Vector} {y : Float} {s t : System}
+    → row ≡ rowOf j → y ≡ yOf j → s ≡ normal rowOf yOf n j → t ≡ addRow row y n s → t ≡ normal rowOf yOf n (j + 1)
 row-added rowOf yOf n j {s = s} e f h g = g ∙ same-row n e f (λ i. s) ∙ normal-next rowOf yOf n j h
 
-pub two-added : (f g : ℕ → Vector) (y z : ℕ → Float) (n j : ℕ) {row next : Vector} {a b : Float} {s t r : System} → row ≡ f j → a ≡ y j → next ≡ g j → b ≡ z j → s ≡ normal (inTurn f g) (inTurn y z) n (2 * j) → t ≡ addRow row a n s → r ≡ addRow next b n t → r ≡ normal (inTurn f g) (inTurn y z) n (2 * (j + 1))
-two-added f g y z n j {s = s} e p e′ q h u w = w ∙ same-row n e′ q (u ∙ same-row n e p (λ i. s)) ∙ normal-next-two f g y z n j h
+pub two-added : (f g : ℕ → Vector) (y z : ℕ → Float) (n j : ℕ) {row next : Vector} {a b : Float} {s t r : System}
+    → row ≡ f j → a ≡ y j → next ≡ g j → b ≡ z j → s ≡ normal (inTurn f g) (inTurn y z) n (2 * j)
+    → t ≡ addRow row a n s → r ≡ addRow next b n t → r ≡ normal (inTurn f g) (inTurn y z) n (2 * (j + 1))
+two-added f g y z n j {s = s} e p e′ q h u w = w ∙ same-row n e′ q (u ∙ same-row n e p (λ i. s))
+    ∙ normal-next-two f g y z n j h
 
 -- ---- a solution or refusal 8
 
@@ -49,7 +55,8 @@ module _ (s t : Solution) (n kind order : ℕ) {r : Fitted} where
   unfolding both
   both-second e h g = none-8 (s .found && t .found) _ e (ap (λ (b : Bool). b && t .found) h ∙ g)
 
-  pub both-found : r ≡ fitted (mapping kind order (take n (s .x) ++ take n (t .x))) → s .found ≡ true → t .found ≡ true → r ≡ both s t n kind order
+  pub both-found : r ≡ fitted (mapping kind order (take n (s .x) ++ take n (t .x))) → s .found ≡ true → t .found ≡ true
+      → r ≡ both s t n kind order
   unfolding both
   both-found e h g = some-8 (s .found && t .found) _ e (ap (λ (b : Bool). b && t .found) h ∙ g)
 

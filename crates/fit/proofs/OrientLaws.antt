@@ -2,8 +2,9 @@
 use mathlib.Core.Path.{_≡_, refl}
 use lib.ListN.{length}
 use lib.Ieee.{Float, lt}
-use Rattle.matrix.specs.Matrix.{Vector, nought}
-use Rattle.matrix.proofs.InvertLaws.{either}
+use Rattle.exact.specs.Vector.{Vector}
+use Rattle.linear.specs.Matrix.{nought}
+use Rattle.linear.proofs.InvertLaws.{either}
 use Rattle.fit.specs.Orient.{denominator, orient}
 
 pub orient-length : (m : Vector) (x y : Float) → length m ≡ 9 → length (orient m x y) ≡ 9

@@ -1,4 +1,5 @@
--- What the two affine methods are fitted to: u = m0 x + m1 y + m2, v = m3 x + m4 y + m5. Assumes nothing.
+-- What the two affine methods are fitted to: u = m0 x + m1 y + m2, v = m3 x + m4 y + m5. Specification 5.2. Assumes
+-- nothing.
 use Prim.Native.Nat.{ℕ}
 use mathlib.Core.Bool.{cond}
 use mathlib.Core.List.{[], _∷_}
@@ -7,18 +8,18 @@ use lib.Ieee.{neg}
 use Rattle.exact.specs.Double.{_⊖_}
 use Rattle.number.specs.Power.{one}
 use Rattle.arguments.specs.Method.{affineTerms}
-use Rattle.matrix.specs.declared.invert.AffineInverse.{AffineInverse}
+use Rattle.linear.specs.declared.invert.AffineInverse.{AffineInverse}
 use Rattle.mappings.specs.declared.mapping.Fitted.{Fitted}
-use Rattle.equations.specs.declared.pairs.Pair.{Pair}
-use Rattle.equations.specs.declared.rows.Side.the-variants.{OfU, OfV}
-use Rattle.equations.specs.declared.rows.Terms.the-variants.{Affine}
-use Rattle.equations.specs.declared.rows.Twin.the-variants.{Similarity}
-use Rattle.solve.specs.declared.solve.Solution.{Solution}
-use Rattle.fit.specs.Fit.{fitTwin, fitBoth}
-use Rattle.matrix.specs.Invert.{invertAffine}
+use Rattle.mappings.specs.declared.pairs.Pair.{Pair}
+use Rattle.mappings.specs.declared.rows.Terms.the-variants.{Affine}
+use Rattle.mappings.specs.declared.rows.Twin.the-variants.{Similarity}
+use Rattle.linear.specs.declared.solve.Solution.{Solution}
+use Rattle.fit.specs.Fit.{fitTwin, fitBoth, uAndV}
+use Rattle.linear.specs.Invert.{invertAffine}
 use Rattle.mappings.specs.Mapping.{affineKind, mapping, fitted, solvedOr8}
-use Rattle.matrix.specs.Matrix.{Vector, at, nought}
-use Rattle.equations.specs.Pairs.{pairAt}
+use Rattle.exact.specs.Vector.{Vector, at}
+use Rattle.linear.specs.Matrix.{nought}
+use Rattle.mappings.specs.Pairs.{pairAt}
 
 -- ---- the arguments are a forward map, column by column
 
@@ -52,4 +53,4 @@ unfoldable pub affine : Vector → ℕ → Fitted
 affine args pairs =
     cond (eqb pairs 1) (shift args)
     (cond (eqb pairs 2) (similarity args)
-    (fitBoth args 0 pairs Affine OfU OfV (affineTerms pairs) affineKind 0))
+    (fitBoth args 0 pairs Affine uAndV (affineTerms pairs) affineKind 0))

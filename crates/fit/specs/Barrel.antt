@@ -1,4 +1,4 @@
--- What the two barrel methods are fitted to: A, B, C, D, the centre and the norm. Assumes nothing.
+-- What the two barrel methods are fitted to: A, B, C, D, the centre and the norm. Specification 5.2. Assumes nothing.
 use Prim.Native.Nat.{ℕ}
 use mathlib.Core.Bool.{cond}
 use mathlib.Core.List.{[], _∷_}
@@ -9,7 +9,7 @@ use Rattle.number.specs.Magnitude.{fmin}
 use Rattle.number.specs.Power.{one}
 use Rattle.mappings.specs.declared.mapping.Fitted.{Fitted}
 use Rattle.mappings.specs.Mapping.{mapping, fitted}
-use Rattle.matrix.specs.Matrix.{Vector, at}
+use Rattle.exact.specs.Vector.{Vector, at}
 use Rattle.fit.specs.Perspective.{two}
 
 -- args.get(k).copied().unwrap_or(other)

@@ -1,19 +1,22 @@
--- `lstsq` over the pairs of the store: one row a pair, two rows a pair, and the same terms fitted to two sides. Assumes nothing.
+-- `lstsq` over the pairs of the store: one row a pair, two rows a pair, and the same terms fitted to two sides.
+-- Specification 5.1. Assumes nothing.
 use Prim.Native.Nat.{ℕ, _*_}
 use mathlib.Core.Bool.{_&&_}
 use mathlib.Core.List.{_++_}
 use lib.ListN.{take}
 use lib.Ieee.{Float}
 use Rattle.mappings.specs.declared.mapping.Fitted.{Fitted}
-use Rattle.equations.specs.declared.rows.Side.{Side}
-use Rattle.equations.specs.declared.rows.Terms.{Terms}
-use Rattle.equations.specs.declared.rows.Twin.{Twin}
-use Rattle.solve.specs.declared.solve.Solution.{Solution}
+use Rattle.mappings.specs.declared.rows.Side.{Side}
+use Rattle.mappings.specs.declared.rows.Side.the-variants.{OfU, OfV, OfX, OfY}
+use Rattle.mappings.specs.declared.rows.Terms.{Terms}
+use Rattle.mappings.specs.declared.rows.Twin.{Twin}
+use Rattle.linear.specs.declared.solve.Solution.{Solution}
 use Rattle.mappings.specs.Mapping.{mapping, solvedOr8}
-use Rattle.matrix.specs.Matrix.{Vector}
-use Rattle.solve.specs.Normal.{lstsq, inTurn}
-use Rattle.equations.specs.Pairs.{pairAt}
-use Rattle.equations.specs.Rows.{rowOf, sideOf, firstRow, secondRow}
+use Rattle.exact.specs.Vector.{Vector}
+use Rattle.linear.specs.Normal.{lstsq, inTurn}
+use Rattle.mappings.specs.Pairs.{pairAt}
+use Rattle.mappings.specs.Rows.{rowOf, sideOf, firstRow, secondRow}
+use Rattle.fit.specs.declared.lstsq.Sides.{Sides}
 
 -- ---- one row a pair
 
@@ -41,13 +44,21 @@ abbrev pub allV : Vector → ℕ → Float
 allV values j = pairAt values 0 j .v
 
 abbrev pub fitTwin : Vector → ℕ → Twin → ℕ → Solution
-fitTwin values pairs twin n = lstsq (inTurn (firstRows values twin) (secondRows values twin)) (inTurn (allU values) (allV values)) n (2 * pairs)
+fitTwin values pairs twin n =
+    lstsq (inTurn (firstRows values twin) (secondRows values twin)) (inTurn (allU values) (allV values)) n (2 * pairs)
 
 -- ---- the same terms fitted to two sides: n coefficients of the one and then n of the other
 
 unfoldable pub both : Solution → Solution → ℕ → ℕ → ℕ → Fitted
 both s t n kind order = solvedOr8 (s .found && t .found) (mapping kind order (take n (s .x) ++ take n (t .x)))
 
-abbrev pub fitBoth : Vector → ℕ → ℕ → Terms → Side → Side → ℕ → ℕ → ℕ → Fitted
-fitBoth values skip pairs terms first second n kind order =
-    both (fitOne values skip pairs terms first n) (fitOne values skip pairs terms second n) n kind order
+abbrev pub fitBoth : Vector → ℕ → ℕ → Terms → Sides → ℕ → ℕ → ℕ → Fitted
+fitBoth values skip pairs terms s n kind order =
+    both (fitOne values skip pairs terms (s .first) n) (fitOne values skip pairs terms (s .second) n) n kind order
+
+-- u and v, for a mapping that goes back to the picture; x and y, for one that goes forward
+abbrev pub uAndV : Sides
+uAndV = record { first = OfU; second = OfV }
+
+abbrev pub xAndY : Sides
+xAndY = record { first = OfX; second = OfY }

@@ -1,9 +1,10 @@
--- The definitions of the fit.
+-- The definitions of the fit and of `Mapping::build`.
+pub mod Affine
+pub mod Barrel
+pub mod Build
+pub mod Fit
 pub mod Matrix
 pub mod Orient
-pub mod Fit
-pub mod Affine
 pub mod Perspective
 pub mod Polynomial
-pub mod Barrel
 pub mod Shepards

@@ -1,4 +1,5 @@
--- What the two perspective methods are fitted to: a homography from the output to the picture, row-major 3 by 3. Assumes nothing.
+-- What the two perspective methods are fitted to: a homography from the output to the picture, row-major 3 by 3.
+-- Specification 5.2. Assumes nothing.
 use Prim.Native.Nat.{ℕ, _+_}
 use mathlib.Core.List.{[], _∷_}
 use lib.IntN.{pos}
@@ -6,16 +7,17 @@ use lib.Ieee.{Float, binary64, ofBits, ofInt}
 use Rattle.exact.specs.Double.{_⊕_, _⊗_, _⊘_}
 use Rattle.exact.specs.Loop.{upTo}
 use Rattle.number.specs.Power.{one}
-use Rattle.matrix.specs.declared.invert.Inverse.{Inverse}
+use Rattle.linear.specs.declared.invert.Inverse.{Inverse}
 use Rattle.mappings.specs.declared.mapping.Fitted.{Fitted}
-use Rattle.equations.specs.declared.rows.Side.{Side}
-use Rattle.equations.specs.declared.rows.Side.the-variants.{OfX, OfY}
-use Rattle.equations.specs.declared.rows.Twin.the-variants.{Perspective}
-use Rattle.solve.specs.declared.solve.Solution.{Solution}
+use Rattle.mappings.specs.declared.rows.Side.{Side}
+use Rattle.mappings.specs.declared.rows.Side.the-variants.{OfX, OfY}
+use Rattle.mappings.specs.declared.rows.Twin.the-variants.{Perspective}
+use Rattle.linear.specs.declared.solve.Solution.{Solution}
 use Rattle.fit.specs.Fit.{fitTwin, sidesOf}
-use Rattle.matrix.specs.Invert.{invert3}
+use Rattle.linear.specs.Invert.{invert3}
 use Rattle.mappings.specs.Mapping.{perspectiveKind, mapping, solvedOr8}
-use Rattle.matrix.specs.Matrix.{Vector, at, nought}
+use Rattle.exact.specs.Vector.{Vector, at}
+use Rattle.linear.specs.Matrix.{nought}
 use Rattle.fit.specs.Orient.{orient}
 
 abbrev pub two : Float
@@ -31,7 +33,9 @@ abbrev pub projected : Vector → ℕ → Float → Float → Float
 projected m k u v = (at m k ⊗ u ⊕ at m (k + 1) ⊗ v ⊕ at m (k + 2)) ⊘ (at m 6 ⊗ u ⊕ at m 7 ⊗ v ⊕ one)
 
 abbrev pub centred : Vector → Inverse → Float → Float → Fitted
-centred fwd inverse u v = solvedOr8 (inverse .found) (mapping perspectiveKind 0 (orient (inverse .m) (projected fwd 0 u v) (projected fwd 3 u v)))
+centred fwd inverse u v =
+    solvedOr8 (inverse .found)
+    (mapping perspectiveKind 0 (orient (inverse .m) (projected fwd 0 u v) (projected fwd 3 u v)))
 
 unfoldable pub perspectiveProjection : Vector → Float → Float → Fitted
 perspectiveProjection args w h = centred (forward args) (invert3 (forward args)) (w ⊘ two) (h ⊘ two)

@@ -1,15 +1,14 @@
--- What the methods whose terms are monomials are fitted to: u and v from the terms in x and y, or, forward, x and y from the terms 1,
--- u, v, uv. Assumes nothing.
+-- What the methods whose terms are monomials are fitted to: u and v from the terms in x and y, or, forward, x and y
+-- from the terms 1, u, v, uv. Specification 5.2. Assumes nothing.
 use Prim.Native.Nat.{ℕ}
 use mathlib.Core.Bool.{cond}
 use lib.Ieee.{Float}
 use Rattle.arguments.specs.Order.{bilinearOrder, degree, termsOf}
 use Rattle.mappings.specs.declared.mapping.Fitted.{Fitted}
-use Rattle.equations.specs.declared.rows.Side.the-variants.{OfU, OfV, OfX, OfY}
-use Rattle.equations.specs.declared.rows.Terms.the-variants.{Polynomial, Forward}
-use Rattle.fit.specs.Fit.{fitBoth}
+use Rattle.mappings.specs.declared.rows.Terms.the-variants.{Polynomial, Forward}
+use Rattle.fit.specs.Fit.{fitBoth, uAndV, xAndY}
 use Rattle.mappings.specs.Mapping.{polyKind, bilinearForwardKind}
-use Rattle.matrix.specs.Matrix.{Vector}
+use Rattle.exact.specs.Vector.{Vector}
 
 -- 0 for the terms 1, x, y, xy and else the degree
 unfoldable pub orderNumber : Float → ℕ
@@ -17,10 +16,11 @@ orderNumber order = cond (bilinearOrder order) 0 (degree order)
 
 -- the pairs come after the order
 abbrev pub polynomial : Vector → ℕ → Float → Fitted
-polynomial args pairs order = fitBoth args 1 pairs (Polynomial (orderNumber order)) OfU OfV (termsOf order) polyKind (orderNumber order)
+polynomial args pairs order = fitBoth args 1 pairs (Polynomial (orderNumber order)) uAndV (termsOf order) polyKind
+    (orderNumber order)
 
 abbrev pub bilinearReverse : Vector → ℕ → Fitted
-bilinearReverse args pairs = fitBoth args 0 pairs (Polynomial 0) OfU OfV 4 polyKind 0
+bilinearReverse args pairs = fitBoth args 0 pairs (Polynomial 0) uAndV 4 polyKind 0
 
 abbrev pub bilinearForward : Vector → ℕ → Fitted
-bilinearForward args pairs = fitBoth args 0 pairs Forward OfX OfY 4 bilinearForwardKind 0
+bilinearForward args pairs = fitBoth args 0 pairs Forward xAndY 4 bilinearForwardKind 0

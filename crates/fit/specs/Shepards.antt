@@ -1,9 +1,9 @@
--- What Shepard's method is fitted to: the pairs u, v, x, y as they are. Assumes nothing.
+-- What Shepard's method is fitted to: the pairs u, v, x, y as they are. Specification 5.2. Assumes nothing.
 use Prim.Native.Nat.{ℕ, _*_}
 use lib.ListN.{take}
 use Rattle.mappings.specs.declared.mapping.Fitted.{Fitted}
 use Rattle.mappings.specs.Mapping.{shepardsKind, mapping, fitted}
-use Rattle.matrix.specs.Matrix.{Vector}
+use Rattle.exact.specs.Vector.{Vector}
 
 unfoldable pub shepards : Vector → ℕ → Fitted
 shepards args pairs = fitted (mapping shepardsKind 0 (take (4 * pairs) args))

@@ -2,16 +2,17 @@
 ghost use mathlib.Core.Path.{_≡_};
 ghost use Prim.Native.Nat.{_*_, _≤_};
 ghost use Rattle.fit.specs.Affine as Maker;
+use crate::lstsq::Sides;
 use crate::lstsq::fit_both;
 use crate::lstsq::fit_twin;
 use arguments::method::Affine;
-use equations::pairs::pair_at;
-use equations::rows::Side;
-use equations::rows::Terms;
-use equations::rows::Twin;
+use linear::invert::invert_affine;
 use mappings::mapping;
 use mappings::mapping::Fitted;
-use matrix::invert::invert_affine;
+use mappings::pairs::pair_at;
+use mappings::rows::Side;
+use mappings::rows::Terms;
+use mappings::rows::Twin;
 
 // The arguments are a forward map, column by column.
 pub fn affine_projection(values: &[f64; 257]) -> Fitted
@@ -70,8 +71,10 @@ pub fn affine(values: &[f64; 257], pairs: usize) -> Fitted
         0,
         pairs,
         Terms::Affine,
-        Side::OfU,
-        Side::OfV,
+        Sides {
+            first: Side::OfU,
+            second: Side::OfV,
+        },
         Affine::terms(pairs as u64) as usize,
         mapping::AFFINE,
         0,

@@ -1,6 +1,8 @@
-// The fit: from pairs to the coefficients of a mapping.
+// The fit: from pairs to the coefficients of a mapping, and `Mapping::build` with refusals 3 to 8. Read by `distort`
+// and `listing`.
 pub mod affine;
 pub mod barrel;
+pub mod build;
 pub mod lstsq;
 pub mod orient;
 pub mod perspective;

@@ -1,19 +1,19 @@
-// Least squares over the pairs of the store: one row a pair, or two. Assumes that the pairs are in the store and that there are at
-// most 21 unknowns.
+// Least squares over the pairs of the store: one row a pair, or two. Assumes that the pairs are in the store and that
+// there are at most 21 unknowns.
 ghost use mathlib.Core.Path.{_≡_};
 ghost use Prim.Native.Nat.{_+_, _*_, _≤_};
 ghost use Rattle.fit.specs.Fit.{fitOne, fitTwin};
 ghost use Rattle.fit.specs.Fit as Fit;
-use equations::pairs::pair_at;
-use equations::rows;
-use equations::rows::Side;
-use equations::rows::Terms;
-use equations::rows::Twin;
+use linear::normal::add_row;
+use linear::solve::Solution;
+use linear::solve::solve;
 use mappings::mapping;
 use mappings::mapping::Fitted;
-use solve::normal::add_row;
-use solve::solve::Solution;
-use solve::solve::solve;
+use mappings::pairs::pair_at;
+use mappings::rows;
+use mappings::rows::Side;
+use mappings::rows::Terms;
+use mappings::rows::Twin;
 
 pub fn fit_one(
     values: &[f64; 257],
@@ -54,25 +54,32 @@ pub fn fit_twin(values: &[f64; 257], pairs: usize, twin: Twin, n: usize) -> Solu
     solve(a, b, n)
 }
 
+// The two sides of a pair that the same terms are fitted to.
+pub struct Sides {
+    pub first: Side,
+    pub second: Side,
+}
+
 // The same terms fitted to two sides: the coefficients of the one, then those of the other.
 pub fn fit_both(
     values: &[f64; 257],
     skip: usize,
     pairs: usize,
     terms: Terms,
-    first: Side,
-    second: Side,
+    sides: Sides,
     n: usize,
     kind: u64,
     order: u64,
 ) -> Fitted
     requires { ⌜ (skip + 4 * pairs ≤ 257) × (n ≤ 21) ⌝ }
-    ensures { λ r. ⌜ r ≡ Fit.fitBoth (now (values .entry)) skip pairs terms first second n kind order ⌝ }
+    ensures { λ r. ⌜ r ≡ Fit.fitBoth (now (values .entry)) skip pairs terms sides n kind order ⌝ }
 {
+    let first = sides.first;
     let s = fit_one(values, skip, pairs, terms, first, n);
     if !s.found {
         return mapping::refused(8);
     }
+    let second = sides.second;
     let t = fit_one(values, skip, pairs, terms, second, n);
     if !t.found {
         return mapping::refused(8);

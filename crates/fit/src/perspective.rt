@@ -6,13 +6,13 @@ ghost use Rattle.fit.specs.Perspective as Maker;
 use crate::lstsq::fit_twin;
 use crate::orient::orient;
 use arguments::method::Perspective;
-use equations::pairs::pair_at;
-use equations::rows::Side;
-use equations::rows::Twin;
-use equations::rows::side_of;
+use linear::invert::invert3;
 use mappings::mapping;
 use mappings::mapping::Fitted;
-use matrix::invert::invert3;
+use mappings::pairs::pair_at;
+use mappings::rows::Side;
+use mappings::rows::Twin;
+use mappings::rows::side_of;
 
 // Where row k of a homography's numerators takes (u, v).
 fn projected(m: &[f64; 9], k: usize, u: f64, v: f64) -> f64

@@ -3,14 +3,15 @@ ghost use mathlib.Core.Path.{_≡_};
 ghost use Prim.Native.Nat.{_+_, _*_, _≤_};
 ghost use Rattle.fit.specs.Polynomial.{orderNumber, bilinearReverse, bilinearForward};
 ghost use Rattle.fit.specs.Polynomial as Maker;
+use crate::lstsq::Sides;
 use crate::lstsq::fit_both;
 use arguments::method::BilinearForward;
 use arguments::method::BilinearReverse;
 use arguments::method::Polynomial;
-use equations::rows::Side;
-use equations::rows::Terms;
 use mappings::mapping;
 use mappings::mapping::Fitted;
+use mappings::rows::Side;
+use mappings::rows::Terms;
 
 // The order as a number: 0 for the terms 1, x, y, xy and else the degree.
 fn order_number(order: f64) -> u64
@@ -34,8 +35,10 @@ pub fn polynomial(values: &[f64; 257], pairs: usize, order: f64) -> Fitted
         Polynomial::SKIP as usize,
         pairs,
         Terms::Polynomial(number),
-        Side::OfU,
-        Side::OfV,
+        Sides {
+            first: Side::OfU,
+            second: Side::OfV,
+        },
         Polynomial::terms(order) as usize,
         mapping::POLY,
         number,
@@ -51,8 +54,10 @@ pub fn bilinear_reverse(values: &[f64; 257], pairs: usize) -> Fitted
         0,
         pairs,
         Terms::Polynomial(0),
-        Side::OfU,
-        Side::OfV,
+        Sides {
+            first: Side::OfU,
+            second: Side::OfV,
+        },
         BilinearReverse::TERMS as usize,
         mapping::POLY,
         0,
@@ -68,8 +73,10 @@ pub fn bilinear_forward(values: &[f64; 257], pairs: usize) -> Fitted
         0,
         pairs,
         Terms::Forward,
-        Side::OfX,
-        Side::OfY,
+        Sides {
+            first: Side::OfX,
+            second: Side::OfY,
+        },
         BilinearForward::TERMS as usize,
         mapping::BILINEAR_FORWARD,
         0,

@@ -1,12 +1,13 @@
--- The barrel with the coefficients 0, 0, 0, 1 about the centre (2, 2) leaves (0.5, 0.5) where it is: worked out. Assumes nothing.
+-- The barrel with the coefficients 0, 0, 0, 1 about the centre (2, 2) leaves (0.5, 0.5) where it is: worked out.
+-- Assumes nothing.
 use mathlib.Core.Path.{_≡_, refl}
 use mathlib.Core.Bool.{false, true}
 use mathlib.Core.List.{[], _∷_}
 use lib.IntN.{pos, negsuc}
 use lib.Ieee.{Float, fin, add, sub, mul, div, sum, round, ofBits, le}
 use Rattle.number.specs.Magnitude.{abs, within}
-use Rattle.root.specs.Root.{root, rootOf, nearestRoot, wholeRoot}
-use Rattle.matrix.specs.Matrix.{Vector}
+use Rattle.number.specs.Root.{root, rootOf, nearestRoot, wholeRoot}
+use Rattle.exact.specs.Vector.{Vector}
 use Rattle.point.specs.Point.{usable}
 use Rattle.inverse.specs.Barrel.{barrelFrom, barrel}
 

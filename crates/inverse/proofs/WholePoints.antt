@@ -8,19 +8,37 @@ use Rattle.exact.specs.Double.{_⊕_, _⊖_, _⊘_}
 use Rattle.exact.specs.Sums.{linear}
 use Rattle.exact.proofs.Loop.{upTo-keep}
 use Rattle.number.specs.Magnitude.{abs}
-use Rattle.matrix.specs.Matrix.{Vector, at}
-use Rattle.mappings.specs.Mapping.{affineKind, perspectiveKind, polyKind, bilinearForwardKind, barrelKind, barrelInverseKind, shepardsKind}
+use Rattle.exact.specs.Vector.{Vector, at}
+use Rattle.mappings.specs.Mapping.{
+  affineKind,
+  perspectiveKind,
+  polyKind,
+  bilinearForwardKind,
+  barrelKind,
+  barrelInverseKind,
+  shepardsKind,
+}
 use Rattle.point.specs.Point.{point, Whole}
 use Rattle.point.specs.Course.{on}
-use Rattle.point.proofs.WholeLaws.{point-whole, none-whole, unless-whole, either, Leaves, goes, left, turn-leaves, ended-whole}
-use Rattle.perspective.specs.Perspective.{wq, perspective}
-use Rattle.forward.specs.Forward.{det, du, dv, newton, newtonTurn, bilinearForward}
-use Rattle.shepards.specs.Shepards.{Sums, d2, addPair, pairTurn, zeroSums, shift, ofPairs, pairsOf}
+use Rattle.point.proofs.WholeLaws.{
+  point-whole,
+  none-whole,
+  unless-whole,
+  either,
+  Leaves,
+  goes,
+  left,
+  turn-leaves,
+  ended-whole,
+}
+use Rattle.inverse.specs.Perspective.{wq, perspective}
+use Rattle.inverse.specs.Forward.{det, du, dv, newton, newtonTurn, bilinearForward}
+use Rattle.inverse.specs.Shepards.{Sums, d2, addPair, pairTurn, zeroSums, shift, ofPairs, pairsOf}
 use Rattle.inverse.specs.Affine.{affine}
 use Rattle.inverse.specs.Polynomial.{polynomial}
 use Rattle.inverse.specs.Barrel.{across, down, square, factor, barrelFrom, barrelInverseFrom}
 use Rattle.inverse.specs.Inverse.{inverse}
-use Rattle.root.specs.Root.{root}
+use Rattle.number.specs.Root.{root}
 
 -- ---- BilinearForward
 newton-leaves : (c : Vector) (x y u v : Float) → Leaves (newton c x y u v)
@@ -36,13 +54,15 @@ unfolding bilinearForward newtonTurn
 forward-whole c x y =
     ended-whole (λ (w : Float × Float). point (w .0) (w .1)) (λ w. point-whole (w .0) (w .1)) _
     (upTo-keep (newtonTurn c x y) 0 (on (x, y)) Leaves 30 zero-le
-    (λ j s a b h. turn-leaves (λ (w : Float × Float). newton c x y (w .0) (w .1)) (λ w. newton-leaves c x y (w .0) (w .1)) s h) (goes (x, y)))
+    (λ j s a b h. turn-leaves (λ (w : Float × Float). newton c x y (w .0) (w .1))
+    (λ w. newton-leaves c x y (w .0) (w .1)) s h) (goes (x, y)))
 
 -- ---- Shepards
 pair-leaves : (c : Vector) (x y : Float) (k : ℕ) (s : Sums) → Leaves (addPair c x y k s)
 unfolding addPair
 pair-leaves c x y k s =
-    either Leaves (lt (d2 c x y k) (ofBits binary64 0x3d71_9799_812d_ea11)) (left (point-whole (at c k) (at c (k + 1)))) (goes _)
+    either Leaves (lt (d2 c x y k) (ofBits binary64 0x3d71_9799_812d_ea11))
+    (left (point-whole (at c k) (at c (k + 1)))) (goes _)
 
 pairs-whole : (c : Vector) (x y : Float) (n : ℕ) → Whole (ofPairs c x y n)
 unfolding ofPairs pairTurn
@@ -58,7 +78,8 @@ affine-whole m x y = point-whole _ _
 pub perspective-whole : (m : Vector) (x y : Float) → Whole (perspective m x y)
 unfolding perspective
 perspective-whole m x y =
-    unless-whole (le (wq m x y) (ofBits binary64 0x3d71_9799_812d_ea11)) (linear (at m 0) (at m 1) (at m 2) x y ⊘ wq m x y)
+    unless-whole (le (wq m x y) (ofBits binary64 0x3d71_9799_812d_ea11))
+    (linear (at m 0) (at m 1) (at m 2) x y ⊘ wq m x y)
     (linear (at m 3) (at m 4) (at m 5) x y ⊘ wq m x y)
 
 polynomial-whole : (order : ℕ) (m : Vector) (x y : Float) → Whole (polynomial order m x y)
@@ -82,7 +103,8 @@ inverse-whole kind order count coef x y =
     (either Whole (eqb kind polyKind) (polynomial-whole order coef x y)
     (either Whole (eqb kind bilinearForwardKind) (forward-whole coef x y)
     (either Whole (eqb kind barrelKind) (barrel-whole coef (down coef y) (across coef x) (radius coef x y))
-    (either Whole (eqb kind barrelInverseKind) (barrel-inverse-whole coef (down coef y) (across coef x) (radius coef x y))
+    (either Whole (eqb kind barrelInverseKind)
+    (barrel-inverse-whole coef (down coef y) (across coef x) (radius coef x y))
     (either Whole (eqb kind shepardsKind) (pairs-whole coef x y (pairsOf count))
     none-whole))))))
   where

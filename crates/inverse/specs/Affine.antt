@@ -1,7 +1,7 @@
--- Affine: u = m0 x + m1 y + m2, v = m3 x + m4 y + m5. Assumes nothing.
+-- Affine: u = m0 x + m1 y + m2, v = m3 x + m4 y + m5. Specification 7. Assumes nothing.
 use lib.Ieee.{Float}
 use Rattle.exact.specs.Sums.{linear}
-use Rattle.matrix.specs.Matrix.{Vector, at}
+use Rattle.exact.specs.Vector.{Vector, at}
 use Rattle.point.specs.declared.point.Point.{Point}
 use Rattle.point.specs.Point.{point}
 

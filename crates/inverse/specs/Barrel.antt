@@ -1,12 +1,12 @@
--- Barrel and BarrelInverse: the offset from the centre times a factor that depends on the radius. The coefficients
--- are the factor's four, the centre's two and the radius that counts as 1. Assumes nothing.
+-- Barrel and BarrelInverse: the offset from the centre times a factor that depends on the radius. The coefficients are
+-- the factor's four, the centre's two and the radius that counts as 1. Specification 7. Assumes nothing.
 use mathlib.Core.Bool.{cond}
 use lib.Ieee.{Float, binary64, ofBits, lt}
 use Rattle.exact.specs.Double.{_⊕_, _⊖_, _⊗_, _⊘_}
 use Rattle.number.specs.Magnitude.{abs}
 use Rattle.number.specs.Power.{one}
-use Rattle.root.specs.Root.{root}
-use Rattle.matrix.specs.Matrix.{Vector, at}
+use Rattle.number.specs.Root.{root}
+use Rattle.exact.specs.Vector.{Vector, at}
 use Rattle.point.specs.declared.point.Point.{Point}
 use Rattle.point.specs.Point.{point, none}
 

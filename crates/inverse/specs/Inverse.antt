@@ -1,18 +1,27 @@
--- `Mapping::inverse`: the source point of the output point (x, y), by the mapping's kind; a kind that is none has no point. Assumes nothing.
+-- `Mapping::inverse`: the source point of the output point (x, y), by the mapping's kind; a kind that is none has no
+-- point. Specification 7. Assumes nothing.
 use Prim.Native.Nat.{ℕ}
 use mathlib.Core.Bool.{cond}
 use lib.Dec.{eqb}
 use lib.Ieee.{Float}
-use Rattle.matrix.specs.Matrix.{Vector}
-use Rattle.mappings.specs.Mapping.{affineKind, perspectiveKind, polyKind, bilinearForwardKind, barrelKind, barrelInverseKind, shepardsKind}
+use Rattle.exact.specs.Vector.{Vector}
+use Rattle.mappings.specs.Mapping.{
+  affineKind,
+  perspectiveKind,
+  polyKind,
+  bilinearForwardKind,
+  barrelKind,
+  barrelInverseKind,
+  shepardsKind,
+}
 use Rattle.point.specs.declared.point.Point.{Point}
 use Rattle.point.specs.Point.{none}
 use Rattle.inverse.specs.Affine.{affine}
-use Rattle.perspective.specs.Perspective.{perspective}
+use Rattle.inverse.specs.Perspective.{perspective}
 use Rattle.inverse.specs.Polynomial.{polynomial}
-use Rattle.forward.specs.Forward.{bilinearForward}
+use Rattle.inverse.specs.Forward.{bilinearForward}
 use Rattle.inverse.specs.Barrel.{barrel, barrelInverse}
-use Rattle.shepards.specs.Shepards.{shepards}
+use Rattle.inverse.specs.Shepards.{shepards}
 
 unfoldable pub inverse : ℕ → ℕ → ℕ → Vector → Float → Float → Point
 inverse kind order count coef x y =

@@ -1,5 +1,8 @@
--- The definitions of the source points, each method's.
+-- The definitions of the source points, a file for each method.
 pub mod Affine
-pub mod Polynomial
 pub mod Barrel
+pub mod Forward
 pub mod Inverse
+pub mod Perspective
+pub mod Polynomial
+pub mod Shepards

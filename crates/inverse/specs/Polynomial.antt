@@ -1,12 +1,13 @@
--- Polynomial: the n monomials, each times its coefficient, summed in order from +0. The n coefficients of u stand first, then those of v.
--- Assumes nothing.
+-- Polynomial: the n monomials, each times its coefficient, summed in order from +0. The n coefficients of u stand
+-- first, then those of v. Specification 7. Assumes nothing.
 use Prim.Native.Nat.{ℕ, zero, suc, _+_}
 use lib.ListN.{length}
 use lib.Ieee.{Float}
 use Rattle.exact.specs.Double.{_⊗_}
 use Rattle.exact.specs.Sums.{summed}
-use Rattle.matrix.specs.Matrix.{Vector, at, nought}
-use Rattle.equations.specs.Monomials.{monomials}
+use Rattle.exact.specs.Vector.{Vector, at}
+use Rattle.linear.specs.Matrix.{nought}
+use Rattle.mappings.specs.Monomials.{monomials}
 use Rattle.point.specs.declared.point.Point.{Point}
 use Rattle.point.specs.Point.{point}
 

@@ -3,10 +3,10 @@
 ghost use mathlib.Core.Path.{_≡_};
 ghost use Rattle.inverse.specs.Barrel as Barrel;
 use number::magnitude::abs;
+use number::root::root;
 use point::point::Point;
 use point::usable::point;
 use point::usable::point_unless;
-use root::root::root;
 
 // The offset from the centre, across and down.
 pub fn across(c: &[f64; 256], x: f64) -> f64
@@ -22,7 +22,7 @@ pub fn down(c: &[f64; 256], y: f64) -> f64
 }
 
 // The squared radius.
-pub fn square(dx: f64, dy: f64) -> f64
+pub fn radius_squared(dx: f64, dy: f64) -> f64
     ensures { λ r. ⌜ r ≡ Barrel.square dx dy ⌝ }
 {
     dx * dx + dy * dy
@@ -56,7 +56,7 @@ pub fn barrel(c: &[f64; 256], x: f64, y: f64) -> Point
 {
     let dx = across(c, x);
     let dy = down(c, y);
-    barrel_from(c, dy, dx, root(square(dx, dy)))
+    barrel_from(c, dy, dx, root(radius_squared(dx, dy)))
 }
 
 pub fn barrel_inverse(c: &[f64; 256], x: f64, y: f64) -> Point
@@ -64,5 +64,5 @@ pub fn barrel_inverse(c: &[f64; 256], x: f64, y: f64) -> Point
 {
     let dx = across(c, x);
     let dy = down(c, y);
-    barrel_inverse_from(c, dy, dx, root(square(dx, dy)))
+    barrel_inverse_from(c, dy, dx, root(radius_squared(dx, dy)))
 }

@@ -1,6 +1,11 @@
-// The source point of each output pixel, by the fitted mapping. Every public function equals its definition in specs/
-// for every input of its types, NaN and infinities included.
+// The source point of each output pixel, by the fitted mapping, one function a method. Read by `band` and
+// `fast_points`. Every public function equals its definition in specs/ for every input of its types, NaN and infinities
+// included.
 pub mod affine;
 pub mod barrel;
+pub mod forward;
+pub mod frame;
+pub mod perspective;
 pub mod polynomial;
+pub mod shepards;
 pub mod source;

@@ -2,9 +2,9 @@
 ghost use mathlib.Core.Path.{_≡_};
 ghost use Prim.Native.Nat.{_≤_};
 ghost use lib.ListN.{length};
-ghost use Rattle.equations.specs.Monomials.{monomials};
+ghost use Rattle.mappings.specs.Monomials.{monomials};
 ghost use Rattle.inverse.specs.Polynomial as Polynomial;
-use equations::monomials::monomials;
+use mappings::monomials::monomials;
 use point::point::Point;
 use point::usable::point;
 

@@ -4,8 +4,10 @@ ghost use Rattle.inverse.specs.Inverse as Inverse;
 use crate::affine::affine;
 use crate::barrel::barrel;
 use crate::barrel::barrel_inverse;
+use crate::forward::bilinear_forward;
+use crate::perspective::perspective;
 use crate::polynomial::polynomial;
-use forward::forward::bilinear_forward;
+use crate::shepards::shepards;
 use mappings::mapping::AFFINE;
 use mappings::mapping::BARREL;
 use mappings::mapping::BARREL_INVERSE;
@@ -13,10 +15,8 @@ use mappings::mapping::BILINEAR_FORWARD;
 use mappings::mapping::PERSPECTIVE;
 use mappings::mapping::POLY;
 use mappings::mapping::SHEPARDS;
-use perspective::perspective::perspective;
 use point::point::Point;
 use point::usable::none;
-use shepards::shepards::shepards;
 
 pub fn inverse(kind: u64, order: u64, count: u64, coef: &[f64; 256], x: f64, y: f64) -> Point
     ensures { λ r. ⌜ r ≡ Inverse.inverse kind order count (now (coef .entry)) x y ⌝ }

@@ -1,5 +1,5 @@
--- The laws of a text fed byte by byte, each by opening `fed` once: none left, one byte of a chunk, and two texts after each other.
--- Assumes nothing.
+-- The laws of a text fed byte by byte, each by opening `fed` once: none left, one byte of a chunk, and two texts after
+-- each other. Assumes nothing.
 use mathlib.Core.Path.{_≡_, refl}
 use mathlib.Core.List.{List, [], _∷_, _++_}
 use Prim.Native.Nat.{ℕ, _+_, _≤_, _<_}
@@ -9,7 +9,8 @@ use lib.Seq.{drop-cons}
 use Rattle.listing.specs.Reader.{State, step, fed}
 
 -- the loop over a chunk: before byte k, and past the end
-pub fed-next : (s : State) (bytes : List ℕ) (k : ℕ) → k < length bytes → fed s (drop k bytes) ≡ fed (step s (getD bytes k 0)) (drop (k + 1) bytes)
+pub fed-next : (s : State) (bytes : List ℕ) (k : ℕ) → k < length bytes
+    → fed s (drop k bytes) ≡ fed (step s (getD bytes k 0)) (drop (k + 1) bytes)
 unfolding fed
 fed-next s bytes k h = rw (add-one k, drop-cons bytes k 0 h)
 

@@ -1,5 +1,5 @@
--- A text's numbers are all within the limit where the reader has met none that is too large: the size that it keeps is the number, or
--- both are above the limit. Assumes nothing.
+-- A text's numbers are all within the limit where the reader has met none that is too large: the size that it keeps is
+-- the number, or both are above the limit. Assumes nothing.
 use mathlib.Core.Path.{_≡_, refl, sym, ap, _∙_}
 use mathlib.Core.Logic.{inl, inr}
 use mathlib.Core.Bool.{Bool, true, false, cond, true≢false}
@@ -26,10 +26,15 @@ size-within n h m = omega (arith, held n h .exact m)
 module _ (large : Bool) (n : Numeral) (h : AllDigits (digits n)) (e : isLarge large (sizeOf n) ≡ false) where
   was-small : sizeOf n ≤ limit
   unfolding isLarge
-  was-small = elim (lt-or-le limit (sizeOf n)) [ inl l ↦ absurd (true≢false (sym (ap (λ (t : Bool). cond t true large) (lt-ltb limit (sizeOf n) l)) ∙ e)) | inr l ↦ l ]
+  was-small = elim (lt-or-le limit (sizeOf n)) [
+    | inl l ↦ absurd (true≢false (sym (ap (λ (t : Bool). cond t true large) (lt-ltb limit (sizeOf n) l)) ∙ e))
+    | inr
+        l ↦ l
+  ]
 
   number-within : magnitude n ≤ limit
-  number-within = elim (lt-or-le limit (magnitude n)) [ inl l ↦ absurd (clash (held n h .above l) was-small) | inr l ↦ l ]
+  number-within = elim (lt-or-le limit (magnitude n))
+      [ inl l ↦ absurd (clash (held n h .above l) was-small) | inr l ↦ l ]
     where
       clash : limit < sizeOf n → sizeOf n ≤ limit → ⊥
       clash a b = omega arith
@@ -69,7 +74,8 @@ pair-within large p h e =
       ),
     )
 
-pub all-within : (large : Bool) (ps : List Pair) → AllProper ps → largeAll large ps ≡ false → (large ≡ false) × AllWithin ps
+pub all-within : (large : Bool) (ps : List Pair) → AllProper ps → largeAll large ps ≡ false → (large ≡ false)
+    × AllWithin ps
 unfolding largeAll
 all-within large [] h e = (e, tt)
 all-within large (p ∷ ps) h e =

@@ -1,4 +1,5 @@
--- The laws of the listing. `Printed` has what they come to: what is printed for every text. `ReadBack` and `OnlyThese` are its two halves.
+-- The laws of the listing. `Printed` has what they come to: what is printed for every text. `ReadBack` and `OnlyThese`
+-- are its two halves.
 pub mod EndLaws
 pub mod Fed
 pub mod FormLaws

@@ -1,5 +1,5 @@
--- The other way for a line: the reader's names, column and lines say what the text before the word is, as long as there are not too
--- many lines. Each word that is taken keeps that. Assumes nothing.
+-- The other way for a line: the reader's names, column and lines say what the text before the word is, as long as there
+-- are not too many lines. Each word that is taken keeps that. Assumes nothing.
 use mathlib.Core.Path.{_≡_, refl, sym, ap, subst, _∙_}
 use mathlib.Core.Logic.{inl, inr}
 use mathlib.Core.Bool.{Bool, true, false, cond}
@@ -13,7 +13,22 @@ use Rattle.exact.proofs.Naturals.{lt-or-le}
 use Rattle.listing.specs.declared.names.Names.{Names}
 use Rattle.listing.specs.Names.{none, columnOf, placed}
 use Rattle.listing.specs.Reader.{counted}
-use Rattle.listing.specs.Text.{Numeral, digits, AllDigits, numeralText, Pair, Proper, AllProper, pairText, pairsText, Order, isOrder, letter, orderText, text}
+use Rattle.listing.specs.Text.{
+  Numeral,
+  digits,
+  AllDigits,
+  numeralText,
+  Pair,
+  Proper,
+  AllProper,
+  pairText,
+  pairsText,
+  Order,
+  isOrder,
+  letter,
+  orderText,
+  text,
+}
 use Rattle.listing.proofs.OrderLaws.{namesOf}
 use Rattle.listing.proofs.OrderTests.{free-order}
 
@@ -31,15 +46,19 @@ unfoldable pub nameCells : List ℕ → List ℕ
 nameCells [] = []
 nameCells (k ∷ ks) = letter k ∷ (32 ∷ nameCells ks)
 
-placed-more : (names : Names) (column : ℕ) (ks : List ℕ) (k : ℕ) → placed (placedAll names column ks) k (column + length ks) ≡ placedAll names column (ks ++ k ∷ [])
+placed-more : (names : Names) (column : ℕ) (ks : List ℕ) (k : ℕ)
+    → placed (placedAll names column ks) k (column + length ks) ≡ placedAll names column (ks ++ k ∷ [])
 unfolding placedAll
 placed-more names column [] k = ap (placed names k) (omega arith)
-placed-more names column (j ∷ ks) k = ap (placed (placedAll (placed names j column) (column + 1) ks) k) (omega arith) ∙ placed-more (placed names j column) (column + 1) ks k
+placed-more names column (j ∷ ks) k = ap (placed (placedAll (placed names j column) (column + 1) ks) k) (omega arith)
+    ∙ placed-more (placed names j column) (column + 1) ks k
 
-free-more : (names : Names) (column : ℕ) (ks : List ℕ) (k : ℕ) → Free names column ks → k < 4 → columnOf (placedAll names column ks) k ≡ 4 → Free names column (ks ++ k ∷ [])
+free-more : (names : Names) (column : ℕ) (ks : List ℕ) (k : ℕ) → Free names column ks → k < 4
+    → columnOf (placedAll names column ks) k ≡ 4 → Free names column (ks ++ k ∷ [])
 unfolding Free placedAll
 free-more names column [] k f l e = (l, (e, tt))
-free-more names column (j ∷ ks) k f l e = (f .0, (f .1 .0, free-more (placed names j column) (column + 1) ks k (f .1 .1) l e))
+free-more names column (j ∷ ks) k f l e =
+    (f .0, (f .1 .0, free-more (placed names j column) (column + 1) ks k (f .1 .1) l e))
 
 cells-more : (ks : List ℕ) (k : ℕ) → nameCells ks ++ letter k ∷ (32 ∷ []) ≡ nameCells (ks ++ k ∷ [])
 unfolding nameCells
@@ -60,10 +79,12 @@ all-cells : (ns : List Numeral) (n : Numeral) → AllCells ns → AllDigits (dig
 all-cells [] n h d = (d, tt)
 all-cells (m ∷ ns) n h d = (h .0, all-cells ns n (h .1) d)
 
-numbers-more : (ns : List Numeral) (n : Numeral) → numberCells ns ++ (numeralText n ++ 32 ∷ []) ≡ numberCells (ns ++ n ∷ [])
+numbers-more : (ns : List Numeral) (n : Numeral) → numberCells ns
+    ++ (numeralText n ++ 32 ∷ []) ≡ numberCells (ns ++ n ∷ [])
 unfolding numberCells
 numbers-more [] n = refl
-numbers-more (m ∷ ns) n = append-assoc (numeralText m) _ _ ∙ ap (λ (t : List ℕ). numeralText m ++ 32 ∷ t) (numbers-more ns n)
+numbers-more (m ∷ ns) n = append-assoc (numeralText m) _ _
+    ∙ ap (λ (t : List ℕ). numeralText m ++ 32 ∷ t) (numbers-more ns n)
 
 -- ---- a pair more
 
@@ -74,40 +95,49 @@ all-proper (q ∷ ps) p h d = (h .0, all-proper ps p (h .1) d)
 pairs-more : (ps : List Pair) (p : Pair) → pairsText (ps ++ p ∷ []) ≡ pairsText ps ++ pairText p
 unfolding pairsText
 pairs-more [] p = append-nil (pairText p)
-pairs-more (q ∷ ps) p = ap (λ (t : List ℕ). pairText q ++ t) (pairs-more ps p) ∙ sym (append-assoc (pairText q) (pairsText ps) (pairText p))
+pairs-more (q ∷ ps) p = ap (λ (t : List ℕ). pairText q ++ t) (pairs-more ps p)
+    ∙ sym (append-assoc (pairText q) (pairsText ps) (pairText p))
 
 text-more : (o : Order) (ps : List Pair) (p : Pair) → text o (ps ++ p ∷ []) ≡ text o ps ++ pairText p
 unfolding text
-text-more o ps p = ap (λ (t : List ℕ). orderText o ++ t) (pairs-more ps p) ∙ sym (append-assoc (orderText o) (pairsText ps) (pairText p))
+text-more o ps p = ap (λ (t : List ℕ). orderText o ++ t) (pairs-more ps p)
+    ∙ sym (append-assoc (orderText o) (pairsText ps) (pairText p))
 
 -- ---- what the names, the column and the lines say of the text before the word
 
 pub data Seen : Names → ℕ → ℕ → List ℕ → Type 0 where
   in-names : (ks : List ℕ) → Free none 0 ks → Seen (placedAll none 0 ks) (length ks) 0 (nameCells ks)
-  in-pairs : (o : Order) → T (isOrder o) → (ps : List Pair) → AllProper ps → length ps ≤ 64 → (ns : List Numeral) → AllCells ns → Seen (namesOf o) (length ns) (1 + length ps) (text o ps ++ numberCells ns)
+  in-pairs : (o : Order) → T (isOrder o) → (ps : List Pair) → AllProper ps → length ps ≤ 64 → (ns : List Numeral)
+      → AllCells ns → Seen (namesOf o) (length ns) (1 + length ps) (text o ps ++ numberCells ns)
   too-many : (names : Names) (column lines : ℕ) (t : List ℕ) → 65 < lines → Seen names column lines t
 
-seen-same : {names names' : Names} {column column' lines : ℕ} {t t' : List ℕ} → names ≡ names' → column ≡ column' → t ≡ t' → Seen names column lines t → Seen names' column' lines t'
+seen-same : {names names' : Names} {column column' lines : ℕ} {t t' : List ℕ} → names ≡ names' → column ≡ column'
+    → t ≡ t' → Seen names column lines t → Seen names' column' lines t'
 seen-same {names} {names'} {column} {column'} {lines} {t} {t'} e f g s =
-    subst (Seen names' column' lines) g (subst (λ (c : ℕ). Seen names' c lines t) f (subst (λ (n : Names). Seen n column lines t) e s))
+    subst (Seen names' column' lines) g
+    (subst (λ (c : ℕ). Seen names' c lines t) f (subst (λ (n : Names). Seen n column lines t) e s))
 
 one-longer : {A : Type 0} (xs : List A) (x : A) → length (xs ++ x ∷ []) ≡ length xs + 1
 one-longer xs x = length-append xs (x ∷ [])
 
 -- a name is taken, and a space or the line feed follows
-pub names-space : (ks : List ℕ) (k : ℕ) → Free none 0 ks → k < 4 → columnOf (placedAll none 0 ks) k ≡ 4 → Seen (placed (placedAll none 0 ks) k (length ks)) (length ks + 1) 0 (nameCells ks ++ letter k ∷ (32 ∷ []))
+pub names-space : (ks : List ℕ) (k : ℕ) → Free none 0 ks → k < 4 → columnOf (placedAll none 0 ks) k ≡ 4
+    → Seen (placed (placedAll none 0 ks) k (length ks)) (length ks + 1) 0 (nameCells ks ++ letter k ∷ (32 ∷ []))
 names-space ks k f l e =
-    seen-same (sym (placed-more none 0 ks k) ∙ ap (placed (placedAll none 0 ks) k) (omega arith)) (one-longer ks k) (sym (cells-more ks k))
+    seen-same (sym (placed-more none 0 ks k) ∙ ap (placed (placedAll none 0 ks) k) (omega arith)) (one-longer ks k)
+    (sym (cells-more ks k))
     (in-names (ks ++ k ∷ []) (free-more none 0 ks k f l e))
 
-pub names-end : (ks : List ℕ) (k : ℕ) → Free none 0 ks → k < 4 → columnOf (placedAll none 0 ks) k ≡ 4 → length ks ≡ 3 → Seen (placed (placedAll none 0 ks) k (length ks)) 0 1 (nameCells ks ++ letter k ∷ (10 ∷ []))
+pub names-end : (ks : List ℕ) (k : ℕ) → Free none 0 ks → k < 4 → columnOf (placedAll none 0 ks) k ≡ 4 → length ks ≡ 3
+    → Seen (placed (placedAll none 0 ks) k (length ks)) 0 1 (nameCells ks ++ letter k ∷ (10 ∷ []))
 unfolding placedAll Free nameCells numberCells text orderText pairsText
 names-end [] k f l e h = absurd (omega (arith, h))
 names-end (a ∷ []) k f l e h = absurd (omega (arith, h))
 names-end (a ∷ (b ∷ [])) k f l e h = absurd (omega (arith, h))
 names-end (a ∷ (b ∷ (c ∷ []))) k f l e h =
     in-pairs (record { col0 = a; col1 = b; col2 = c; col3 = k })
-    (free-order (record { col0 = a; col1 = b; col2 = c; col3 = k }) (f .0) (f .1 .1 .0) (f .1 .1 .1 .1 .0) l (f .1 .0) (f .1 .1 .1 .0) (f .1 .1 .1 .1 .1 .0) e)
+    (free-order (record { col0 = a; col1 = b; col2 = c; col3 = k }) (f .0) (f .1 .1 .0) (f .1 .1 .1 .1 .0) l (f .1 .0)
+    (f .1 .1 .1 .0) (f .1 .1 .1 .1 .1 .0) e)
     []
     tt
     (omega arith)
@@ -117,15 +147,18 @@ names-end (a ∷ (b ∷ (c ∷ (d ∷ ks)))) k f l e h = absurd (omega (arith, h
 
 -- a number is taken, and a space or the line feed follows
 module _ (o : Order) (is : T (isOrder o)) (ps : List Pair) (proper : AllProper ps) (room : length ps ≤ 64) where
-  pub numbers-space : (ns : List Numeral) (n : Numeral) → AllCells ns → AllDigits (digits n) → Seen (namesOf o) (length ns + 1) (1 + length ps) (text o ps ++ numberCells ns ++ (numeralText n ++ 32 ∷ []))
+  pub numbers-space : (ns : List Numeral) (n : Numeral) → AllCells ns → AllDigits (digits n)
+      → Seen (namesOf o) (length ns + 1) (1 + length ps) (text o ps ++ numberCells ns ++ (numeralText n ++ 32 ∷ []))
   numbers-space ns n h d =
-      seen-same refl (one-longer ns n) (sym (append-assoc (text o ps) (numberCells ns) _ ∙ ap (λ (t : List ℕ). text o ps ++ t) (numbers-more ns n)))
+      seen-same refl (one-longer ns n)
+      (sym (append-assoc (text o ps) (numberCells ns) _ ∙ ap (λ (t : List ℕ). text o ps ++ t) (numbers-more ns n)))
       (in-pairs o is ps proper room (ns ++ n ∷ []) (all-cells ns n h d))
 
   pair-ends : (p : Pair) → Proper p → Seen (namesOf o) 0 (counted (1 + length ps)) (text o ps ++ pairText p)
   unfolding counted numberCells
   pair-ends p d = elim (lt-or-le (length ps) 64) [
-    | inl l ↦ subst (λ (k : ℕ). Seen (namesOf o) 0 k (text o ps ++ pairText p)) (ap (λ (k : ℕ). 1 + k) (one-longer ps p) ∙ counts (length ps) l)
+    | inl l ↦ subst (λ (k : ℕ). Seen (namesOf o) 0 k (text o ps ++ pairText p))
+        (ap (λ (k : ℕ). 1 + k) (one-longer ps p) ∙ counts (length ps) l)
         (subst (Seen (namesOf o) 0 (1 + length (ps ++ p ∷ []))) (append-nil _ ∙ text-more o ps p)
         (in-pairs o is (ps ++ p ∷ []) (all-proper ps p proper d) (omega (arith, one-longer ps p)) [] tt))
     | inr g ↦ too-many _ _ _ _ (over (length ps) g)
@@ -141,7 +174,8 @@ module _ (o : Order) (is : T (isOrder o)) (ps : List Pair) (proper : AllProper p
           either true h = omega arith
           either false h = omega arith
 
-  pub numbers-end : (ns : List Numeral) (n : Numeral) → AllCells ns → AllDigits (digits n) → length ns ≡ 3 → Seen (namesOf o) 0 (counted (1 + length ps)) (text o ps ++ numberCells ns ++ (numeralText n ++ 10 ∷ []))
+  pub numbers-end : (ns : List Numeral) (n : Numeral) → AllCells ns → AllDigits (digits n) → length ns ≡ 3
+      → Seen (namesOf o) 0 (counted (1 + length ps)) (text o ps ++ numberCells ns ++ (numeralText n ++ 10 ∷ []))
   unfolding numberCells pairText
   numbers-end [] n h d e = absurd (omega (arith, e))
   numbers-end (a ∷ []) n h d e = absurd (omega (arith, e))

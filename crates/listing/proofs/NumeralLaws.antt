@@ -1,4 +1,5 @@
--- A number's text is read as that number: each digit grows it, and one that has passed the limit stays above it. Assumes nothing.
+-- A number's text is read as that number: each digit grows it, and one that has passed the limit stays above it.
+-- Assumes nothing.
 use mathlib.Core.Path.{_≡_, refl, ap, _∙_}
 use mathlib.Core.Logic.{inl, inr}
 use mathlib.Core.Bool.{Bool, true, false}
@@ -71,14 +72,20 @@ digit-next negative size d h =
 not-name : (d : ℕ) → d < 10 → nameOf (48 + d) ≡ 4
 unfolding nameOf
 not-name d h =
-    rw (ne-eqb (48 + d) 117 (λ e. omega arith), ne-eqb (48 + d) 118 (λ e. omega arith), ne-eqb (48 + d) 120 (λ e. omega arith), ne-eqb (48 + d) 121 (λ e. omega arith))
+    rw (
+      ne-eqb (48 + d) 117 (λ e. omega arith),
+      ne-eqb (48 + d) 118 (λ e. omega arith),
+      ne-eqb (48 + d) 120 (λ e. omega arith),
+      ne-eqb (48 + d) 121 (λ e. omega arith),
+    )
 
 digit-first : (d : ℕ) → d < 10 → first (48 + d) ≡ Number false (grown 0 d)
 unfolding first
 digit-first d h = rw (ne-eqb (48 + d) 45 (λ e. omega arith), not-name d h) (digit-next false 0 d h)
 
 -- a byte that is neither a space nor a line feed goes to the word
-in-word : (s : Reader) (bytes : List ℕ) (w : Word) (b : ℕ) → (b ≡ 10 → ⊥) → (b ≡ 32 → ⊥) → step (withWord s w, bytes) b ≡ (withWord s (next w b), bytes)
+in-word : (s : Reader) (bytes : List ℕ) (w : Word) (b : ℕ) → (b ≡ 10 → ⊥) → (b ≡ 32 → ⊥)
+    → step (withWord s w, bytes) b ≡ (withWord s (next w b), bytes)
 unfolding step
 in-word s bytes w b h g = rw (ne-eqb b 10 h, ne-eqb b 32 g)
 
@@ -87,15 +94,19 @@ module _ (s : Reader) (bytes : List ℕ) where
   abbrev at-word : Word → State
   at-word w = (withWord s w, bytes)
 
-  digits-read : (negative : Bool) (size : ℕ) (ds : List ℕ) → AllDigits ds → fed (at-word (Number negative size)) (digitsText ds) ≡ at-word (Number negative (grownBy size ds))
+  digits-read : (negative : Bool) (size : ℕ) (ds : List ℕ) → AllDigits ds
+      → fed (at-word (Number negative size)) (digitsText ds) ≡ at-word (Number negative (grownBy size ds))
   unfolding fed grownBy next
   digits-read negative size [] h = refl
   digits-read negative size (d ∷ ds) h =
       ap (λ (t : State). fed t (digitsText ds))
-      (in-word s bytes (Number negative size) (48 + d) (λ e. omega arith) (λ e. omega arith) ∙ ap at-word (digit-next negative size d (h .0)))
+      (in-word s bytes (Number negative size) (48 + d) (λ e. omega arith) (λ e. omega arith)
+      ∙ ap at-word (digit-next negative size d (h .0)))
       ∙ digits-read negative (grown size d) ds (h .1)
 
-  numeral-at : (negative : Bool) (d : ℕ) (ds : List ℕ) → AllDigits (d ∷ ds) → fed (at-word Empty) (numeralText (record { negative = negative; first = d; rest = ds })) ≡ at-word (Number negative (grownBy 0 (d ∷ ds)))
+  numeral-at : (negative : Bool) (d : ℕ) (ds : List ℕ) → AllDigits (d ∷ ds)
+      → fed (at-word Empty) (numeralText (record { negative = negative; first = d; rest = ds })) ≡ at-word
+      (Number negative (grownBy 0 (d ∷ ds)))
   unfolding fed grownBy next numeralText step first
   numeral-at false d ds h =
       ap (λ (t : State). fed t (digitsText ds))
@@ -107,5 +118,6 @@ module _ (s : Reader) (bytes : List ℕ) where
       ∙ digits-read true (grown 0 d) ds (h .1)
 
   -- a numeral at the start of a word
-  pub numeral-read : (n : Numeral) → AllDigits (digits n) → fed (withWord s Empty, bytes) (numeralText n) ≡ (withWord s (Number (n .negative) (sizeOf n)), bytes)
+  pub numeral-read : (n : Numeral) → AllDigits (digits n)
+      → fed (withWord s Empty, bytes) (numeralText n) ≡ (withWord s (Number (n .negative) (sizeOf n)), bytes)
   numeral-read n h = numeral-at (n .negative) (n .first) (n .rest) h

@@ -1,5 +1,5 @@
--- Nothing else is read: a text that ends without a fault of form is one that document 01 describes, so every other text is refused by
--- 4, whatever its numbers. The state at the end says what the text was. Assumes nothing.
+-- Nothing else is read: a text that ends without a fault of form is one of specification 12.1, so every other text
+-- is refused by 4, whatever its numbers. The state at the end says what the text was. Assumes nothing.
 use mathlib.Core.Path.{_≡_, refl, _∙_}
 use mathlib.Core.Bool.{Bool, true, false, not, _||_, cond, true≢false}
 use mathlib.Core.List.{List, [], _∷_, append-nil}
@@ -31,7 +31,8 @@ none-of false true c d e = absurd (true≢false e)
 none-of false false true d e = absurd (true≢false e)
 
 -- the lines and the column of a text that ends well
-ended : (names : Names) (column lines : ℕ) (t : List ℕ) → column ≡ 0 → 2 ≤ lines → lines ≤ 65 → Seen names column lines t → Described t
+ended : (names : Names) (column lines : ℕ) (t : List ℕ) → column ≡ 0 → 2 ≤ lines → lines ≤ 65
+    → Seen names column lines t → Described t
 unfolding numberCells
 ended _ _ _ _ c a b (in-names ks f) = absurd (omega (arith, a))
 ended _ _ _ _ c a b (in-pairs o is ps proper room [] h) = record {
@@ -51,7 +52,8 @@ unfolding badForm isEmpty
 good _ _ e (lost names column lines large t) = absurd (true≢false e)
 good _ _ e (form names _ column lines large t _ empty s) =
     let n = none-of false (not (eqb column 0)) (ltb lines 2) (ltb 65 lines) e in
-    let d = ended names column lines t (eqb-true column 0 (not-false (eqb column 0) (n .n2))) (ltb-false lines 2 (n .n3)) (ltb-false 65 lines (n .n4)) s in
+    let d = ended names column lines t (eqb-true column 0 (not-false (eqb column 0) (n .n2)))
+    (ltb-false lines 2 (n .n3)) (ltb-false 65 lines (n .n4)) s in
     record {
       order = d .order;
       isOne = d .isOne;

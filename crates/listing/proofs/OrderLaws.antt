@@ -1,5 +1,5 @@
--- The names line is read as the order that it says, where each name finds its column free and each column then gives its name back.
--- Assumes nothing.
+-- The names line is read as the order that it says, where each name finds its column free and each column then gives
+-- its name back. Assumes nothing.
 use mathlib.Core.Path.{_≡_, refl, ap, _∙_}
 use mathlib.Core.Bool.{Bool, false, _&&_}
 use mathlib.Core.List.{List, [], _∷_}
@@ -17,7 +17,8 @@ use Rattle.listing.proofs.PairLaws.{between}
 
 -- ---- one name
 
-letter-read : (names : Names) (column k : ℕ) (bytes : List ℕ) → k < 4 → step (between names column 0 false, bytes) (letter k) ≡ (withWord (between names column 0 false) (Name k), bytes)
+letter-read : (names : Names) (column k : ℕ) (bytes : List ℕ) → k < 4
+    → step (between names column 0 false, bytes) (letter k) ≡ (withWord (between names column 0 false) (Name k), bytes)
 unfolding step next first nameOf letter
 letter-read names column zero bytes h = refl
 letter-read names column (suc zero) bytes h = refl
@@ -26,14 +27,19 @@ letter-read names column (suc (suc (suc zero))) bytes h = refl
 letter-read names column (suc (suc (suc (suc k)))) bytes h = absurd (omega (arith, h))
 
 -- a name and the space after it, where its column is free
-name-cell : (names : Names) (column k : ℕ) (bytes rest : List ℕ) → k < 4 → column < 3 → columnOf names k ≡ 4 → fed (between names column 0 false, bytes) (letter k ∷ (32 ∷ rest)) ≡ fed (between (placed names k column) (column + 1) 0 false, bytes) rest
+name-cell : (names : Names) (column k : ℕ) (bytes rest : List ℕ) → k < 4 → column < 3 → columnOf names k ≡ 4
+    → fed (between names column 0 false, bytes) (letter k ∷ (32 ∷ rest)) ≡ fed
+    (between (placed names k column) (column + 1) 0 false, bytes) rest
 unfolding fed step taken takeName nextColumn
 name-cell names column k bytes rest h g free =
-    ap (λ (s : State). fed (step s 32) rest) (letter-read names column k bytes h) ∙ rw (eq-eqb (columnOf names k) 4 free, lt-ltb column 3 g)
+    ap (λ (s : State). fed (step s 32) rest) (letter-read names column k bytes h)
+    ∙ rw (eq-eqb (columnOf names k) 4 free, lt-ltb column 3 g)
 
-last-name : (names : Names) (k : ℕ) (bytes : List ℕ) → k < 4 → columnOf names k ≡ 4 → fed (between names 3 0 false, bytes) (letter k ∷ (10 ∷ [])) ≡ (between (placed names k 3) 0 1 false, bytes)
+last-name : (names : Names) (k : ℕ) (bytes : List ℕ) → k < 4 → columnOf names k ≡ 4
+    → fed (between names 3 0 false, bytes) (letter k ∷ (10 ∷ [])) ≡ (between (placed names k 3) 0 1 false, bytes)
 unfolding fed step taken takeName nextLine counted
-last-name names k bytes h free = ap (λ (s : State). step s 10) (letter-read names 3 k bytes h) ∙ rw (eq-eqb (columnOf names k) 4 free)
+last-name names k bytes h free = ap (λ (s : State). step s 10) (letter-read names 3 k bytes h)
+    ∙ rw (eq-eqb (columnOf names k) 4 free)
 
 -- ---- the four names
 
@@ -66,12 +72,15 @@ module _ (o : Order) where
     pub low3 : o .col3 < 4
 
   abbrev pub isFree : Bool
-  isFree = eqb (columnOf none (o .col0)) 4 && (eqb (columnOf names1 (o .col1)) 4 && (eqb (columnOf names2 (o .col2)) 4 && eqb (columnOf names3 (o .col3)) 4))
+  isFree = eqb (columnOf none (o .col0)) 4
+      && (eqb (columnOf names1 (o .col1)) 4 && (eqb (columnOf names2 (o .col2)) 4 && eqb (columnOf names3 (o .col3)) 4))
 
   abbrev pub isBack : Bool
-  isBack = eqb (slotOf namesOf 0) (o .col0) && (eqb (slotOf namesOf 1) (o .col1) && (eqb (slotOf namesOf 2) (o .col2) && eqb (slotOf namesOf 3) (o .col3)))
+  isBack = eqb (slotOf namesOf 0) (o .col0)
+      && (eqb (slotOf namesOf 1) (o .col1) && (eqb (slotOf namesOf 2) (o .col2) && eqb (slotOf namesOf 3) (o .col3)))
 
-  pub order-read : (bytes : List ℕ) → Fine → fed (between none 0 0 false, bytes) (orderText o) ≡ (between namesOf 0 1 false, bytes)
+  pub order-read : (bytes : List ℕ) → Fine
+      → fed (between none 0 0 false, bytes) (orderText o) ≡ (between namesOf 0 1 false, bytes)
   unfolding orderText
   order-read bytes f =
       name-cell none 0 (o .col0) bytes _ (f .low0) (lit< tt) (f .free0)

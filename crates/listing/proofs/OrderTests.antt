@@ -1,5 +1,5 @@
--- Four names below 4 find their columns free, one after another, where they are an order and only there, and each column then gives
--- its name back: a test over the 256 fours of numbers below 4, which is computed. Assumes nothing.
+-- Four names below 4 find their columns free, one after another, where they are an order and only there, and each
+-- column then gives its name back: a test over the 256 fours of numbers below 4, which is computed. Assumes nothing.
 use mathlib.Core.Path.{_≡_, sym, subst}
 use mathlib.Core.Logic.{inl, inr}
 use mathlib.Core.Bool.{Bool, true, not, _&&_, _||_}
@@ -53,20 +53,24 @@ parts true b c d t =
 pub fine : (o : Order) → T (isOrder o) → Fine o
 unfolding test isOrder
 fine o h =
-    let l = parts (ltb (o .col0) 4) (ltb (o .col1) 4) (ltb (o .col2) 4) (ltb (o .col3) 4) (both (allNames o) (allUnlike o) h .0) in
+    let l = parts (ltb (o .col0) 4) (ltb (o .col1) 4) (ltb (o .col2) 4) (ltb (o .col3) 4)
+    (both (allNames o) (allUnlike o) h .0) in
     let l0 = ltb→lt (o .col0) 4 (l .0) in
     let l1 = ltb→lt (o .col1) 4 (l .1 .0) in
     let l2 = ltb→lt (o .col2) 4 (l .1 .1 .0) in
     let l3 = ltb→lt (o .col3) 4 (l .1 .1 .1) in
-    let t = at-below 4 _ (at-below 4 _ (at-below 4 _ (at-below 4 _ tested (o .col0) l0) (o .col1) l1) (o .col2) l2) (o .col3) l3 in
+    let t = at-below 4 _ (at-below 4 _ (at-below 4 _ (at-below 4 _ tested (o .col0) l0) (o .col1) l1) (o .col2) l2)
+    (o .col3) l3 in
     let b = both (isFree o) (isBack o) (implied (isOrder o) (isFree o && isBack o) t h) in
     let f =
-    parts (eqb (columnOf none (o .col0)) 4) (eqb (columnOf (names1 o) (o .col1)) 4) (eqb (columnOf (names2 o) (o .col2)) 4)
+    parts (eqb (columnOf none (o .col0)) 4) (eqb (columnOf (names1 o) (o .col1)) 4)
+    (eqb (columnOf (names2 o) (o .col2)) 4)
     (eqb (columnOf (names3 o) (o .col3)) 4)
     (b .0)
     in
     let s =
-    parts (eqb (slotOf (namesOf o) 0) (o .col0)) (eqb (slotOf (namesOf o) 1) (o .col1)) (eqb (slotOf (namesOf o) 2) (o .col2))
+    parts (eqb (slotOf (namesOf o) 0) (o .col0)) (eqb (slotOf (namesOf o) 1) (o .col1))
+    (eqb (slotOf (namesOf o) 2) (o .col2))
     (eqb (slotOf (namesOf o) 3) (o .col3))
     (b .1)
     in
@@ -97,12 +101,16 @@ tested-free = tt
 joined : (a b c d : Bool) → T a → T b → T c → T d → T (a && (b && (c && d)))
 joined true true true d p q r s = s
 
-pub free-order : (o : Order) → o .col0 < 4 → o .col1 < 4 → o .col2 < 4 → o .col3 < 4 → columnOf none (o .col0) ≡ 4 → columnOf (names1 o) (o .col1) ≡ 4 → columnOf (names2 o) (o .col2) ≡ 4 → columnOf (names3 o) (o .col3) ≡ 4 → T (isOrder o)
+pub free-order : (o : Order) → o .col0 < 4 → o .col1 < 4 → o .col2 < 4 → o .col3 < 4 → columnOf none (o .col0) ≡ 4
+    → columnOf (names1 o) (o .col1) ≡ 4 → columnOf (names2 o) (o .col2) ≡ 4 → columnOf (names3 o) (o .col3) ≡ 4
+    → T (isOrder o)
 unfolding test-free
 free-order o l0 l1 l2 l3 e0 e1 e2 e3 =
-    let t = at-below 4 _ (at-below 4 _ (at-below 4 _ (at-below 4 _ tested-free (o .col0) l0) (o .col1) l1) (o .col2) l2) (o .col3) l3 in
+    let t = at-below 4 _ (at-below 4 _ (at-below 4 _ (at-below 4 _ tested-free (o .col0) l0) (o .col1) l1) (o .col2)
+    l2) (o .col3) l3 in
     implied (isFree o) (isOrder o) t
-    (joined (eqb (columnOf none (o .col0)) 4) (eqb (columnOf (names1 o) (o .col1)) 4) (eqb (columnOf (names2 o) (o .col2)) 4)
+    (joined (eqb (columnOf none (o .col0)) 4) (eqb (columnOf (names1 o) (o .col1)) 4)
+    (eqb (columnOf (names2 o) (o .col2)) 4)
     (eqb (columnOf (names3 o) (o .col3)) 4)
     (eq→eqb e0)
     (eq→eqb e1)

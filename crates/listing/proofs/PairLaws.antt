@@ -1,5 +1,5 @@
--- A pair's text is read as its four numbers: each goes to the place that its column's name has in the line's pair, and a line more is
--- counted. Assumes nothing.
+-- A pair's text is read as its four numbers: each goes to the place that its column's name has in the line's pair, and
+-- a line more is counted. Assumes nothing.
 use mathlib.Core.Path.{_≡_, sym, ap, _∙_}
 use mathlib.Core.Bool.{Bool}
 use mathlib.Core.List.{List, [], _∷_, _++_}
@@ -9,14 +9,36 @@ use borrow.Author.Tests.{ne-eqb, lt-ltb, le-ltb}
 use native.Mathlib.Nat.{add-zero}
 use lib.Dec.{lit<}
 use lib.ListN.{length}
-use Rattle.endian.specs.Bytes.{putF64}
+use Rattle.endian.specs.Bytes.{storeF64}
 use Rattle.listing.specs.declared.word.Word.the-variants.{Empty, Number}
 use Rattle.listing.specs.declared.names.Names.{Names}
 use Rattle.listing.specs.declared.reader.Reader.{Reader}
 use Rattle.listing.specs.Word.{pixels}
 use Rattle.listing.specs.Names.{slotOf}
-use Rattle.listing.specs.Reader.{State, withWord, isLarge, kept, takeNumber, taken, nextColumn, counted, nextLine, step, fed}
-use Rattle.listing.specs.Text.{Numeral, digits, AllDigits, numeralText, Pair, Proper, pairText, AllProper, pairsText}
+use Rattle.listing.specs.Reader.{
+  State,
+  withWord,
+  isLarge,
+  kept,
+  takeNumber,
+  taken,
+  nextColumn,
+  counted,
+  nextLine,
+  step,
+  fed,
+}
+use Rattle.listing.specs.Text.{
+  Numeral,
+  digits,
+  AllDigits,
+  numeralText,
+  Pair,
+  Proper,
+  pairText,
+  AllProper,
+  pairsText,
+}
 use Rattle.listing.proofs.Fed.{fed-append}
 use Rattle.listing.proofs.NumeralLaws.{sizeOf, numeral-read}
 
@@ -25,29 +47,38 @@ abbrev pub between : Names → ℕ → ℕ → Bool → Reader
 between names column lines large = record { names = names; word = Empty; column = column; lines = lines; large = large }
 
 -- the number of a column is put where its name stands in the line's pair
-abbrev pub putAt : Names → ℕ → ℕ → Numeral → List ℕ → List ℕ
-putAt names lines column n bytes = putF64 bytes (32 * (lines - 1) + 8 * slotOf names column) (pixels (n .negative) (sizeOf n))
+abbrev pub storeAt : Names → ℕ → ℕ → Numeral → List ℕ → List ℕ
+storeAt names lines column n bytes =
+    storeF64 bytes (32 * (lines - 1) + 8 * slotOf names column) (pixels (n .negative) (sizeOf n))
 
 -- a text up to one byte, that byte, and what follows
-pub fed-over : (s : State) (a : List ℕ) (b : ℕ) (rest : List ℕ) {t : State} → fed s a ≡ t → fed s (a ++ b ∷ rest) ≡ fed (step t b) rest
+pub fed-over : (s : State) (a : List ℕ) (b : ℕ) (rest : List ℕ) {t : State} → fed s a ≡ t
+    → fed s (a ++ b ∷ rest) ≡ fed (step t b) rest
 unfolding fed
 fed-over s a b rest e = fed-append s a (b ∷ rest) ∙ ap (λ (u : State). fed (step u b) rest) e
 
 module _ (names : Names) (lines : ℕ) (some : 0 < lines) (room : lines ≤ 64) where
   -- a number is taken
-  number-taken : (column : ℕ) (large : Bool) (bytes : List ℕ) (n : Numeral) → takeNumber (withWord (between names column lines large) (Number (n .negative) (sizeOf n))) (n .negative) (sizeOf n) bytes ≡ (between names column lines (isLarge large (sizeOf n)), putAt names lines column n bytes)
+  number-taken : (column : ℕ) (large : Bool) (bytes : List ℕ) (n : Numeral)
+      → takeNumber (withWord (between names column lines large) (Number (n .negative) (sizeOf n))) (n .negative)
+      (sizeOf n) bytes ≡ (between names column lines (isLarge large (sizeOf n)), storeAt names lines column n bytes)
   unfolding takeNumber kept
-  number-taken column large bytes n = rw (ne-eqb lines 0 (λ e. omega arith), le-ltb lines 1 (omega arith), le-ltb 64 lines room)
+  number-taken column large bytes n =
+      rw (ne-eqb lines 0 (λ e. omega arith), le-ltb lines 1 (omega arith), le-ltb 64 lines room)
 
   -- a number and the space after it
-  cell : (column : ℕ) (large : Bool) (bytes : List ℕ) (n : Numeral) (rest : List ℕ) → column < 3 → AllDigits (digits n) → fed (between names column lines large, bytes) (numeralText n ++ 32 ∷ rest) ≡ fed (between names (column + 1) lines (isLarge large (sizeOf n)), putAt names lines column n bytes) rest
+  cell : (column : ℕ) (large : Bool) (bytes : List ℕ) (n : Numeral) (rest : List ℕ) → column < 3 → AllDigits (digits n)
+      → fed (between names column lines large, bytes) (numeralText n ++ 32 ∷ rest) ≡ fed
+      (between names (column + 1) lines (isLarge large (sizeOf n)), storeAt names lines column n bytes) rest
   unfolding step taken nextColumn
   cell column large bytes n rest h d =
       fed-over _ (numeralText n) 32 rest (numeral-read (between names column lines large) bytes n d)
       ∙ rw (number-taken column large bytes n, lt-ltb column 3 h)
 
   -- the last number and the line feed
-  last-cell : (large : Bool) (bytes : List ℕ) (n : Numeral) → AllDigits (digits n) → fed (between names 3 lines large, bytes) (numeralText n ++ 10 ∷ []) ≡ (between names 0 (lines + 1) (isLarge large (sizeOf n)), putAt names lines 3 n bytes)
+  last-cell : (large : Bool) (bytes : List ℕ) (n : Numeral) → AllDigits (digits n)
+      → fed (between names 3 lines large, bytes) (numeralText n ++ 10 ∷ []) ≡
+      (between names 0 (lines + 1) (isLarge large (sizeOf n)), storeAt names lines 3 n bytes)
   unfolding step taken nextLine counted fed
   last-cell large bytes n d =
       fed-over _ (numeralText n) 10 [] (numeral-read (between names 3 lines large) bytes n d)
@@ -55,13 +86,17 @@ module _ (names : Names) (lines : ℕ) (some : 0 < lines) (room : lines ≤ 64) 
 
 -- what a pair changes
 abbrev pub largeAfter : Bool → Pair → Bool
-largeAfter large p = isLarge (isLarge (isLarge (isLarge large (sizeOf (p .col0))) (sizeOf (p .col1))) (sizeOf (p .col2))) (sizeOf (p .col3))
+largeAfter large p = isLarge
+    (isLarge (isLarge (isLarge large (sizeOf (p .col0))) (sizeOf (p .col1))) (sizeOf (p .col2))) (sizeOf (p .col3))
 
 abbrev pub bytesAfter : Names → ℕ → List ℕ → Pair → List ℕ
 bytesAfter names lines bytes p =
-    putAt names lines 3 (p .col3) (putAt names lines 2 (p .col2) (putAt names lines 1 (p .col1) (putAt names lines 0 (p .col0) bytes)))
+    storeAt names lines 3 (p .col3)
+    (storeAt names lines 2 (p .col2) (storeAt names lines 1 (p .col1) (storeAt names lines 0 (p .col0) bytes)))
 
-pub pair-read : (names : Names) (lines : ℕ) (large : Bool) (bytes : List ℕ) (p : Pair) → 0 < lines → lines ≤ 64 → Proper p → fed (between names 0 lines large, bytes) (pairText p) ≡ (between names 0 (lines + 1) (largeAfter large p), bytesAfter names lines bytes p)
+pub pair-read : (names : Names) (lines : ℕ) (large : Bool) (bytes : List ℕ) (p : Pair) → 0 < lines → lines ≤ 64
+    → Proper p → fed (between names 0 lines large, bytes) (pairText p) ≡
+    (between names 0 (lines + 1) (largeAfter large p), bytesAfter names lines bytes p)
 unfolding pairText
 pair-read names lines large bytes p some room h =
     cell names lines some room 0 large bytes (p .col0) _ (lit< tt) (h .0)
@@ -78,13 +113,20 @@ unfoldable pub bytesAll : Names → ℕ → List ℕ → List Pair → List ℕ
 bytesAll names lines bytes [] = bytes
 bytesAll names lines bytes (p ∷ ps) = bytesAll names (lines + 1) (bytesAfter names lines bytes p) ps
 
-pub pairs-read : (names : Names) (lines : ℕ) (large : Bool) (bytes : List ℕ) (ps : List Pair) → 0 < lines → lines + length ps ≤ 65 → AllProper ps → fed (between names 0 lines large, bytes) (pairsText ps) ≡ (between names 0 (lines + length ps) (largeAll large ps), bytesAll names lines bytes ps)
+pub pairs-read : (names : Names) (lines : ℕ) (large : Bool) (bytes : List ℕ) (ps : List Pair) → 0 < lines
+    → lines + length ps ≤ 65 → AllProper ps
+    → fed (between names 0 lines large, bytes) (pairsText ps) ≡
+    (between names 0 (lines + length ps) (largeAll large ps), bytesAll names lines bytes ps)
 unfolding pairsText largeAll bytesAll fed
-pairs-read names lines large bytes [] some room h = ap (λ (k : ℕ). (between names 0 k large, bytes)) (sym (add-zero lines))
+pairs-read names lines large bytes [] some room h =
+    ap (λ (k : ℕ). (between names 0 k large, bytes)) (sym (add-zero lines))
 pairs-read names lines large bytes (p ∷ ps) some room h =
     let fits : lines + 1 + length ps ≤ 65 = omega (arith, room) in
     let count : lines + 1 + length ps ≡ lines + length (p ∷ ps) = omega arith in
     fed-append _ (pairText p) (pairsText ps)
     ∙ ap (λ (s : State). fed s (pairsText ps)) (pair-read names lines large bytes p some (omega arith) (h .0))
     ∙ pairs-read names (lines + 1) (largeAfter large p) (bytesAfter names lines bytes p) ps (omega arith) fits (h .1)
-    ∙ ap (λ (k : ℕ). (between names 0 k (largeAll (largeAfter large p) ps), bytesAll names (lines + 1) (bytesAfter names lines bytes p) ps)) count
+    ∙ ap (λ (k : ℕ). (
+      between names 0 k (largeAll (largeAfter large p) ps),
+      bytesAll names (lines + 1) (bytesAfter names lines bytes p) ps,
+    )) count

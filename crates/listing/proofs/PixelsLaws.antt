@@ -1,5 +1,5 @@
--- A number of 64ths within the limit is its pixels exactly: the quotient by 64 of a whole number below 2^53 needs no rounding. The sign
--- is the number's, and that of -0 is none. Assumes nothing.
+-- A number of 64ths within the limit is its pixels exactly: the quotient by 64 of a whole number below 2^53 needs no
+-- rounding. The sign is the number's, and that of -0 is none. Assumes nothing.
 use mathlib.Core.Path.{_≡_, refl, sym, subst}
 use mathlib.Core.Bool.{Bool, true, false, _&&_, true≢false}
 use Prim.Native.Nat.{ℕ, zero, suc, _+_, _-_, _*_, _^_, _≤_, _<_}
@@ -42,7 +42,8 @@ divided nan m v = absurd v
 divided (inf s) m v = absurd v
 divided (fin true n e) m v = absurd (true≢false (v .0))
 divided (fin false n e) m v =
-    round-same binary64 false (n * up e * 1) (64 * down e) m 64 (over-zero (down e) (down-pos e)) (lit< tt) (cross m (n * up e) (down e) (v .1))
+    round-same binary64 false (n * up e * 1) (64 * down e) m 64 (over-zero (down e) (down-pos e)) (lit< tt)
+    (cross m (n * up e) (down e) (v .1))
 
 -- ---- 0 - m / 64
 
@@ -67,7 +68,8 @@ module _ (m : ℕ) (h : m ≤ limit) where
 
   minus : HasValue (sub binary64 (ofBits binary64 0) (div binary64 (ofInt binary64 (pos m)) sixtyFour)) (ltb 0 m) m 64
   minus =
-      subst (λ (x : Float). HasValue x (ltb 0 m) m 64) (sym (sub-values binary64 _ _ false false 0 m 64 (lit< tt) nought plus)) (taken m h)
+      subst (λ (x : Float). HasValue x (ltb 0 m) m 64)
+      (sym (sub-values binary64 _ _ false false 0 m 64 (lit< tt) nought plus)) (taken m h)
 
   pub pixels-exact : (negative : Bool) → HasValue (pixels negative m) (negative && ltb 0 m) m 64
   unfolding pixels

@@ -1,5 +1,5 @@
--- Texts put into a buffer: each loop's turn puts one piece of what is left, and a text in two parts is put part by part. What is put
--- from the front on is the text and then what stood past it. Assumes nothing.
+-- Texts put into a buffer: each loop's turn puts one piece of what is left, and a text in two parts is put part by
+-- part. What is put from the front on is the text and then what stood past it. Assumes nothing.
 use mathlib.Core.Path.{_≡_, refl, sym, ap, _∙_}
 use mathlib.Core.List.{List, [], _∷_, _++_}
 use Prim.Native.Nat.{ℕ, zero, suc, _+_, _-_, _*_, _/_, _%_, _^_, _≤_, _<_}
@@ -12,19 +12,20 @@ use lib.Ieee.{Float, nan, binary64, toBits}
 use Rattle.listing.specs.Print.{put, hexDigit, hexText, lineText, linesText, listingText, refusedText}
 
 -- ---- a text, byte by byte
-pub put-next : (s : List ℕ) (at : ℕ) (text : List ℕ) (k : ℕ) → k < length text → put s (at + k) (drop k text) ≡ put (set s (at + k) (getD text k 0)) (at + (k + 1)) (drop (k + 1) text)
+pub store-next : (s : List ℕ) (at : ℕ) (text : List ℕ) (k : ℕ) → k < length text
+    → put s (at + k) (drop k text) ≡ put (set s (at + k) (getD text k 0)) (at + (k + 1)) (drop (k + 1) text)
 unfolding put
-put-next s at text k h = rw (← add-assoc at k 1, add-one k, drop-cons text k 0 h)
+store-next s at text k h = rw (← add-assoc at k 1, add-one k, drop-cons text k 0 h)
 
-pub put-end : (s : List ℕ) (at : ℕ) (text : List ℕ) (k : ℕ) → length text ≤ k → put s at (drop k text) ≡ s
+pub store-end : (s : List ℕ) (at : ℕ) (text : List ℕ) (k : ℕ) → length text ≤ k → put s at (drop k text) ≡ s
 unfolding put
-put-end s at text k h = rw (drop-of-length-le text h)
+store-end s at text k h = rw (drop-of-length-le text h)
 
-pub put-append : (s : List ℕ) (at : ℕ) (a b : List ℕ) → put s at (a ++ b) ≡ put (put s at a) (at + length a) b
+pub store-append : (s : List ℕ) (at : ℕ) (a b : List ℕ) → put s at (a ++ b) ≡ put (put s at a) (at + length a) b
 unfolding put
-put-append s at [] b = ap (λ (k : ℕ). put s k b) (sym (add-zero at))
-put-append s at (x ∷ a) b =
-    put-append (set s at x) (at + 1) a b
+store-append s at [] b = ap (λ (k : ℕ). put s k b) (sym (add-zero at))
+store-append s at (x ∷ a) b =
+    store-append (set s at x) (at + 1) a b
     ∙ ap (λ (k : ℕ). put (put (set s at x) (at + 1) a) k b) (omega arith)
 
 -- ---- digits, one by one
@@ -34,7 +35,9 @@ fewer k h = omega arith
 left : (k : ℕ) → k < 16 → 16 - (k + 1) ≡ 15 - k
 left k h = omega arith
 
-pub hex-next : (s : List ℕ) (at n k : ℕ) → k < 16 → put s (at + k) (hexText (16 - k) n) ≡ put (set s (at + k) (hexDigit (n / 2 ^ (4 * (15 - k)) % 16))) (at + (k + 1)) (hexText (16 - (k + 1)) n)
+pub hex-next : (s : List ℕ) (at n k : ℕ) → k < 16
+    → put s (at + k) (hexText (16 - k) n) ≡ put (set s (at + k) (hexDigit (n / 2 ^ (4 * (15 - k)) % 16)))
+    (at + (k + 1)) (hexText (16 - (k + 1)) n)
 unfolding put hexText
 hex-next s at n k h = rw (← add-assoc at k 1, fewer k h, left k h)
 
@@ -53,18 +56,21 @@ hex-length (suc k) n = ap suc (hex-length k n)
 ends : (at k : ℕ) → k ≡ 16 → at + 1 + 1 + k ≡ at + 18
 ends at k h = omega arith
 
-pub put-line : (s : List ℕ) (at name : ℕ) (x : Float) → set (put (set (set s at name) (at + 1) 32) (at + 2) (hexText 16 (toBits binary64 x))) (at + 18) 10 ≡ put s at (lineText name x)
+pub store-line : (s : List ℕ) (at name : ℕ) (x : Float)
+    → set (put (set (set s at name) (at + 1) 32) (at + 2) (hexText 16 (toBits binary64 x))) (at + 18) 10 ≡ put s
+    at (lineText name x)
 unfolding put
-put-line s at name x =
+store-line s at name x =
     let t = set (set s at name) (at + 1) 32 in
     let digits = hexText 16 (toBits binary64 x) in
     sym
-    (put-append t (at + 1 + 1) digits (10 ∷ [])
+    (store-append t (at + 1 + 1) digits (10 ∷ [])
     ∙ ap (λ (k : ℕ). set (put t (at + 1 + 1) digits) k 10) (ends at (length digits) (hex-length 16 (toBits binary64 x)))
     ∙ ap (λ (k : ℕ). set (put t k digits) (at + 18) 10) (add-assoc at 1 1))
 
 line-length : (name : ℕ) (x : Float) → length (lineText name x) ≡ 19
-line-length name x = ap (λ (k : ℕ). suc (suc k)) (length-append (hexText 16 (toBits binary64 x)) (10 ∷ []) ∙ ap (λ (k : ℕ). k + 1) (hex-length 16 (toBits binary64 x)))
+line-length name x = ap (λ (k : ℕ). suc (suc k)) (length-append (hexText 16 (toBits binary64 x)) (10 ∷ [])
+    ∙ ap (λ (k : ℕ). k + 1) (hex-length 16 (toBits binary64 x)))
 
 after-line : (at k l : ℕ) → l ≡ 19 → at + 19 * k + l ≡ at + 19 * (k + 1)
 after-line at k l h = omega arith
@@ -75,13 +81,16 @@ five k h = omega arith
 fewer-lines : (k : ℕ) → k < 6 → 6 - (k + 1) ≡ 5 - k
 fewer-lines k h = omega arith
 
-pub lines-next : (s : List ℕ) (at : ℕ) (cs : List Float) (k : ℕ) → k < 6 → put s (at + 19 * k) (linesText k (6 - k) cs) ≡ put (put s (at + 19 * k) (lineText (97 + k) (getD cs k nan))) (at + 19 * (k + 1)) (linesText (k + 1) (6 - (k + 1)) cs)
+pub lines-next : (s : List ℕ) (at : ℕ) (cs : List Float) (k : ℕ) → k < 6
+    → put s (at + 19 * k) (linesText k (6 - k) cs) ≡ put (put s (at + 19 * k) (lineText (97 + k) (getD cs k nan)))
+    (at + 19 * (k + 1)) (linesText (k + 1) (6 - (k + 1)) cs)
 unfolding linesText
 lines-next s at cs k h =
     let text = lineText (97 + k) (getD cs k nan) in
     rw (five k h, fewer-lines k h)
-    (put-append s (at + 19 * k) text (linesText (k + 1) (5 - k) cs)
-    ∙ ap (λ (j : ℕ). put (put s (at + 19 * k) text) j (linesText (k + 1) (5 - k) cs)) (after-line at k (length text) (line-length (97 + k) (getD cs k nan))))
+    (store-append s (at + 19 * k) text (linesText (k + 1) (5 - k) cs)
+    ∙ ap (λ (j : ℕ). put (put s (at + 19 * k) text) j (linesText (k + 1) (5 - k) cs))
+    (after-line at k (length text) (line-length (97 + k) (getD cs k nan))))
 
 pub lines-end : (s : List ℕ) (at : ℕ) (cs : List Float) (k : ℕ) → 6 ≤ k → put s at (linesText k (6 - k) cs) ≡ s
 unfolding put linesText
@@ -99,7 +108,8 @@ unfolding linesText
 lines-length k zero cs = refl
 lines-length k (suc n) cs =
     let line = lineText (97 + k) (getD cs k nan) in
-    length-append line (linesText (k + 1) n cs) ∙ more (length line) _ n (line-length (97 + k) (getD cs k nan)) (lines-length (k + 1) n cs)
+    length-append line (linesText (k + 1) n cs)
+    ∙ more (length line) _ n (line-length (97 + k) (getD cs k nan)) (lines-length (k + 1) n cs)
   where
     more : (l m n : ℕ) → l ≡ 19 → m ≡ 19 * n → l + m ≡ 19 * suc n
     more l m n a b = omega arith
@@ -109,7 +119,7 @@ unfolding listingText
 listing-length cs = ap (λ (k : ℕ). suc (suc (suc (suc (suc (suc (suc (suc (suc (suc k)))))))))) (lines-length 0 6 cs)
 
 -- a buffer keeps its length
-pub put-length : (s : List ℕ) (at : ℕ) (text : List ℕ) → length (put s at text) ≡ length s
+pub store-length : (s : List ℕ) (at : ℕ) (text : List ℕ) → length (put s at text) ≡ length s
 unfolding put
-put-length s at [] = refl
-put-length s at (b ∷ text) = put-length (set s at b) (at + 1) text ∙ length-set s at b
+store-length s at [] = refl
+store-length s at (b ∷ text) = store-length (set s at b) (at + 1) text ∙ length-set s at b

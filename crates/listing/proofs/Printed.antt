@@ -1,5 +1,6 @@
--- What is printed for a text of any length: refusal 4 for every text that document 01 does not describe, 5 where it does and a number
--- is too large, and else what the fit of its pairs gives. `kept` of ReadBack says what those arguments are. Assumes nothing.
+-- What is printed for a text of any length: refusal 4 for every text that is not of specification 12.1, 5 where it
+-- does and a number is too large, and else what the fit of its pairs gives. `kept` of ReadBack says what those
+-- arguments are. Assumes nothing.
 use mathlib.Core.Path.{_≡_, ap, _∙_}
 use mathlib.Core.List.{List}
 use Prim.Native.Nat.{ℕ, _*_}
@@ -31,8 +32,10 @@ module _ (input : List ℕ) (d : Described input) where
 
   pub printed-large : (AllWithin (d .pairs) → ⊥) → printed input ≡ refusedText 5
   unfolding outcomeText
-  printed-large n = outcome input (Refused 5) (by-text _ (refused (d .order) (d .isOne) (d .pairs) (d .proper) (d .some) (d .room) _ n))
+  printed-large n = outcome input (Refused 5)
+      (by-text _ (refused (d .order) (d .isOne) (d .pairs) (d .proper) (d .some) (d .room) _ n))
 
   pub printed-fit : AllWithin (d .pairs) → printed input ≡ fitText (take (32 * length (d .pairs)) (state input .1))
   unfolding outcomeText
-  printed-fit w = outcome input (Arguments (32 * length (d .pairs))) (by-text _ (accepted (d .order) (d .isOne) (d .pairs) (d .proper) (d .some) (d .room) _ w))
+  printed-fit w = outcome input (Arguments (32 * length (d .pairs)))
+      (by-text _ (accepted (d .order) (d .isOne) (d .pairs) (d .proper) (d .some) (d .room) _ w))

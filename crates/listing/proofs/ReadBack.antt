@@ -1,5 +1,7 @@
--- What document 01 describes is read as what it says: for every order of the names and every 1 to 64 pairs of whole numbers, the
--- reader ends with those pairs where each number is within the limit, and with refusal 5 where one is not. Assumes nothing.
+-- What specification 12.1 describes is read as what it says: for every order of the names and every 1 to 64 pairs of
+-- whole
+-- numbers, the reader ends with those pairs where each number is within the limit, and with refusal 5 where one is not.
+-- Assumes nothing.
 use mathlib.Core.Path.{_≡_, refl, sym, ap, subst, _∙_}
 use mathlib.Core.Bool.{Bool, true, false, _&&_, cond}
 use mathlib.Core.List.{List, [], _∷_, _++_}
@@ -16,7 +18,25 @@ use Rattle.listing.specs.declared.names.Names.{Names}
 use Rattle.listing.specs.Word.{limit, pixels}
 use Rattle.listing.specs.Names.{slotOf}
 use Rattle.listing.specs.Reader.{State, start, fed, isEmpty, badForm, finish}
-use Rattle.listing.specs.Text.{Numeral, digits, AllDigits, magnitude, Pair, Proper, AllProper, Within, AllWithin, pairsText, Order, unlike, allNames, allUnlike, isOrder, orderText, text}
+use Rattle.listing.specs.Text.{
+  Numeral,
+  digits,
+  AllDigits,
+  magnitude,
+  Pair,
+  Proper,
+  AllProper,
+  Within,
+  AllWithin,
+  pairsText,
+  Order,
+  unlike,
+  allNames,
+  allUnlike,
+  isOrder,
+  orderText,
+  text,
+}
 use Rattle.listing.proofs.Fed.{fed-append}
 use Rattle.listing.proofs.NumeralLaws.{sizeOf, held}
 use Rattle.listing.proofs.PairLaws.{between, largeAll, bytesAll, pairs-read}
@@ -25,7 +45,8 @@ use Rattle.listing.proofs.OrderTests.{fine}
 use Rattle.listing.proofs.KeptLaws.{Apart, pairs-stand}
 use Rattle.listing.proofs.LargeLaws.{all-small, all-within}
 
-module _ (o : Order) (h : T (isOrder o)) (ps : List Pair) (proper : AllProper ps) (some : 0 < length ps) (room : length ps ≤ 64) (bytes : List ℕ) where
+module _ (o : Order) (h : T (isOrder o)) (ps : List Pair) (proper : AllProper ps) (some : 0 < length ps)
+    (room : length ps ≤ 64) (bytes : List ℕ) where
   -- the state after the text
   abbrev pub ended : State
   ended = fed (start, bytes) (text o ps)
@@ -71,7 +92,8 @@ pub record Kept (o : Order) (k : ℕ) (p : Pair) (bytes : List ℕ) : Type 0 whe
 differ : (a b : ℕ) → T (unlike a b) → a ≡ b → ⊥
 differ a b t e = T-not (eqb a b) t (subst (λ (c : ℕ). T (eqb a c)) e (eqb-refl a))
 
-unlike-slots : (names : Names) (i j a b : ℕ) → slotOf names i ≡ a → slotOf names j ≡ b → T (unlike a b) → slotOf names i ≡ slotOf names j → ⊥
+unlike-slots : (names : Names) (i j a b : ℕ) → slotOf names i ≡ a → slotOf names j ≡ b → T (unlike a b)
+    → slotOf names i ≡ slotOf names j → ⊥
 unlike-slots names i j a b p q t e = differ a b t (sym p ∙ e ∙ q)
 
 columns-apart : (o : Order) → T (isOrder o) → Apart (namesOf o)
@@ -107,12 +129,16 @@ proper-at (q ∷ before) p after h = proper-at before p after (h .1)
 place : (k slot name : ℕ) → slot ≡ name → 32 * (1 + k - 1) + 8 * slot ≡ 8 * (4 * k + name)
 place k slot name e = omega arith
 
-kept-at : (bytes : List ℕ) (k slot name : ℕ) (n : Numeral) → slot ≡ name → AllDigits (digits n) → magnitude n ≤ limit → f64At bytes (32 * (1 + k - 1) + 8 * slot) ≡ pixels (n .negative) (sizeOf n) → argumentAt bytes (4 * k + name) ≡ numberOf n
+kept-at : (bytes : List ℕ) (k slot name : ℕ) (n : Numeral) → slot ≡ name → AllDigits (digits n) → magnitude n ≤ limit
+    → f64At bytes (32 * (1 + k - 1) + 8 * slot) ≡ pixels (n .negative) (sizeOf n)
+    → argumentAt bytes (4 * k + name) ≡ numberOf n
 kept-at bytes k slot name n e d w s =
     ap (f64At bytes) (sym (place k slot name e)) ∙ s ∙ ap (pixels (n .negative)) (held n d .exact w)
 
 -- the pair p after the pairs `before`, in a buffer of 2,048 bytes
-pub kept : (o : Order) → T (isOrder o) → (before : List Pair) (p : Pair) (after : List Pair) → AllProper (before ++ p ∷ after) → length (before ++ p ∷ after) ≤ 64 → (bytes : List ℕ) → length bytes ≡ 2048 → Within p → Kept o (length before) p (fed (start, bytes) (text o (before ++ p ∷ after)) .1)
+pub kept : (o : Order) → T (isOrder o) → (before : List Pair) (p : Pair) (after : List Pair)
+    → AllProper (before ++ p ∷ after) → length (before ++ p ∷ after) ≤ 64 → (bytes : List ℕ) → length bytes ≡ 2048
+    → Within p → Kept o (length before) p (fed (start, bytes) (text o (before ++ p ∷ after)) .1)
 kept o h before p after proper room bytes size w =
     let ps = before ++ p ∷ after in
     let count : length ps ≡ length before + suc (length after) = length-append before (p ∷ after) in

@@ -1,5 +1,5 @@
--- The other way for a word: where the reader's word is not Wrong, the bytes that led to it are a name, a number, or the start of one.
--- Each byte keeps that. Assumes nothing.
+-- The other way for a word: where the reader's word is not Wrong, the bytes that led to it are a name, a number, or the
+-- start of one. Each byte keeps that. Assumes nothing.
 use mathlib.Core.Path.{_≡_, refl, sym, ap, subst, _∙_}
 use mathlib.Core.Logic.{_⊎_, inl, inr}
 use mathlib.Core.Bool.{Bool, true, false, cond}
@@ -29,7 +29,8 @@ same-or-not a b = go (eqb a b) refl
     go false e = inr (eqb-false a b e)
 
 -- a byte that has to be a digit
-digit-form : (negative : Bool) (size b : ℕ) (t : List ℕ) → ((d size : ℕ) → d < 10 → b ≡ 48 + d → WordText (Number negative size) t) → WordText (digit negative size b) t
+digit-form : (negative : Bool) (size b : ℕ) (t : List ℕ)
+    → ((d size : ℕ) → d < 10 → b ≡ 48 + d → WordText (Number negative size) t) → WordText (digit negative size b) t
 unfolding digit
 digit-form negative size b t k = elim (lt-or-le b 48) [
   | inl l ↦ rw (lt-ltb b 48 l) (wrong t)
@@ -42,9 +43,11 @@ digit-form negative size b t k = elim (lt-or-le b 48) [
 -- a byte with a name is that name's letter
 letter-name : (b : ℕ) → nameOf b < 4 → letter (nameOf b) ≡ b
 unfolding nameOf letter
-letter-name b = go (eqb b 117) (eqb b 118) (eqb b 120) (eqb b 121) (eqb-true b 117) (eqb-true b 118) (eqb-true b 120) (eqb-true b 121)
+letter-name b = go (eqb b 117) (eqb b 118) (eqb b 120) (eqb b 121) (eqb-true b 117) (eqb-true b 118) (eqb-true b 120)
+    (eqb-true b 121)
   where
-    go : (u v x y : Bool) → (u ≡ true → b ≡ 117) → (v ≡ true → b ≡ 118) → (x ≡ true → b ≡ 120) → (y ≡ true → b ≡ 121) → cond u 0 (cond v 1 (cond x 2 (cond y 3 4))) < 4 → letter (cond u 0 (cond v 1 (cond x 2 (cond y 3 4)))) ≡ b
+    go : (u v x y : Bool) → (u ≡ true → b ≡ 117) → (v ≡ true → b ≡ 118) → (x ≡ true → b ≡ 120) → (y ≡ true → b ≡ 121)
+        → cond u 0 (cond v 1 (cond x 2 (cond y 3 4))) < 4 → letter (cond u 0 (cond v 1 (cond x 2 (cond y 3 4)))) ≡ b
     go true v x y p q r s l = sym (p refl)
     go false true x y p q r s l = sym (q refl)
     go false false true y p q r s l = sym (r refl)
@@ -54,9 +57,12 @@ letter-name b = go (eqb b 117) (eqb b 118) (eqb b 120) (eqb b 121) (eqb-true b 1
 first-form : (b : ℕ) → WordText (first b) (b ∷ [])
 unfolding first numeralText
 first-form b = elim (same-or-not b 45) [
-  | inl e ↦ subst (λ (c : ℕ). WordText (cond (eqb c 45) Minus (cond (ltb (nameOf c) 4) (Name (nameOf c)) (digit false 0 c))) (c ∷ [])) (sym e) minus
+  | inl e ↦ subst (λ (c : ℕ).
+      WordText (cond (eqb c 45) Minus (cond (ltb (nameOf c) 4) (Name (nameOf c)) (digit false 0 c))) (c ∷ [])) (sym e)
+      minus
   | inr n ↦ elim (lt-or-le (nameOf b) 4) [
-    | inl l ↦ rw (ne-eqb b 45 n, lt-ltb (nameOf b) 4 l) (subst (λ (c : ℕ). WordText (Name (nameOf b)) (c ∷ [])) (letter-name b l) (name (nameOf b) l))
+    | inl l ↦ rw (ne-eqb b 45 n, lt-ltb (nameOf b) 4 l)
+        (subst (λ (c : ℕ). WordText (Name (nameOf b)) (c ∷ [])) (letter-name b l) (name (nameOf b) l))
     | inr g ↦ rw (ne-eqb b 45 n, le-ltb (nameOf b) 4 g)
         (digit-form false 0 b (b ∷ []) (λ d size l e. subst (λ (c : ℕ). WordText (Number false size) (c ∷ [])) (sym e)
         (number (record { negative = false; first = d; rest = [] }) size (l, tt))))
@@ -72,22 +78,28 @@ more-text : (ds : List ℕ) (d : ℕ) → digitsText (ds ++ d ∷ []) ≡ digits
 more-text [] d = refl
 more-text (c ∷ ds) d = ap (λ (t : List ℕ). (48 + c) ∷ t) (more-text ds d)
 
-more-numeral : (negative : Bool) (a : ℕ) (ds : List ℕ) (d : ℕ) → numeralText (record { negative = negative; first = a; rest = ds ++ d ∷ [] }) ≡ numeralText (record { negative = negative; first = a; rest = ds }) ++ (48 + d) ∷ []
+more-numeral : (negative : Bool) (a : ℕ) (ds : List ℕ) (d : ℕ)
+    → numeralText (record { negative = negative; first = a; rest = ds ++ d ∷ [] }) ≡ numeralText
+    (record { negative = negative; first = a; rest = ds }) ++ (48 + d) ∷ []
 unfolding numeralText
 more-numeral false a ds d = ap (λ (t : List ℕ). (48 + a) ∷ t) (more-text ds d)
 more-numeral true a ds d = ap (λ (t : List ℕ). 45 ∷ ((48 + a) ∷ t)) (more-text ds d)
 
-number-form : (n : Numeral) (size b : ℕ) → AllDigits (digits n) → WordText (digit (n .negative) size b) (numeralText n ++ b ∷ [])
+number-form : (n : Numeral) (size b : ℕ) → AllDigits (digits n)
+    → WordText (digit (n .negative) size b) (numeralText n ++ b ∷ [])
 number-form n size b h =
     digit-form (n .negative) size b (numeralText n ++ b ∷ []) (λ d size l e.
-    subst (WordText (Number (n .negative) size)) (more-numeral (n .negative) (n .first) (n .rest) d ∙ ap (λ (c : ℕ). numeralText n ++ c ∷ []) (sym e))
-    (number (record { negative = n .negative; first = n .first; rest = n .rest ++ d ∷ [] }) size (all-digits (digits n) d h l)))
+    subst (WordText (Number (n .negative) size)) (more-numeral (n .negative) (n .first) (n .rest) d
+    ∙ ap (λ (c : ℕ). numeralText n ++ c ∷ []) (sym e))
+    (number (record { negative = n .negative; first = n .first; rest = n .rest ++ d ∷ [] }) size
+    (all-digits (digits n) d h l)))
 
 pub grow : (w : Word) (t : List ℕ) (b : ℕ) → WordText w t → WordText (next w b) (t ++ b ∷ [])
 unfolding next numeralText
 grow Empty _ b empty = first-form b
 grow Minus _ b minus =
-    digit-form true 0 b (45 ∷ (b ∷ [])) (λ d size l e. subst (λ (c : ℕ). WordText (Number true size) (45 ∷ (c ∷ []))) (sym e)
+    digit-form true 0 b (45 ∷ (b ∷ []))
+    (λ d size l e. subst (λ (c : ℕ). WordText (Number true size) (45 ∷ (c ∷ []))) (sym e)
     (number (record { negative = true; first = d; rest = [] }) size (l, tt)))
 grow (Name k) _ b (name _ l) = wrong _
 grow (Number _ size) _ b (number n _ h) = number-form n size b h

@@ -1,11 +1,12 @@
--- From the text to what is printed: a refusal, or the listing of the `Affine` that is fitted to the pairs. Assumes nothing.
+-- From the text to what is printed: a refusal, or the listing of the `Affine` that is fitted to the pairs.
+-- Specification 12.1. Assumes nothing.
 use Prim.Native.Nat.{ℕ}
 use mathlib.Core.Bool.{cond}
 use mathlib.Core.List.{List}
 use lib.Dec.{eqb}
 use lib.ListN.{take, replicate}
 use Rattle.mappings.specs.declared.mapping.Fitted.{Fitted}
-use Rattle.build.specs.Build.{build}
+use Rattle.fit.specs.Build.{build}
 use Rattle.listing.specs.declared.reader.Reader.{Reader}
 use Rattle.listing.specs.declared.reader.Outcome.{Outcome}
 use Rattle.listing.specs.declared.reader.Outcome.the-variants.{Arguments, Refused}

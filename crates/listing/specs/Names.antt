@@ -1,5 +1,5 @@
--- The names line: the column of each of u, v, x and y, counted from 0, and 4 until it is read. Names count from 0 in that order.
--- Assumes nothing.
+-- The names line: the column of each of u, v, x and y, counted from 0, and 4 until it is read. Names count from 0 in
+-- that order. Specification 12.1. Assumes nothing.
 use Prim.Native.Nat.{ℕ}
 use mathlib.Core.Bool.{cond}
 use lib.Dec.{eqb}

@@ -1,4 +1,4 @@
--- The listing's text, and how a text is put into a buffer. Assumes nothing.
+-- The listing's text, and how a text is put into a buffer. Specification 12.1. Assumes nothing.
 use Prim.Native.Nat.{ℕ, zero, suc, _+_, _*_, _/_, _%_, _^_}
 use Prim.Native.Char.{code}
 use Prim.Native.String.{String, [] as none, _∷_ as _then_}

@@ -1,12 +1,12 @@
--- The text, a byte at a time: a line of names, then a pair a line, four words to a line parted by one space (32) each and ended by a
--- line feed (10). A state is the reader's record and the bytes of the arguments, f64 by f64 in the order u, v, x, y for each pair.
--- There is no longest text. Assumes nothing.
+-- The text, a byte at a time: a line of names, then a pair a line, four words to a line parted by one space (32) each
+-- and ended by a line feed (10). A state is the reader's record and the bytes of the arguments, f64 by f64 in the order
+-- u, v, x, y for each pair. There is no longest text. Specification 12.1. Assumes nothing.
 use Prim.Native.Nat.{ℕ, _+_, _-_, _*_}
 use mathlib.Core.Bool.{Bool, true, false, not, _||_, cond}
 use mathlib.Core.List.{List, [], _∷_}
 use lib.Dec.{eqb, ltb}
 use lib.Ieee.{Float}
-use Rattle.endian.specs.Bytes.{putF64}
+use Rattle.endian.specs.Bytes.{storeF64}
 use Rattle.listing.specs.declared.word.Word.{Word}
 use Rattle.listing.specs.declared.word.Word.the-variants.{Empty, Minus, Name, Number, Wrong}
 use Rattle.listing.specs.declared.reader.Reader.{Reader}
@@ -35,20 +35,27 @@ unfoldable pub takeName : Reader → ℕ → Reader
 takeName s k =
     cond (eqb (s .lines) 0)
     (cond (eqb (columnOf (s .names) k) 4)
-    (record { names = placed (s .names) k (s .column); word = Empty; column = s .column; lines = s .lines; large = s .large })
+    (record {
+      names = placed (s .names) k (s .column);
+      word = Empty;
+      column = s .column;
+      lines = s .lines;
+      large = s .large;
+    })
     (fault s))
     (fault s)
 
 unfoldable pub isLarge : Bool → ℕ → Bool
 isLarge large size = cond (ltb limit size) true large
 
--- the first byte of the argument in the reader's column: a pair has four arguments of 8 bytes, and the first stands on line 1
+-- the first byte of the argument in the reader's column: a pair has four arguments of 8 bytes, and the first stands on
+-- line 1
 abbrev pub placeOf : Reader → ℕ
 placeOf s = 32 * (s .lines - 1) + 8 * slotOf (s .names) (s .column)
 
 -- an argument is kept on lines 1 to 64; no text with more is accepted
 unfoldable pub kept : Reader → Float → List ℕ → List ℕ
-kept s x bytes = cond (ltb (s .lines) 1) bytes (cond (ltb 64 (s .lines)) bytes (putF64 bytes (placeOf s) x))
+kept s x bytes = cond (ltb (s .lines) 1) bytes (cond (ltb 64 (s .lines)) bytes (storeF64 bytes (placeOf s) x))
 
 -- a number is taken on every line but the first
 unfoldable pub takeNumber : Reader → Bool → ℕ → List ℕ → State
@@ -115,6 +122,6 @@ isEmpty Wrong = false
 unfoldable pub badForm : Reader → Bool
 badForm s = not (isEmpty (s .word)) || not (eqb (s .column) 0) || ltb (s .lines) 2 || ltb 65 (s .lines)
 
--- document 01's numbers: 4 for the form, 5 for a number; else how many bytes of arguments there are
+-- the refusals of specification 2: 4 for the form, 5 for a number; else how many bytes of arguments there are
 unfoldable pub finish : Reader → Outcome
 finish s = cond (badForm s) (Refused 4) (cond (s .large) (Refused 5) (Arguments (32 * (s .lines - 1))))

@@ -1,5 +1,5 @@
--- The texts that document 01 describes, written down from what they say: a line of the four names in some order, then a pair a line
--- as whole numbers of 64ths. The laws of the reader speak of them. Assumes nothing.
+-- The texts of specification 12.1, written down from what they say: a line of the four names in some order, then a pair
+-- a line as whole numbers of 64ths. The laws of the reader speak of them. Assumes nothing.
 use Prim.Native.Nat.{ℕ, _+_, _*_, _≤_, _<_}
 use mathlib.Core.Bool.{Bool, not, _&&_, cond}
 use mathlib.Core.List.{List, [], _∷_, _++_, map}
@@ -37,7 +37,8 @@ digitsText ds = map (λ (d : ℕ). 48 + d) ds
 unfoldable pub numeralText : Numeral → List ℕ
 numeralText n = cond (n .negative) (45 ∷ digitsText (digits n)) (digitsText (digits n))
 
--- ---- four of something in the order of the columns: a pair's numbers, or the numbers of the names (u 0, v 1, x 2, y 3)
+-- ---- four of something in the order of the columns: a pair's numbers, or the numbers of the names (u 0, v 1, x 2, y
+-- 3)
 
 pub record Four (A : Type 0) : Type 0 where
   pub col0 : A
@@ -53,11 +54,17 @@ abbrev pub Pair : Type 0
 Pair = Four Numeral
 
 abbrev pub Proper : Pair → Type 0
-Proper p = AllDigits (digits (p .col0)) × (AllDigits (digits (p .col1)) × (AllDigits (digits (p .col2)) × AllDigits (digits (p .col3))))
+Proper p = AllDigits (digits (p .col0))
+    × (AllDigits (digits (p .col1)) × (AllDigits (digits (p .col2)) × AllDigits (digits (p .col3))))
 
 unfoldable pub pairText : Pair → List ℕ
 unfolding numeralText
-pairText p = joined (record { col0 = numeralText (p .col0); col1 = numeralText (p .col1); col2 = numeralText (p .col2); col3 = numeralText (p .col3) })
+pairText p = joined (record {
+  col0 = numeralText (p .col0);
+  col1 = numeralText (p .col1);
+  col2 = numeralText (p .col2);
+  col3 = numeralText (p .col3);
+})
 
 abbrev pub AllProper : List Pair → Type 0
 AllProper [] = Unit {0}
@@ -83,7 +90,8 @@ abbrev pub allUnlike : Order → Bool
 allUnlike o =
     unlike (o .col0) (o .col1)
     && (unlike (o .col0) (o .col2)
-    && (unlike (o .col0) (o .col3) && (unlike (o .col1) (o .col2) && (unlike (o .col1) (o .col3) && unlike (o .col2) (o .col3)))))
+    && (unlike (o .col0) (o .col3)
+    && (unlike (o .col1) (o .col2) && (unlike (o .col1) (o .col3) && unlike (o .col2) (o .col3)))))
 
 unfoldable pub isOrder : Order → Bool
 isOrder o = allNames o && allUnlike o
@@ -93,7 +101,13 @@ unfoldable pub letter : ℕ → ℕ
 letter k = cond (eqb k 0) 117 (cond (eqb k 1) 118 (cond (eqb k 2) 120 121))
 
 unfoldable pub orderText : Order → List ℕ
-orderText o = joined (record { col0 = letter (o .col0) ∷ []; col1 = letter (o .col1) ∷ []; col2 = letter (o .col2) ∷ []; col3 = letter (o .col3) ∷ [] })
+orderText o = joined (record {
+  col0 = letter (o .col0) ∷ [];
+  col1 = letter (o .col1) ∷ [];
+  col2 = letter (o .col2)
+      ∷ [];
+  col3 = letter (o .col3) ∷ [];
+})
 
 -- ---- the whole text
 
@@ -102,13 +116,14 @@ text o ps = orderText o ++ pairsText ps
 
 -- no number of a pair, or of any, is too large
 abbrev pub Within : Pair → Type 0
-Within p = (magnitude (p .col0) ≤ limit) × ((magnitude (p .col1) ≤ limit) × ((magnitude (p .col2) ≤ limit) × (magnitude (p .col3) ≤ limit)))
+Within p = (magnitude (p .col0) ≤ limit)
+    × ((magnitude (p .col1) ≤ limit) × ((magnitude (p .col2) ≤ limit) × (magnitude (p .col3) ≤ limit)))
 
 abbrev pub AllWithin : List Pair → Type 0
 AllWithin [] = Unit {0}
 AllWithin (p ∷ ps) = Within p × AllWithin ps
 
--- a text that document 01 describes: some order of the names, and 1 to 64 pairs
+-- a text of specification 12.1: some order of the names, and 1 to 64 pairs
 pub record Described (input : List ℕ) : Type 0 where
   pub order : Order
   pub isOne : T (isOrder order)

@@ -1,5 +1,5 @@
--- A word, a byte at a time: a name or a whole number of 64ths of a pixel, of any length. Digits are digits, leading zeros too, and
--- -0 is 0. Assumes nothing.
+-- A word, a byte at a time: a name or a whole number of 64ths of a pixel, of any length. Digits are digits, leading
+-- zeros too, and -0 is 0. Specification 12.1. Assumes nothing.
 use Prim.Native.Nat.{ℕ, _+_, _-_, _*_}
 use mathlib.Core.Bool.{Bool, true, false, cond}
 use lib.Dec.{eqb, ltb}

@@ -1,5 +1,5 @@
-// From the end of the text to what is printed: a refusal, or the listing of the `Affine` that is fitted to the pairs. For every state
-// of the reader.
+// From the end of the text to what is printed: a refusal, or the listing of the `Affine` that is fitted to the pairs.
+// For every state of the reader.
 use crate::print;
 use crate::reader::Outcome;
 use crate::reader::Reader;
@@ -12,9 +12,10 @@ ghost use Rattle.listing.specs.Answer.{fitText, answerText};
 
 // The fit of method 0, whatever the picture's size.
 fn fit_pairs(arguments: &[u8], out: &mut [u8; 124]) -> usize
-    ensures { λ r. ⌜ (r ≡ length (fitText (now (arguments .entry)))) × (now (out .exit) ≡ put (now (out .entry)) 0 (fitText (now (arguments .entry)))) ⌝ }
+    ensures { λ r. ⌜ (r ≡ length (fitText (now (arguments .entry))))
+        × (now (out .exit) ≡ put (now (out .entry)) 0 (fitText (now (arguments .entry)))) ⌝ }
 {
-    let f = build::build::build(0, arguments, 1, 1);
+    let f = fit::build::build(0, arguments, 1, 1);
     let refusal = f.refusal;
     if refusal != 0 {
         return print::refused(out, refusal);
@@ -26,7 +27,8 @@ fn fit_pairs(arguments: &[u8], out: &mut [u8; 124]) -> usize
 
 fn answer_from(s: Reader, arguments: &[u8], out: &mut [u8; 124]) -> usize
     requires { ⌜ 2048 ≤ length (now arguments) ⌝ }
-    ensures { λ r. ⌜ (r ≡ length (answerText s (now (arguments .entry)))) × (now (out .exit) ≡ put (now (out .entry)) 0 (answerText s (now (arguments .entry)))) ⌝ }
+    ensures { λ r. ⌜ (r ≡ length (answerText s (now (arguments .entry))))
+        × (now (out .exit) ≡ put (now (out .entry)) 0 (answerText s (now (arguments .entry)))) ⌝ }
 {
     let end = text::finish(s);
     match end {
@@ -37,7 +39,8 @@ fn answer_from(s: Reader, arguments: &[u8], out: &mut [u8; 124]) -> usize
 
 // The text to print is so many bytes at the start of `out`.
 pub fn answer(s: Reader, arguments: &[u8; 2048], out: &mut [u8; 124]) -> usize
-    ensures { λ r. ⌜ (r ≡ length (answerText s (now (arguments .entry)))) × (now (out .exit) ≡ put (now (out .entry)) 0 (answerText s (now (arguments .entry)))) ⌝ }
+    ensures { λ r. ⌜ (r ≡ length (answerText s (now (arguments .entry))))
+        × (now (out .exit) ≡ put (now (out .entry)) 0 (answerText s (now (arguments .entry)))) ⌝ }
 {
     answer_from(s, arguments, out)
 }

@@ -1,5 +1,5 @@
 // The listing of a fit: a text of names and pairs read a byte at a time, and the coefficients of `Affine` printed.
-// Each public function equals its definition in specs/ for every input of its types.
+// `fitprint` is the program. Each public function equals its definition in specs/ for every input of its types.
 pub mod answer;
 pub mod names;
 pub mod print;

@@ -1,13 +1,13 @@
-// The reader's state: four words to a line, parted by one space each and ended by a line feed; a line of names, then a pair a line.
-// For every state.
+// The reader's state: four words to a line, parted by one space each and ended by a line feed; a line of names, then a
+// pair a line. For every state.
 use crate::names;
 use crate::names::Names;
 use crate::word::Word;
 ghost use mathlib.Core.Path.{_≡_};
 ghost use Rattle.listing.specs.Reader.{start, withWord, fault, nextColumn, counted, nextLine};
 
-// What the bytes so far are: the names, the word that is begun, the columns and lines that are whole, and whether a number was
-// too large. A word that is Wrong stays so: a fault of form, here or before.
+// What the bytes so far are: the names, the word that is begun, the columns and lines that are whole, and whether a
+// number was too large. A word that is Wrong stays so: a fault of form, here or before.
 pub struct Reader {
     pub names: Names,
     pub word: Word,

@@ -1,4 +1,5 @@
-// The end of a word: a name goes to the names, and a number to the lent arguments as the fit takes them. For every state.
+// The end of a word: a name goes to the names, and a number to the lent arguments as the fit takes them. For every
+// state.
 use crate::names;
 use crate::reader;
 use crate::reader::Reader;
@@ -47,7 +48,7 @@ fn keep(s: Reader, x: f64, arguments: &mut [u8; 2048])
     }
     let names = s.names;
     let at = 32 * (lines - 1) + 8 * names::slot_of(names, s.column);
-    endian::bytes::put_f64(arguments, at as usize, x);
+    endian::bytes::store_f64(arguments, at as usize, x);
 }
 
 // A number is taken on every line but the first.

@@ -1,3 +1,6 @@
--- The laws of a mapping, a file for each subject.
+-- The laws of a mapping and of monomials, a file for each subject.
+pub mod LoopLaws
 pub mod MappingLaws
+pub mod MonomialsLaws
 pub mod PaddedLaws
+pub mod TermsLaws

@@ -1,4 +1,5 @@
--- The laws of a padded list: its length, and a store at its end that makes it one longer. By opening `padded`. Assumes nothing.
+-- The laws of a padded list: its length, and a store at its end that makes it one longer. By opening `padded`. Assumes
+-- nothing.
 use mathlib.Core.Path.{_≡_, sym, ap, _∙_}
 use mathlib.Core.List.{[], _∷_, _++_}
 use Prim.Native.Nat.{ℕ, suc, _+_, _-_, _≤_, _<_}
@@ -6,11 +7,13 @@ use native.Mathlib.Omega.{arith}
 use lib.ListN.{length, set, replicate, length-append, length-replicate}
 use lib.Seq.{set-append-seam, append-snoc}
 use lib.Ieee.{Float}
-use Rattle.matrix.specs.Matrix.{Vector, nought}
+use Rattle.exact.specs.Vector.{Vector}
+use Rattle.linear.specs.Matrix.{nought}
 use Rattle.mappings.specs.Padded.{padded}
 
 pub padded-length : (n : ℕ) (xs : Vector) → length xs ≤ n → length (padded n xs) ≡ n
-padded-length n xs h = length-append xs (replicate (n - length xs) nought) ∙ rest (length xs) (length (replicate (n - length xs) nought)) h (length-replicate (n - length xs) nought)
+padded-length n xs h = length-append xs (replicate (n - length xs) nought)
+    ∙ rest (length xs) (length (replicate (n - length xs) nought)) h (length-replicate (n - length xs) nought)
   where
     rest : (k r : ℕ) → k ≤ n → r ≡ n - k → k + r ≡ n
     rest k r h e = omega arith
@@ -19,7 +22,8 @@ one-longer : (xs : Vector) (x : Float) → length (xs ++ (x ∷ [])) ≡ length 
 one-longer xs x = length-append xs (x ∷ [])
 
 -- xs.push(x)
-pub padded-push : (n : ℕ) (xs : Vector) (x : Float) → length xs < n → set (padded n xs) (length xs) x ≡ padded n (xs ++ (x ∷ []))
+pub padded-push : (n : ℕ) (xs : Vector) (x : Float) → length xs < n
+    → set (padded n xs) (length xs) x ≡ padded n (xs ++ (x ∷ []))
 padded-push n xs x h =
     ap (λ (k : ℕ). set (xs ++ replicate k nought) (length xs) x) (one-less (length xs) h)
     ∙ set-append-seam xs nought (replicate (n - (length xs + 1)) nought) x

@@ -1,3 +1,6 @@
--- The definitions of a mapping and of its padded coefficients.
+-- The definitions of a mapping, of its padded coefficients, and of monomials, pairs and rows.
 pub mod Mapping
+pub mod Monomials
 pub mod Padded
+pub mod Pairs
+pub mod Rows

@@ -1,12 +1,12 @@
--- The fitted mapping: a kind, the order of its monomials, and its coefficients in the order of the Rust's fields, zeros after them.
--- Assumes nothing.
+-- The fitted mapping: a kind, the order of its monomials, and its coefficients in the order of the Rust's fields, zeros
+-- after them. Specification 5. Assumes nothing.
 use Prim.Native.Nat.{ℕ}
 use mathlib.Core.Bool.{Bool, cond}
 use mathlib.Core.List.{[]}
 use lib.ListN.{length}
 use Rattle.mappings.specs.declared.mapping.Mapping.{Mapping}
 use Rattle.mappings.specs.declared.mapping.Fitted.{Fitted}
-use Rattle.matrix.specs.Matrix.{Vector}
+use Rattle.exact.specs.Vector.{Vector}
 use Rattle.mappings.specs.Padded.{padded}
 
 -- ---- kinds; 0 is no mapping

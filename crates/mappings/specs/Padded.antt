@@ -2,7 +2,8 @@
 use Prim.Native.Nat.{ℕ, _-_}
 use mathlib.Core.List.{_++_}
 use lib.ListN.{length, replicate}
-use Rattle.matrix.specs.Matrix.{Vector, nought}
+use Rattle.exact.specs.Vector.{Vector}
+use Rattle.linear.specs.Matrix.{nought}
 
 -- xs in an array of n
 abbrev pub padded : ℕ → Vector → Vector

@@ -1,5 +1,5 @@
-// The fitted mapping: a kind, the order of its monomials, and its coefficients one after another. Assumes that there are at most 256
-// of these.
+// The fitted mapping: a kind, the order of its monomials, and its coefficients one after another. Assumes that there
+// are at most 256 of these.
 ghost use mathlib.Core.Path.{_≡_};
 ghost use mathlib.Core.List.{_++_};
 ghost use Prim.Native.Nat.{_+_, _≤_};

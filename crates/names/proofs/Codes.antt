@@ -1,4 +1,5 @@
--- What a lookup finds is below m where every code of the table is, which is one test that antt computes. Assumes nothing.
+-- What a lookup finds is below m where every code of the table is, which is one test that antt computes. Assumes
+-- nothing.
 use mathlib.Core.Bool.{Bool, true, false, cond}
 use mathlib.Core.List.{List, [], _∷_}
 use Prim.Native.Nat.{ℕ}

@@ -1,5 +1,5 @@
--- Bytes and a name are compared from the front: unlike lengths are not the same, and what is left of the two is the same where the
--- next bytes are and the rest is. Assumes nothing.
+-- Bytes and a name are compared from the front: unlike lengths are not the same, and what is left of the two is the
+-- same where the next bytes are and the rest is. Assumes nothing.
 use mathlib.Core.Path.{_≡_, refl, ap}
 use mathlib.Core.Bool.{Bool, true, false, cond}
 use mathlib.Core.List.{List, [], _∷_, map}
@@ -33,11 +33,13 @@ module _ (s name : List ℕ) (i : ℕ) where
   same-end h g = rw (drop-of-length-le s h, drop-of-length-le name g)
 
   module _ (h : i < length s) (g : i < length name) where
-    next : sameName (drop i s) (drop i name) ≡ cond (eqb (lowercase (getD s i 0)) (getD name i 0)) (sameName (drop (i + 1) s) (drop (i + 1) name)) false
+    next : sameName (drop i s) (drop i name) ≡ cond (eqb (lowercase (getD s i 0)) (getD name i 0))
+        (sameName (drop (i + 1) s) (drop (i + 1) name)) false
     unfolding sameName equal
     next = rw (add-one, drop-cons s i 0, drop-cons name i 0)
 
-    pub same-next : lowercase (getD s i 0) ≡ getD name i 0 → sameName (drop i s) (drop i name) ≡ sameName (drop (i + 1) s) (drop (i + 1) name)
+    pub same-next : lowercase (getD s i 0) ≡ getD name i 0
+        → sameName (drop i s) (drop i name) ≡ sameName (drop (i + 1) s) (drop (i + 1) name)
     same-next e = rw (next, eq-eqb _ _ e)
 
     pub same-unlike : (lowercase (getD s i 0) ≡ getD name i 0 → ⊥) → sameName (drop i s) (drop i name) ≡ false

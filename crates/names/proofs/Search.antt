@@ -1,5 +1,5 @@
--- A search through a text of names, one byte a turn: what is left of the table at a byte, after a name's first bytes, is the table
--- left at the next byte, with the name in front where it ends. Assumes nothing.
+-- A search through a text of names, one byte a turn: what is left of the table at a byte, after a name's first bytes,
+-- is the table left at the next byte, with the name in front where it ends. Assumes nothing.
 use mathlib.Core.Path.{_≡_, refl, ap, _∙_}
 use mathlib.Core.Bool.{Bool, true, false, cond, true≢false}
 use mathlib.Core.List.{List, [], _∷_, _++_}
@@ -64,7 +64,8 @@ module _ (text : List ℕ) (from n k : ℕ) (h : from ≤ k) (g : k < length tex
   unfolding left split nextName
   left-inside e = rw (grown, add-one k, drop-cons text k 0 g, code-stays n (getD text k 0) e, e)
 
-  left-end : endsName (getD text k 0) ≡ true → left text from n k ≡ (part text from k, n) ∷ left text (k + 1) (nextCode n (getD text k 0)) (k + 1)
+  left-end : endsName (getD text k 0) ≡ true → left text from n k ≡ (part text from k, n)
+      ∷ left text (k + 1) (nextCode n (getD text k 0)) (k + 1)
   unfolding left split nextName
   left-end e = rw (none-left (k + 1), add-one k, drop-cons text k 0 g, e)
 
@@ -73,10 +74,12 @@ module _ (text : List ℕ) (from n k : ℕ) (h : from ≤ k) (g : k < length tex
     pub inside : endsName (getD text k 0) ≡ false → lookup (left text from n k) s ≡ lookup (left text from n (k + 1)) s
     inside e = ap (λ (t : List (List ℕ × ℕ)). lookup t s) (left-inside e)
 
-    pub found : endsName (getD text k 0) ≡ true → sameName s (part text from k) ≡ true → lookup (left text from n k) s ≡ Code n
+    pub found : endsName (getD text k 0) ≡ true → sameName s (part text from k) ≡ true
+        → lookup (left text from n k) s ≡ Code n
     unfolding lookup
     found e w = rw (left-end e, w)
 
-    pub passed : endsName (getD text k 0) ≡ true → sameName s (part text from k) ≡ false → lookup (left text from n k) s ≡ lookup (left text (k + 1) (nextCode n (getD text k 0)) (k + 1)) s
+    pub passed : endsName (getD text k 0) ≡ true → sameName s (part text from k) ≡ false
+        → lookup (left text from n k) s ≡ lookup (left text (k + 1) (nextCode n (getD text k 0)) (k + 1)) s
     unfolding lookup
     passed e w = rw (left-end e, w)

@@ -1,5 +1,6 @@
--- The three `from_name` readers, over bytes: a table of names and codes for each, and one lookup that ignores ASCII case. A code is
--- the place of the variant in its Rust enum's declaration, from 0; the methods that are absent have theirs too. Assumes nothing.
+-- The three `from_name` readers, over bytes: a table of names and codes for each, and one lookup that ignores ASCII
+-- case. A code is the place of the variant in its Rust enum's declaration, from 0; the methods that are absent have
+-- theirs too. Specification 1.2. Assumes nothing.
 use Prim.Native.Nat.{ℕ, _+_, _<_}
 use Prim.Native.Char.{code}
 use Prim.Native.String.{String, [] as none, _∷_ as _then_}
@@ -29,7 +30,7 @@ unfoldable pub lookup : List (List ℕ × ℕ) → List ℕ → Named
 lookup [] s = Refused
 lookup ((name, n) ∷ table) s = cond (sameName s name) (Code n) (lookup table s)
 
--- document 01's number of the refusal; a code is none, which is 0 here
+-- the number of the refusal (specification 2, code); a code is none, which is 0 here
 abbrev pub refusal : Named → ℕ
 refusal (Code n) = 0
 refusal Refused = 3

@@ -1,5 +1,5 @@
--- A table of names as one text, which is how the code keeps it: each name ends in a comma, or in a bar where the name after it has
--- the same code. Codes count from 0. Assumes nothing.
+-- A table of names as one text, which is how the code keeps it: each name ends in a comma, or in a bar where the name
+-- after it has the same code. Codes count from 0. Assumes nothing.
 use Prim.Native.Nat.{ℕ, _+_}
 use mathlib.Core.Bool.{Bool, true, false, cond}
 use mathlib.Core.List.{List, [], _∷_, _++_}
@@ -21,7 +21,8 @@ abbrev pub entryIf : Bool → List ℕ × ℕ → List (List ℕ × ℕ) → Lis
 entryIf true entry table = entry ∷ table
 entryIf false entry table = table
 
--- the entries of a text that comes after a name's first bytes, with that name's code: one recursive call, so that it computes fast
+-- the entries of a text that comes after a name's first bytes, with that name's code: one recursive call, so that it
+-- computes fast
 unfoldable pub split : List ℕ → ℕ → List ℕ → List (List ℕ × ℕ)
 split name n [] = []
 split name n (b ∷ text) = entryIf (endsName b) (name, n) (split (nextName name b) (nextCode n b) text)

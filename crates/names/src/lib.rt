@@ -1,4 +1,5 @@
-// The three `from_name` readers over bytes: a name to its code, or the refusal. For every slice of bytes.
+// The three `from_name` readers over bytes: a name to its code, or the refusal, for every slice of bytes. `dihyravo`
+// exports them.
 mod letters;
 mod table;
 
@@ -17,7 +18,8 @@ pub fn method(name: &[u8]) -> Named
 {
     table::find(
         name,
-        b"affine,affineprojection,scalerotatetranslate|srt,perspective,perspectiveprojection,bilinearreverse,bilinear|bilinearforward,polynomial,arc,polar,depolar,barrel,barrelinverse,shepards,",
+        b"affine,affineprojection,scalerotatetranslate|srt,perspective,perspectiveprojection,bilinearreverse,\
+         bilinear|bilinearforward,polynomial,arc,polar,depolar,barrel,barrelinverse,shepards,",
     )
 }
 
@@ -27,7 +29,8 @@ pub fn policy(name: &[u8]) -> Named
 {
     table::find(
         name,
-        b"edge|undefined,background,black,white,gray|grey,transparent|none,tile,mirror,horizontaltile,verticaltile,horizontaltileedge,verticaltileedge,checkertile,random,",
+        b"edge|undefined,background,black,white,gray|grey,transparent|none,tile,mirror,horizontaltile,\
+         verticaltile,horizontaltileedge,verticaltileedge,checkertile,random,",
     )
 }
 
@@ -37,6 +40,7 @@ pub fn interpolation(name: &[u8]) -> Named
 {
     table::find(
         name,
-        b"integer,nearest|nearestneighbor,average|average4,average9,average16,bilinear,catrom|bicubic,spline,background,",
+        b"integer,nearest|nearestneighbor,average|average4,average9,average16,bilinear,catrom|bicubic,spline,\
+         background,",
     )
 }

@@ -1,5 +1,5 @@
-// A table of names as one text, and the search in it. Each name ends in a comma, or in a bar where the name after it has the same
-// code; codes count from 0. For every text and every slice of bytes.
+// A table of names as one text, and the search in it. Each name ends in a comma, or in a bar where the name after it
+// has the same code; codes count from 0. For every text and every slice of bytes.
 use crate::Named;
 use crate::letters;
 ghost use mathlib.Core.Path.{_≡_};

@@ -1,5 +1,5 @@
--- The code's r, for x in the domain, is a whole number z; where x is below r the floor is z - 1, and otherwise it is z. And x is
--- not below its floor. Assumes nothing.
+-- The code's r, for x in the domain, is a whole number z; where x is below r the floor is z - 1, and otherwise it is z.
+-- And x is not below its floor. Assumes nothing.
 use mathlib.Core.Path.{_≡_, refl, sym, _∙_, subst}
 use Prim.Native.Nat.{ℕ, _*_, _≤_}
 use mathlib.Core.Bool.{Bool, true, false, not, cond, true≢false}
@@ -31,7 +31,8 @@ rounded-fin s m e A = record {
   is = near-is (fin s m e) s (m * up e) (down e) (down-pos e) A (refl, refl);
   small = near-small (fin s m e) s (m * up e) (down e) (down-pos e) A (refl, refl);
   fall = near-fall (fin s m e) s (m * up e) (down e) (down-pos e) A (refl, refl) ∙ floor-of s m e;
-  under = subst (λ (z : ℤ). T (not (lt (fin s m e) (ofInt binary64 z)))) (floor-of s m e) (floor-under (fin s m e) s (m * up e) (down e) (down-pos e) A (refl, refl));
+  under = subst (λ (z : ℤ). T (not (lt (fin s m e) (ofInt binary64 z)))) (floor-of s m e)
+      (floor-under (fin s m e) s (m * up e) (down e) (down-pos e) A (refl, refl));
 }
 
 pub rounded : (x : Float) → T (inDomain x) → Rounded x

@@ -1,5 +1,5 @@
--- What the floor is, for those who use it: where it stands beside x, its size, and its two answers. Each comes from the definition,
--- by the division with remainder that it is. Assumes nothing.
+-- What the floor is, for those who use it: where it stands beside x, its size, and its two answers. Each comes from the
+-- definition, by the division with remainder that it is. Assumes nothing.
 use mathlib.Core.Path.{_≡_, refl, sym, _∙_, subst}
 use Prim.Native.Nat.{ℕ, zero, suc, _+_, _-_, _*_, _/_, _≤_, _<_}
 use native.Mathlib.Nat.{le-of-suc-le-suc, div-mul-le-self, div-lt-iff-lt-mul, le-refl}
@@ -25,24 +25,34 @@ div-below : (a c : ℕ) → 0 < c → a < suc (a / c) * c
 div-below a c P = div-lt-iff-lt-mul P .0 (le-refl (suc (a / c)))
 
 -- -q, where q is a / c rounded up: q * c is a or more, by less than c
-negative-below : (a c q : ℕ) → q * c ≤ a + (c - 1) → a + (c - 1) < suc q * c → 0 < c → plus (negℤ (pos q)) * c + a ≤ 0 + less (negℤ (pos q)) * c
+negative-below : (a c q : ℕ) → q * c ≤ a + (c - 1) → a + (c - 1) < suc q * c → 0 < c
+    → plus (negℤ (pos q)) * c + a ≤ 0 + less (negℤ (pos q)) * c
 negative-below a c zero lo hi P = omega arith
 negative-below a c (suc q) lo hi P = omega arith
 
-negative-above : (a c q : ℕ) → q * c ≤ a + (c - 1) → a + (c - 1) < suc q * c → 0 < c → 0 + less (negℤ (pos q)) * c < a + plus (negℤ (pos q)) * c + c
+negative-above : (a c q : ℕ) → q * c ≤ a + (c - 1) → a + (c - 1) < suc q * c → 0 < c
+    → 0 + less (negℤ (pos q)) * c < a + plus (negℤ (pos q)) * c + c
 negative-above a c zero lo hi P = omega arith
 negative-above a c (suc q) lo hi P = omega arith
 
 -- ---- floor x ≤ x < floor x + 1, over the denominator of x = ±(m * up e) / down e
-pub floor-below : (s : Bool) (m : ℕ) (e : ℤ) → plus (floorℤ (fin s m e)) * down e + cond s (m * up e) 0 ≤ cond s 0 (m * up e) + less (floorℤ (fin s m e)) * down e
+pub floor-below : (s : Bool) (m : ℕ) (e : ℤ)
+    → plus (floorℤ (fin s m e)) * down e + cond s (m * up e) 0 ≤ cond s 0 (m * up e) + less (floorℤ (fin s m e)) * down
+    e
 unfolding floorℤ
 floor-below false m e = let h = div-mul-le-self (m * up e) (down e) in omega arith
-floor-below true m e = negative-below (m * up e) (down e) (ceilDiv (m * up e) (down e)) (div-mul-le-self (m * up e + (down e - 1)) (down e)) (div-below (m * up e + (down e - 1)) (down e) (down-pos e)) (down-pos e)
+floor-below true m e = negative-below (m * up e) (down e) (ceilDiv (m * up e) (down e))
+    (div-mul-le-self (m * up e + (down e - 1)) (down e)) (div-below (m * up e + (down e - 1)) (down e) (down-pos e))
+    (down-pos e)
 
-pub floor-above : (s : Bool) (m : ℕ) (e : ℤ) → cond s 0 (m * up e) + less (floorℤ (fin s m e)) * down e < cond s (m * up e) 0 + plus (floorℤ (fin s m e)) * down e + down e
+pub floor-above : (s : Bool) (m : ℕ) (e : ℤ)
+    → cond s 0 (m * up e) + less (floorℤ (fin s m e)) * down e < cond s (m * up e) 0 + plus (floorℤ (fin s m e)) * down
+    e + down e
 unfolding floorℤ
 floor-above false m e = let h = div-below (m * up e) (down e) (down-pos e) in omega arith
-floor-above true m e = negative-above (m * up e) (down e) (ceilDiv (m * up e) (down e)) (div-mul-le-self (m * up e + (down e - 1)) (down e)) (div-below (m * up e + (down e - 1)) (down e) (down-pos e)) (down-pos e)
+floor-above true m e = negative-above (m * up e) (down e) (ceilDiv (m * up e) (down e))
+    (div-mul-le-self (m * up e + (down e - 1)) (down e)) (div-below (m * up e + (down e - 1)) (down e) (down-pos e))
+    (down-pos e)
 
 -- ---- its size
 abs-neg : (q : ℕ) → natAbs (negℤ (pos q)) ≡ q
@@ -60,7 +70,8 @@ floor-size (fin false m e) d =
 floor-size (fin true m e) d =
     let h = leb→le (m * up e) (2147483648 * down e) d in
     let p = down-pos e in
-    subst (λ (q : ℕ). q ≤ 2147483648) (sym (abs-neg (ceilDiv (m * up e) (down e)))) (le-of-suc-le-suc (div-lt-iff-lt-mul (down-pos e) .1 (omega arith)))
+    subst (λ (q : ℕ). q ≤ 2147483648) (sym (abs-neg (ceilDiv (m * up e) (down e))))
+    (le-of-suc-le-suc (div-lt-iff-lt-mul (down-pos e) .1 (omega arith)))
 
 -- ---- the two answers, in the domain and outside it
 yes-of : {A : Type 0} (b : Bool) (x y : A) → T b → cond b x y ≡ x
@@ -82,11 +93,13 @@ module _ (x : Float) where
 
   pub floor-float : T (inDomain x) → T (not (isZero x)) → floorF64 x ≡ ofInt binary64 (floorℤ x)
   unfolding floorF64
-  floor-float d n = yes-of (inDomain x) (cond (isZero x) x (ofInt binary64 (floorℤ x))) nan d ∙ no-of (isZero x) x (ofInt binary64 (floorℤ x)) n
+  floor-float d n = yes-of (inDomain x) (cond (isZero x) x (ofInt binary64 (floorℤ x))) nan d
+      ∙ no-of (isZero x) x (ofInt binary64 (floorℤ x)) n
 
   pub floor-zero : T (inDomain x) → T (isZero x) → floorF64 x ≡ x
   unfolding floorF64
-  floor-zero d z = yes-of (inDomain x) (cond (isZero x) x (ofInt binary64 (floorℤ x))) nan d ∙ yes-of (isZero x) x (ofInt binary64 (floorℤ x)) z
+  floor-zero d z = yes-of (inDomain x) (cond (isZero x) x (ofInt binary64 (floorℤ x))) nan d
+      ∙ yes-of (isZero x) x (ofInt binary64 (floorℤ x)) z
 
   pub floor-float-out : T (not (inDomain x)) → floorF64 x ≡ nan
   unfolding floorF64

@@ -1,5 +1,5 @@
--- The floor as a float has the sign of x and the value of the floor as a whole number: a zero's floor is 0, and where x is negative
--- and not zero its floor is below 0. Assumes nothing.
+-- The floor as a float has the sign of x and the value of the floor as a whole number: a zero's floor is 0, and where x
+-- is negative and not zero its floor is below 0. Assumes nothing.
 use mathlib.Core.Path.{_≡_, refl, sym, ap, _∙_, subst}
 use Prim.Native.Nat.{ℕ, zero, suc, _+_, _-_, _*_, _/_, _<_}
 use native.Mathlib.Nat.{lt-irrefl, le-trans, div-eq-of-lt, le-div-iff-mul-le, zero-mul, mul-pos, zero-lt-suc}
@@ -30,7 +30,8 @@ small-quotient a c z p =
 pub floor-none : (s : Bool) (m : ℕ) (e : ℤ) → T (isZero (fin s m e)) → floorℤ (fin s m e) ≡ pos 0
 unfolding floorℤ isZero
 floor-none false m e z = ap pos (small-quotient (m * up e) (down e) (no-digits m e (eqb→eq m 0 z)) (down-pos e) .0)
-floor-none true m e z = ap (λ (q : ℕ). negℤ (pos q)) (small-quotient (m * up e) (down e) (no-digits m e (eqb→eq m 0 z)) (down-pos e) .1)
+floor-none true m e z = ap (λ (q : ℕ). negℤ (pos q))
+    (small-quotient (m * up e) (down e) (no-digits m e (eqb→eq m 0 z)) (down-pos e) .1)
 
 -- ---- the float has the sign of x, and the value of the whole number
 sign-neg : (q : ℕ) → 0 < q → negative (negℤ (pos q)) ≡ true
@@ -46,8 +47,10 @@ floor-sign true (suc m) e n =
     let p = down-pos e in
     sign-neg (ceilDiv (suc m * up e) (down e)) (le-div-iff-mul-le (down-pos e) .1 (omega arith))
 
-pub floor-value : (s : Bool) (m : ℕ) (e : ℤ) → T (inDomain (fin s m e)) → HasValue (floorF64 (fin s m e)) s (natAbs (floorℤ (fin s m e))) 1
-floor-value s m e d = go (isZero (fin s m e)) (floor-zero (fin s m e) d) (floor-none s m e) (digits s m e) (floor-float (fin s m e) d) (floor-sign s m e)
+pub floor-value : (s : Bool) (m : ℕ) (e : ℤ) → T (inDomain (fin s m e))
+    → HasValue (floorF64 (fin s m e)) s (natAbs (floorℤ (fin s m e))) 1
+floor-value s m e d = go (isZero (fin s m e)) (floor-zero (fin s m e) d) (floor-none s m e) (digits s m e)
+    (floor-float (fin s m e) d) (floor-sign s m e)
   where
     x : Float
     x = fin s m e
@@ -55,10 +58,17 @@ floor-value s m e d = go (isZero (fin s m e)) (floor-zero (fin s m e) d) (floor-
     digits : (s : Bool) (m : ℕ) (e : ℤ) → T (isZero (fin s m e)) → m ≡ 0
     digits s m e z = unfold isZero in eqb→eq m 0 z
 
-    go : (b : Bool) → (T b → floorF64 x ≡ x) → (T b → floorℤ x ≡ pos 0) → (T b → m ≡ 0) → (T (not b) → floorF64 x ≡ ofInt binary64 (floorℤ x)) → (T (not b) → negative (floorℤ x) ≡ s) → HasValue (floorF64 x) s (natAbs (floorℤ x)) 1
+    go : (b : Bool) → (T b → floorF64 x ≡ x) → (T b → floorℤ x ≡ pos 0) → (T b → m ≡ 0)
+        → (T (not b) → floorF64 x ≡ ofInt binary64 (floorℤ x)) → (T (not b) → negative (floorℤ x) ≡ s)
+        → HasValue (floorF64 x) s (natAbs (floorℤ x)) 1
     go true a b c f g =
         subst (λ (y : Float). HasValue y s (natAbs (floorℤ x)) 1) (sym (a tt))
-        (subst (λ (z : ℤ). HasValue x s (natAbs z) 1) (sym (b tt)) (refl, ap (λ (n : ℕ). n * 1) (no-digits m e (c tt)) ∙ sym (zero-mul (down e))))
+        (subst (λ (z : ℤ). HasValue x s (natAbs z) 1) (sym (b tt)) (
+          refl,
+          ap (λ (n : ℕ). n * 1) (no-digits m e (c tt))
+              ∙ sym (zero-mul (down e)),
+        ))
     go false a b c f g =
         subst (λ (y : Float). HasValue y s (natAbs (floorℤ x)) 1) (sym (f tt))
-        (subst (λ (t : Bool). HasValue (ofInt binary64 (floorℤ x)) t (natAbs (floorℤ x)) 1) (g tt) (ofInt-value binary64 (floorℤ x) (floor-counted x d)))
+        (subst (λ (t : Bool). HasValue (ofInt binary64 (floorℤ x)) t (natAbs (floorℤ x)) 1) (g tt)
+        (ofInt-value binary64 (floorℤ x) (floor-counted x d)))

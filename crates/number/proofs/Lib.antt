@@ -10,3 +10,13 @@ pub mod NarrowBits
 pub mod NarrowLaws
 pub mod NarrowLow
 pub mod NarrowNormal
+mod RootCases
+mod RootDigits
+pub mod RootLaws
+mod RootNear
+pub mod RootNumbers
+mod RootPositive
+mod RootScale
+mod RootSettle
+mod RootValue
+pub mod RootWhole

@@ -65,7 +65,8 @@ unfolding abs odd
 odd-unsigned d s zero k l = refl
 odd-unsigned d s (suc q) k l = refl
 
-picked-unsigned : (a b s : Bool) (v w : Float) → abs v ≡ w → abs (cond a (cond b (inf s) nan) v) ≡ cond a (cond b (inf false) nan) w
+picked-unsigned : (a b s : Bool) (v w : Float) → abs v ≡ w
+    → abs (cond a (cond b (inf s) nan) v) ≡ cond a (cond b (inf false) nan) w
 unfolding abs
 picked-unsigned true true s v w h = refl
 picked-unsigned true false s v w h = refl
@@ -75,14 +76,17 @@ fields-unsigned : (f : Format) (s : Bool) (x t : ℕ) → abs (ofFields f s x t)
 unfolding ofFields
 fields-unsigned f s zero t = odd-unsigned (prec f) s t 0 (low f)
 fields-unsigned f s (suc x) t =
-    picked-unsigned (eqb (suc x) (ones f)) (eqb t 0) s (odd (prec f) s (hid f + t) x (low f)) (odd (prec f) false (hid f + t) x (low f)) (odd-unsigned (prec f) s (hid f + t) x (low f))
+    picked-unsigned (eqb (suc x) (ones f)) (eqb t 0) s (odd (prec f) s (hid f + t) x (low f))
+    (odd (prec f) false (hid f + t) x (low f)) (odd-unsigned (prec f) s (hid f + t) x (low f))
 
 pub abs-bits : (f : Format) (n : ℕ) → abs (ofBits f n) ≡ ofBits f (n % top f)
 unfolding ofBits
 abs-bits f n =
     fields-unsigned f (leb (top f) n) (n % top f / hid f) (n % hid f)
-    ∙ ap (λ (b : Bool). ofFields f b (n % top f / hid f) (n % hid f)) (sym (lt-leb (top f) (n % top f) (mod-lt n (top-pos f))))
-    ∙ (λ i. ofFields f (leb (top f) (n % top f)) (sym (mod-eq-of-lt (mod-lt n (top-pos f))) i / hid f) (sym (mod-mod-of-dvd (hid f) n (dvd-mul-right (hid f) (suc (ones f)))) i))
+    ∙ ap (λ (b : Bool). ofFields f b (n % top f / hid f) (n % hid f))
+    (sym (lt-leb (top f) (n % top f) (mod-lt n (top-pos f))))
+    ∙ (λ i. ofFields f (leb (top f) (n % top f)) (sym (mod-eq-of-lt (mod-lt n (top-pos f))) i / hid f)
+    (sym (mod-mod-of-dvd (hid f) n (dvd-mul-right (hid f) (suc (ones f)))) i))
   where
     top-pos : (f : Format) → 0 < top f
     top-pos f = mul-pos (pow-pos (prec f - 1)) (zero-lt-suc (ones f))

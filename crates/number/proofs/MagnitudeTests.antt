@@ -1,5 +1,5 @@
--- What the code's tests say: up to zero the magnitude of x is 0 - x, which is exact, and above zero it is x; and the test of a magnitude against a
--- limit is one comparison of patterns. Assumes nothing.
+-- What the code's tests say: up to zero the magnitude of x is 0 - x, which is exact, and above zero it is x; and the
+-- test of a magnitude against a limit is one comparison of patterns. Assumes nothing.
 use mathlib.Core.Path.{_≡_, refl, sym, ap, _∙_, subst}
 use mathlib.Core.Bool.{Bool, true, false, _&&_, _||_, false≢true, true≢false}
 use Prim.Native.Nat.{ℕ, zero, suc, _+_, _*_, _%_, _≤_, _<_}
@@ -28,12 +28,14 @@ minus-below a b z = subst (λ (x : ℕ). (ltb 0 (a + x) || (eqb a x && (false ||
   where
     go : (a : ℕ) → (ltb 0 (a + 0) || (eqb a 0 && (false || eqb a 0))) ≡ true
     go zero = refl
-    go (suc a) = ap (λ (t : Bool). t || (eqb (suc a) 0 && (false || eqb (suc a) 0))) (lt-ltb 0 (suc a + 0) (omega arith))
+    go (suc a) = ap (λ (t : Bool). t || (eqb (suc a) 0 && (false || eqb (suc a) 0)))
+        (lt-ltb 0 (suc a + 0) (omega arith))
 
 plus-below : (a b : ℕ) → b ≡ 0 → 0 < a → (ltb a b || (eqb a b && true)) ≡ true → ⊥
 plus-below a b z p h =
     false≢true
-    (sym (ap (λ (t : Bool). t || (eqb a b && true)) (le-ltb a b (omega arith)) ∙ ap (λ (t : Bool). t && true) (ne-eqb a b (λ q. positive a b z p q)))
+    (sym (ap (λ (t : Bool). t || (eqb a b && true)) (le-ltb a b (omega arith))
+    ∙ ap (λ (t : Bool). t && true) (ne-eqb a b (λ q. positive a b z p q)))
     ∙ h)
   where
     positive : (a b : ℕ) → b ≡ 0 → 0 < a → a ≡ b → ⊥
@@ -61,28 +63,35 @@ abs-up-to-zero f (fin true m e) t h =
     ∙ ap (λ (d : ℕ). round f false (m * up e) d) (once (down e))
     ∙ round-held f (fin false m e) false (m * up e) (down e) (down-pos e) (unsigned f m e t) (refl, refl)
 abs-up-to-zero f (fin false zero e) t h =
-    subst (λ (z : ℤ). sub f +0 (fin false 0 z) ≡ fin false 0 z) (sym (zero-exp f false e t)) (round-zero f false 1 (zero-lt-suc 0))
+    subst (λ (z : ℤ). sub f +0 (fin false 0 z) ≡ fin false 0 z) (sym (zero-exp f false e t))
+    (round-zero f false 1 (zero-lt-suc 0))
 abs-up-to-zero f (fin false (suc m) e) t h =
-    absurd (plus-below (suc m * up e * 1) (0 * down e) (zero-mul (down e)) (mul-pos (mul-pos (zero-lt-suc m) (up-pos e)) (zero-lt-suc 0)) h)
+    absurd (plus-below (suc m * up e * 1) (0 * down e) (zero-mul (down e))
+    (mul-pos (mul-pos (zero-lt-suc m) (up-pos e)) (zero-lt-suc 0)) h)
 
 pub abs-above-zero : (x : Float) → le x +0 ≡ false → x ≡ abs x
 unfolding le abs
 abs-above-zero nan h = refl
 abs-above-zero (inf true) h = absurd (true≢false h)
 abs-above-zero (inf false) h = refl
-abs-above-zero (fin true m e) h = absurd (true≢false (sym (minus-below (m * up e * 1) (0 * down e) (zero-mul (down e))) ∙ h))
+abs-above-zero (fin true m e) h =
+    absurd (true≢false (sym (minus-below (m * up e * 1) (0 * down e) (zero-mul (down e))) ∙ h))
 abs-above-zero (fin false m e) h = refl
 
 -- with zero as a literal has it
-pub abs-of-difference : (f : Format) (x : Float) → T (fits f x) → le x (ofBits f 0) ≡ true → sub f (ofBits f 0) x ≡ abs x
+pub abs-of-difference : (f : Format) (x : Float) → T (fits f x) → le x (ofBits f 0) ≡ true
+    → sub f (ofBits f 0) x ≡ abs x
 abs-of-difference f x t h =
-    ap (λ (z : Float). sub f z x) (zero-bits f) ∙ abs-up-to-zero f x t (ap (λ (z : Float). le x z) (sym (zero-bits f)) ∙ h)
+    ap (λ (z : Float). sub f z x) (zero-bits f)
+    ∙ abs-up-to-zero f x t (ap (λ (z : Float). le x z) (sym (zero-bits f)) ∙ h)
 
 pub abs-otherwise : (f : Format) (x : Float) → le x (ofBits f 0) ≡ false → x ≡ abs x
 abs-otherwise f x h = abs-above-zero x (ap (λ (z : Float). le x z) (sym (zero-bits f)) ∙ h)
 
 -- ---- the limit, by patterns
-pub within-bits : (f : Format) (n limit : ℕ) → limit ≤ infinite f → leb (n % top f) limit ≡ within (ofBits f limit) (ofBits f n)
+pub within-bits : (f : Format) (n limit : ℕ) → limit ≤ infinite f
+    → leb (n % top f) limit ≡ within (ofBits f limit) (ofBits f n)
 unfolding within
 within-bits f n limit h =
-    sym (ap (λ (x : Float). le x (ofBits f limit)) (abs-bits f n) ∙ pattern-order f (n % top f) limit (mod-lt n (top-pos f)) h)
+    sym (ap (λ (x : Float). le x (ofBits f limit)) (abs-bits f n)
+    ∙ pattern-order f (n % top f) limit (mod-lt n (top-pos f)) h)

@@ -1,5 +1,5 @@
--- What callers may use of `narrow`: it sees the value alone, its result is an f32, an f32 goes through unchanged, the order of values
--- that are not negative is kept, and 0 to 1 stays there. Each is a law of `round`. Assumes nothing.
+-- What callers may use of `narrow`: it sees the value alone, its result is an f32, an f32 goes through unchanged, the
+-- order of values that are not negative is kept, and 0 to 1 stays there. Each is a law of `round`. Assumes nothing.
 use mathlib.Core.Path.{_≡_, refl, sym, ap, _∙_, subst}
 use Prim.Native.Nat.{ℕ, _*_, _^_, _≤_, _<_}
 use native.Mathlib.Nat.{le-trans, le-of-eq, mul-comm, mul-le-mul-right}
@@ -20,7 +20,8 @@ unfolding narrow
 narrow-value nan s a c C v = absurd v
 narrow-value (inf t) s a c C v = absurd v
 narrow-value (fin t m e) s a c C v =
-    ap (λ (b : Bool). round binary32 b (m * up e) (down e)) (v .0) ∙ round-same binary32 s (m * up e) (down e) a c (down-pos e) C (v .1)
+    ap (λ (b : Bool). round binary32 b (m * up e) (down e)) (v .0)
+    ∙ round-same binary32 s (m * up e) (down e) a c (down-pos e) C (v .1)
 
 pub narrow-nan : narrow nan ≡ nan
 unfolding narrow
@@ -45,13 +46,17 @@ narrow-held (inf s) t = refl
 narrow-held (fin s m e) t = round-held binary32 (fin s m e) s (m * up e) (down e) (down-pos e) t (refl, refl)
 
 -- of two values that are not negative the larger narrows to one that is no smaller
-pub narrow-mono : (x y : Float) (a c b d : ℕ) → 0 < c → 0 < d → HasValue x false a c → HasValue y false b d → a * d ≤ b * c → T (le (narrow x) (narrow y))
+pub narrow-mono : (x y : Float) (a c b d : ℕ) → 0 < c → 0 < d → HasValue x false a c → HasValue y false b d
+    → a * d ≤ b * c → T (le (narrow x) (narrow y))
 narrow-mono x y a c b d C D v w h =
     subst (λ (z : Float). T (le z (narrow y))) (sym (narrow-value x false a c C v))
-    (subst (λ (z : Float). T (le (round binary32 false a c) z)) (sym (narrow-value y false b d D w)) (round-mono binary32 a c b d C D h))
+    (subst (λ (z : Float). T (le (round binary32 false a c) z)) (sym (narrow-value y false b d D w))
+    (round-mono binary32 a c b d C D h))
 
 -- from 0 to 1, in units of 2 ^ -149
-pub narrow-unit : (x : Float) (a c : ℕ) → 0 < c → a ≤ c → HasValue x false a c → (g : ℕ) × HasValue (narrow x) false g (2 ^ 149) × (g ≤ 2 ^ 149)
+pub narrow-unit : (x : Float) (a c : ℕ) → 0 < c → a ≤ c → HasValue x false a c → (g : ℕ)
+    × HasValue (narrow x) false g (2 ^ 149) × (g ≤ 2 ^ 149)
 narrow-unit x a c C h v =
     subst (λ (z : Float). (g : ℕ) × HasValue z false g (2 ^ 149) × (g ≤ 2 ^ 149)) (sym (narrow-value x false a c C v))
-    (round-le-pow binary32 false a c 149 C (le-trans (mul-le-mul-right (2 ^ 149) h) (le-of-eq (mul-comm c (2 ^ 149)))) (lit< tt))
+    (round-le-pow binary32 false a c 149 C (le-trans (mul-le-mul-right (2 ^ 149) h) (le-of-eq (mul-comm c (2 ^ 149))))
+    (lit< tt))

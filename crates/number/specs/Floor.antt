@@ -1,5 +1,5 @@
--- Floor: the largest whole number that is not above x, for the finite x of magnitude at most 2^31, which are the domain.
--- Outside it the whole number is i64::MIN and the float is NaN. Assumes nothing.
+-- Floor: the largest whole number that is not above x, for the finite x of magnitude at most 2^31, which are the
+-- domain. Outside it the whole number is i64::MIN and the float is NaN. Specification 4. Assumes nothing.
 use Prim.Native.Nat.{ℕ, _+_, _-_, _*_, _/_, _^_}
 use mathlib.Core.Bool.{Bool, true, false, cond}
 use lib.Dec.{leb, eqb}

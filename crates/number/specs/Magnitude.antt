@@ -1,5 +1,5 @@
--- Magnitudes as Rust's f64 methods have them: `abs`, `min`, `max`, and the rule by which elimination takes its
--- pivot. Both formats share one type of values, so each is said once. Assumes nothing.
+-- Magnitudes as Rust's f64 methods have them: `abs`, `min`, `max`, and the rule by which elimination takes its pivot.
+-- Both formats share one type of values, so each is said once. Specification 4. Assumes nothing.
 use mathlib.Core.Bool.{Bool, false, cond, _||_}
 use lib.Ieee.{Float, nan, inf, fin, lt, le, isNan}
 

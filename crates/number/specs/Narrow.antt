@@ -1,5 +1,5 @@
 -- An f64 to the nearest f32, ties to even: what Rust's `x as f32` is. A subnormal result, a zero of x's sign and an
--- infinity are `round`'s own. Assumes nothing.
+-- infinity are `round`'s own. Specification 4. Assumes nothing.
 use Prim.Native.Nat.{_*_}
 use lib.Ieee.{Float, nan, inf, fin, binary32, up, down, round}
 

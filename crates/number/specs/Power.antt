@@ -1,5 +1,5 @@
--- Powers by repeated squaring, as the run-time routine behind Rust's `powi` makes them: x⁵ is x times (x²)².
--- A product's value does not turn on the order of its two factors. Assumes nothing.
+-- Powers by repeated squaring, as the run-time routine behind Rust's `powi` makes them: x⁵ is x times (x²)². A
+-- product's value does not turn on the order of its two factors. Specification 4. Assumes nothing.
 use Prim.Native.Nat.{ℕ, zero, suc}
 use lib.Ieee.{Float, binary64, ofBits}
 use Rattle.exact.specs.Double.{_⊗_}

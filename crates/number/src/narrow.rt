@@ -25,8 +25,8 @@ fn ordinary(m: u64) -> u64
     closest(m, 0x20000000) - 0x1c0000000
 }
 
-// Below 2^-126 the result is a whole number of 2^-149. The significand is 2^(926 - field) times too large for that unit;
-// from 2^54 on less than half a unit is left.
+// Below 2^-126 the result is a whole number of 2^-149. The significand is 2^(926 - field) times too large for that
+// unit; from 2^54 on less than half a unit is left.
 fn subnormal(m: u64) -> u64
     requires { ⌜ m < 0x3810000000000000 ⌝ }
     ensures { λ r. ⌜ r ≡ toBits binary32 (narrow (ofBits binary64 m)) ⌝ }
@@ -62,8 +62,8 @@ fn signed(x: f64) -> f32
     f32::from_bits(((bits / 0x8000000000000000) * 0x80000000 + p) as u32)
 }
 
-// Of a number that is known to be none of the NaNs. From 2^-126 on, below 2^128, one test is all: what a coordinate has beyond its floor
-// lies there nearly always.
+// Of a number that is known to be none of the NaNs. From 2^-126 on, below 2^128, one test is all: what a coordinate has
+// beyond its floor lies there nearly always.
 pub fn narrow_number(x: f64) -> f32
     requires { ⌜ T (not (isNan x)) ⌝ }
     ensures { λ r. ⌜ r ≡ narrow x ⌝ }

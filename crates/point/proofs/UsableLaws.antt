@@ -1,5 +1,5 @@
--- A float whose value is at most 2^30 in magnitude passes the test of a usable coordinate: the float comparison of finite floats is that of
--- their values. Assumes nothing.
+-- A float whose value is at most 2^30 in magnitude passes the test of a usable coordinate: the float comparison of
+-- finite floats is that of their values. Assumes nothing.
 use mathlib.Core.Path.{_≡_, refl, sym, ap, _∙_, subst, subst⁻¹}
 use mathlib.Core.Bool.{Bool, true, false, _&&_, false≢true}
 use Prim.Native.Nat.{ℕ, _+_, _*_}
@@ -41,16 +41,19 @@ pub within-limit : (x : Float) → T (finite x) → absF (value x) ≤F value li
 unfolding within
 within-limit x t h =
     true-of (le (abs x) limit)
-    (le-value (abs x) limit (subst T (sym (abs-finite x)) t) limit-number .1 (le-trans (value (abs x)) (absF (value x)) (value limit) (abs-fraction x t .0) h))
+    (le-value (abs x) limit (subst T (sym (abs-finite x)) t) limit-number .1
+    (le-trans (value (abs x)) (absF (value x)) (value limit) (abs-fraction x t .0) h))
 
 room : frac 16385 1 ≤F value limit
 unfolding ofBits
 room = record { le = lit≤ tt }
 
-pub usable-close : {u v : Float} {U W e f : Fraction} → Close u U e (frac 16385 1) → Close v W f (frac 16385 1) → usable u v ≡ true
+pub usable-close : {u v : Float} {U W e f : Fraction} → Close u U e (frac 16385 1) → Close v W f (frac 16385 1)
+    → usable u v ≡ true
 unfolding usable
 usable-close {u} {v} c d =
-    ap (λ (t : Bool). t && within limit v) (within-limit u (c .number) (le-trans (absF (value u)) (frac 16385 1) (value limit) (c .small) room))
+    ap (λ (t : Bool). t && within limit v)
+    (within-limit u (c .number) (le-trans (absF (value u)) (frac 16385 1) (value limit) (c .small) room))
     ∙ within-limit v (d .number) (le-trans (absF (value v)) (frac 16385 1) (value limit) (d .small) room)
 
 -- ---- and the other way: what is usable is a number, at most 2^30 in magnitude
@@ -69,9 +72,12 @@ within-number x h =
     let t : T (finite x) = abs-limited x limit limit-number l in (
       t,
       le-trans (absF (value x)) (value (abs x)) (frac 1073741824 1) (abs-fraction x t .1)
-          (le-trans (value (abs x)) (value limit) (frac 1073741824 1) (le-value (abs x) limit (subst T (sym (abs-finite x)) t) limit-number .0 l) limit-value),
+          (le-trans (value (abs x)) (value limit) (frac 1073741824 1)
+          (le-value (abs x) limit (subst T (sym (abs-finite x)) t) limit-number .0 l) limit-value),
     )
 
-pub usable-numbers : (u v : Float) → usable u v ≡ true → (T (finite u) × (absF (value u) ≤F frac 1073741824 1)) × (T (finite v) × (absF (value v) ≤F frac 1073741824 1))
+pub usable-numbers : (u v : Float) → usable u v ≡ true → (T (finite u) × (absF (value u) ≤F frac 1073741824 1))
+    × (T (finite v) × (absF (value v) ≤F frac 1073741824 1))
 unfolding usable
-usable-numbers u v h = let p = both (within limit u) (within limit v) h in (within-number u (p .0), within-number v (p .1))
+usable-numbers u v h = let p = both (within limit u) (within limit v) h in
+    (within-number u (p .0), within-number v (p .1))

@@ -43,12 +43,14 @@ pub data Leaves {A : Type 0} : Course A → Type 0 where
   goes : (a : A) → Leaves (on a)
   left : {p : Point} → Whole p → Leaves (out p)
 
-pub turn-leaves : {A : Type 0} (step : A → Course A) → ((a : A) → Leaves (step a)) → (c : Course A) → Leaves c → Leaves (turn step c)
+pub turn-leaves : {A : Type 0} (step : A → Course A) → ((a : A) → Leaves (step a)) → (c : Course A) → Leaves c
+    → Leaves (turn step c)
 unfolding turn
 turn-leaves step s (on a) h = s a
 turn-leaves step s (out p) h = h
 
-pub ended-whole : {A : Type 0} (last : A → Point) → ((a : A) → Whole (last a)) → (c : Course A) → Leaves c → Whole (ended last c)
+pub ended-whole : {A : Type 0} (last : A → Point) → ((a : A) → Whole (last a)) → (c : Course A) → Leaves c
+    → Whole (ended last c)
 unfolding ended
 ended-whole last ok (on a) h = ok a
 ended-whole last ok (out p) (left m) = m

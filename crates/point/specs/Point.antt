@@ -1,6 +1,6 @@
 -- A source point: u and v in the picture, and whether they can be used. Where a mapping has none, u and v are NaNs,
 -- which can't be used: so every point is `point` of its own coordinates, and keeping these is keeping the point.
--- Assumes nothing.
+-- Specification 7. Assumes nothing.
 use mathlib.Core.Path.{_≡_}
 use mathlib.Core.Bool.{Bool, false, cond, _&&_}
 use lib.Ieee.{Float, nan, binary64, ofBits}

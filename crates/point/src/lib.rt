@@ -1,3 +1,3 @@
-// A source point, and whether it can be used.
+// A source point: two coordinates with a mark for usable. `inverse` returns it, interpolation takes it.
 pub mod point;
 pub mod usable;

@@ -1,5 +1,5 @@
--- The 64 bits of an index: those below 2^63 are the index, the others are counted back from -1; and the test for what is
--- inside on the bits alone. By one comparison with 2^63, and then by arithmetic. Assumes nothing.
+-- The 64 bits of an index: those below 2^63 are the index, the others are counted back from -1; and the test for what
+-- is inside on the bits alone. By one comparison with 2^63, and then by arithmetic. Assumes nothing.
 use mathlib.Core.Path.{_≡_, refl, sym, ap, _∙_}
 use mathlib.Core.Bool.{Bool, true, false, cond}
 use Prim.Native.Nat.{ℕ, suc, _-_, _^_, _≤_, _<_}
@@ -53,7 +53,8 @@ pub argument : {v : ℤ} {b : ℕ} → SFits w64 v → b ≡ twosComplement (toZ
 argument {v} {b} f e = ap signed (e ∙ ap twosComplement (toZ-ofZ f)) ∙ signed-bits v f
 
 -- those of an argument that was moved on
-pub moved-bits : {v : ℤ} {b : ℕ} → SFits w64 v → (r : ℤ) (k : ℕ) → mag r < 2 ^ 63 → r ≡ toZ w64 (ofZ w64 v) +ℤ pos k → b ≡ twosComplement (toZ w64 (ofZ w64 r)) → signed b ≡ v +ℤ pos k
+pub moved-bits : {v : ℤ} {b : ℕ} → SFits w64 v → (r : ℤ) (k : ℕ) → mag r < 2 ^ 63 → r ≡ toZ w64 (ofZ w64 v) +ℤ pos k
+    → b ≡ twosComplement (toZ w64 (ofZ w64 r)) → signed b ≡ v +ℤ pos k
 moved-bits {v} {b} f r k g h e = argument {v = r} (record { sfits = g }) e ∙ h ∙ ap (λ (z : ℤ). z +ℤ pos k) (toZ-ofZ f)
 
 -- ---- inside

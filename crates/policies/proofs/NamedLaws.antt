@@ -1,5 +1,5 @@
--- Whatever is named as a pixel lies inside the picture, under every policy and at every index, and an index inside names
--- its own pixel. By cases on the policy; each side of the picture by the laws of an index. Assumes nothing.
+-- Whatever is named as a pixel lies inside the picture, under every policy and at every index, and an index inside
+-- names its own pixel. By cases on the policy; each side of the picture by the laws of an index. Assumes nothing.
 use mathlib.Core.Path.{_≡_, refl}
 use mathlib.Core.Bool.{Bool, true, false, cond, _&&_}
 use Prim.Native.Nat.{ℕ, _+_, _/_, _%_, _^_, _<_}
@@ -11,7 +11,28 @@ use borrow.Author.Tests.{lt-ltb}
 use Rattle.endian.specs.Bytes.{twosComplement}
 use Rattle.policies.specs.Index.{within, tile, parity}
 use Rattle.policies.specs.Random.{mix}
-use Rattle.policies.specs.Named.{Policy, Edge, Background, Black, White, Gray, Transparent, Tile, Mirror, HorizontalTile, VerticalTile, HorizontalTileEdge, VerticalTileEdge, CheckerTile, Random, policy, picked, outside, named, Lies}
+use Rattle.policies.specs.Named.{
+  Policy,
+  Edge,
+  Background,
+  Black,
+  White,
+  Gray,
+  Transparent,
+  Tile,
+  Mirror,
+  HorizontalTile,
+  VerticalTile,
+  HorizontalTileEdge,
+  VerticalTileEdge,
+  CheckerTile,
+  Random,
+  policy,
+  picked,
+  outside,
+  named,
+  Lies,
+}
 use Rattle.policies.specs.declared.named.Tap.{Tap}
 use Rattle.policies.specs.declared.named.Tap.the-variants as Tap
 use Rattle.policies.proofs.IndexLaws.{within-lt, clamped-lt, tile-lt, mirror-lt}
@@ -33,20 +54,27 @@ module _ (w h : ℕ) (w-pos : 0 < w) (h-pos : 0 < h) where
   outside-lies Tile x y = (tile-lt x w w-pos, tile-lt y h h-pos)
   outside-lies Mirror x y = (mirror-lt x w w-pos, mirror-lt y h h-pos)
   outside-lies HorizontalTile x y =
-      either w h (within y h) (Tap.Pixel (tile x w) (mag y)) Tap.Background (λ e. (tile-lt x w w-pos, within-lt y h e)) tt
+      either w h (within y h) (Tap.Pixel (tile x w) (mag y)) Tap.Background (λ e. (tile-lt x w w-pos, within-lt y h e))
+      tt
   outside-lies VerticalTile x y =
-      either w h (within x w) (Tap.Pixel (mag x) (tile y h)) Tap.Background (λ e. (within-lt x w e, tile-lt y h h-pos)) tt
+      either w h (within x w) (Tap.Pixel (mag x) (tile y h)) Tap.Background (λ e. (within-lt x w e, tile-lt y h h-pos))
+      tt
   outside-lies HorizontalTileEdge x y = (tile-lt x w w-pos, clamped-lt y h h-pos)
   outside-lies VerticalTileEdge x y = (clamped-lt x w w-pos, tile-lt y h h-pos)
   outside-lies CheckerTile x y =
-      either w h (eqb ((parity x w + parity y h) % 2) 0) (Tap.Pixel (tile x w) (tile y h)) Tap.Background (λ e. (tile-lt x w w-pos, tile-lt y h h-pos)) tt
-  outside-lies Random x y = (mod-lt (mix (twosComplement x) (twosComplement y)) w-pos, mod-lt (mix (twosComplement x) (twosComplement y) / 2 ^ 32) h-pos)
+      either w h (eqb ((parity x w + parity y h) % 2) 0) (Tap.Pixel (tile x w) (tile y h)) Tap.Background
+      (λ e. (tile-lt x w w-pos, tile-lt y h h-pos)) tt
+  outside-lies Random x y = (
+    mod-lt (mix (twosComplement x) (twosComplement y)) w-pos,
+    mod-lt (mix (twosComplement x) (twosComplement y) / 2 ^ 32) h-pos,
+  )
 
   pub named-lies : (code : ℕ) (x y : ℤ) → Lies w h (named code w h x y)
   unfolding named
   named-lies code x y = go (within x w) refl (within y h) refl
     where
-      go : (s : Bool) → within x w ≡ s → (t : Bool) → within y h ≡ t → Lies w h (cond (s && t) (Tap.Pixel (mag x) (mag y)) (outside (policy code) w h x y))
+      go : (s : Bool) → within x w ≡ s → (t : Bool) → within y h ≡ t
+          → Lies w h (cond (s && t) (Tap.Pixel (mag x) (mag y)) (outside (policy code) w h x y))
       go true d true e = (within-lt x w d, within-lt y h e)
       go true d false e = outside-lies (policy code) x y
       go false d true e = outside-lies (policy code) x y

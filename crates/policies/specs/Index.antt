@@ -1,5 +1,5 @@
 -- An index along one side of a picture, of n pixels numbered from 0: where it falls by each rule of the Rust. An index
--- below 0 is `negsuc a`, which is -1 - a: a steps back from -1. Assumes nothing.
+-- below 0 is `negsuc a`, which is -1 - a: a steps back from -1. Specification 8. Assumes nothing.
 use Prim.Native.Nat.{ℕ, _+_, _-_, _*_, _/_, _%_, _^_}
 use mathlib.Core.Bool.{Bool, false, cond}
 use lib.Dec.{ltb}

@@ -1,5 +1,5 @@
--- Which pixel of the picture, or which colour, a policy names at an index: the Rust's `Sampler::at` without the samples.
--- An index inside names its own pixel under every policy. Assumes nothing.
+-- Which pixel of the picture, or which colour, a policy names at an index: the Rust's `Sampler::at` without the
+-- samples. An index inside names its own pixel under every policy. Specification 8. Assumes nothing.
 use Prim.Native.Nat.{ℕ, _+_, _/_, _%_, _^_, _≤_, _<_}
 use mathlib.Core.Bool.{cond, _&&_}
 use mathlib.Core.List.{List, [], _∷_}
@@ -22,7 +22,8 @@ pub record Sizes (width height : ℕ) : Type 0 where
 
 -- the Rust's `VirtualPixel`
 pub data Policy : Type 0 where
-  Edge Background Black White Gray Transparent Tile Mirror HorizontalTile VerticalTile HorizontalTileEdge VerticalTileEdge CheckerTile Random : Policy
+  Edge Background Black White Gray Transparent Tile Mirror HorizontalTile VerticalTile HorizontalTileEdge
+      VerticalTileEdge CheckerTile Random : Policy
 
 -- codes count from 0 in this order. No call is accepted with another code; one would count as the last.
 abbrev pub policies : List Policy
@@ -50,7 +51,8 @@ outside HorizontalTile w h x y = cond (within y h) (Tap.Pixel (tile x w) (mag y)
 outside VerticalTile w h x y = cond (within x w) (Tap.Pixel (mag x) (tile y h)) Tap.Background
 outside HorizontalTileEdge w h x y = Tap.Pixel (tile x w) (clamped y h)
 outside VerticalTileEdge w h x y = Tap.Pixel (clamped x w) (tile y h)
-outside CheckerTile w h x y = cond (eqb ((parity x w + parity y h) % 2) 0) (Tap.Pixel (tile x w) (tile y h)) Tap.Background
+outside CheckerTile w h x y =
+    cond (eqb ((parity x w + parity y h) % 2) 0) (Tap.Pixel (tile x w) (tile y h)) Tap.Background
 outside Random w h x y = picked w h (mix (twosComplement x) (twosComplement y))
 
 unfoldable pub named : ℕ → ℕ → ℕ → ℤ → ℤ → Tap

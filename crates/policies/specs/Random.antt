@@ -1,5 +1,5 @@
 -- The mix of the `Random` policy: two indexes as 64 bits each to 64 bits, modulo 2^64, before anything is reduced to a
--- picture's size. Assumes nothing.
+-- picture's size. Specification 8. Assumes nothing.
 use Prim.Native.Nat.{ℕ, _/_, _^_}
 use lib.Bits.{bitXor}
 use Rattle.number.specs.Wrapping.{wrapped}

@@ -1,4 +1,6 @@
-// The fourteen virtual pixel policies: which pixel of a picture, or which colour, each names at an index. No picture is read here.
+// The fourteen virtual pixel policies: which pixel of a picture, or which colour, each names at an index. No picture is
+// read here. Read by `picture`.
 pub mod index;
 pub mod named;
+pub mod policy;
 pub mod random;

@@ -9,6 +9,19 @@ use crate::index::clamped;
 use crate::index::mirror;
 use crate::index::parity;
 use crate::index::tile;
+use crate::policy::BACKGROUND;
+use crate::policy::BLACK;
+use crate::policy::CHECKER_TILE;
+use crate::policy::EDGE;
+use crate::policy::GRAY;
+use crate::policy::HORIZONTAL_TILE;
+use crate::policy::HORIZONTAL_TILE_EDGE;
+use crate::policy::MIRROR;
+use crate::policy::TILE;
+use crate::policy::TRANSPARENT;
+use crate::policy::VERTICAL_TILE;
+use crate::policy::VERTICAL_TILE_EDGE;
+use crate::policy::WHITE;
 use crate::random::mix;
 use endian::pattern::bits_of_i64;
 
@@ -95,25 +108,25 @@ fn random(w: u64, h: u64, x: u64, y: u64) -> Tap
     Tap::Pixel(z % w, z / 4294967296 % h)
 }
 
-// The codes count from 0 in the order of the Rust's `VirtualPixel`.
+// A code that is none of the fourteen counts as `Random`; no call is accepted with one.
 fn named_outside(policy: u64, w: u64, h: u64, x: u64, y: u64) -> Tap
     requires { ⌜ Sizes w h ⌝ }
     ensures { λ r. ⌜ r ≡ outside (Named.policy policy) w h (signed x) (signed y) ⌝ }
 {
     match policy {
-        0 => edge(w, h, x, y),
-        1 => Tap::Background,
-        2 => Tap::Black,
-        3 => Tap::White,
-        4 => Tap::Gray,
-        5 => Tap::Transparent,
-        6 => tiled(w, h, x, y),
-        7 => mirrored(w, h, x, y),
-        8 => horizontal_tile(w, h, x, y),
-        9 => vertical_tile(w, h, x, y),
-        10 => horizontal_tile_edge(w, h, x, y),
-        11 => vertical_tile_edge(w, h, x, y),
-        12 => checker_tile(w, h, x, y),
+        EDGE => edge(w, h, x, y),
+        BACKGROUND => Tap::Background,
+        BLACK => Tap::Black,
+        WHITE => Tap::White,
+        GRAY => Tap::Gray,
+        TRANSPARENT => Tap::Transparent,
+        TILE => tiled(w, h, x, y),
+        MIRROR => mirrored(w, h, x, y),
+        HORIZONTAL_TILE => horizontal_tile(w, h, x, y),
+        VERTICAL_TILE => vertical_tile(w, h, x, y),
+        HORIZONTAL_TILE_EDGE => horizontal_tile_edge(w, h, x, y),
+        VERTICAL_TILE_EDGE => vertical_tile_edge(w, h, x, y),
+        CHECKER_TILE => checker_tile(w, h, x, y),
         _ => random(w, h, x, y),
     }
 }

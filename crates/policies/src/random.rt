@@ -1,4 +1,5 @@
-// The mix of the `Random` policy, on the bits of the two indexes, before it is reduced to a picture's size. Assumes nothing.
+// The mix of the `Random` policy, on the bits of the two indexes, before it is reduced to a picture's size. Assumes
+// nothing.
 ghost use mathlib.Core.Path.{_≡_};
 ghost use Rattle.policies.specs.Random as Random;
 use number::wrapping::wrapping_mul;

@@ -1,20 +1,27 @@
-// Replays jobs with stored answers from standard input through the distort call, and prints how many answered as they should. The file's form: a
-// number is 8 bytes, the lowest first. First the length of a text and the text, then the number of jobs. A job is 18 numbers (width, height, channels,
-// method, policy, interpolation, bestfit, viewport, view width, view height, view x, view y, first row, rows, the lengths of picture, arguments and
-// band, the refusal), 16 bytes of background and 16 of matte, the picture, the arguments, and of an accepted job the answer's 48 bytes and the
-// band. Nothing is longer than 4,096 bytes. No contract can speak of a file: what compares has one, and all is safe and ends.
+// Replays jobs with stored answers from standard input through the distort call, and prints how many answered as they
+// should. The file's form: a number is 8 bytes, the lowest first. First the length of a text and the text, then the
+// number of jobs. A job is 18 numbers (width, height, channels, method, policy, interpolation, bestfit, viewport, view
+// width, view height, view x, view y, first row, rows, the lengths of picture, arguments and band, the refusal), 16
+// bytes of background and 16 of matte, the picture, the arguments, and of an accepted job the answer's 48 bytes and the
+// band. Nothing is longer than 4,096 bytes. No contract can speak of a file: what compares has one, and all is safe and
+// ends.
 ghost use mathlib.Core.Path.{_≡_};
 ghost use mathlib.Core.Bool.{_&&_};
 ghost use Prim.Native.Nat.{_≤_};
 ghost use lib.ListN.{take};
 ghost use Rattle.endian.specs.Bytes.{twosComplement};
 ghost use Rattle.replay.specs.Same as Same;
+use band::rows::Rows;
 use distort::answer::Answer;
-use distort::answer::put_answer;
+use distort::answer::store_answer;
 use distort::call::distort;
+use distort::job::Job;
+use distort::job::yes;
 use endian::bytes::u64_at;
 use libc::STDIN_FILENO;
 use libc::STDOUT_FILENO;
+use picture::shape::Shape;
+use window::view::View;
 
 // How a job ended; Broken is a file that ends too early or has another form.
 enum Outcome {
@@ -38,7 +45,8 @@ fn same(a: &[u8], b: &[u8]) -> bool
 
 fn agree(got: &[u8; 48], answer: &[u8; 48], band: &[u8], expected: &[u8]) -> bool
     ensures { λ r.
-        ⌜ r ≡ Same.same (now (got .entry)) (now (answer .entry)) && Same.same (now (band .entry)) (now (expected .entry)) ⌝ }
+        ⌜ r ≡ Same.same (now (got .entry)) (now (answer .entry))
+        && Same.same (now (band .entry)) (now (expected .entry)) ⌝ }
 {
     if !same(got, answer) {
         return false;
@@ -101,27 +109,32 @@ fn call(
     arguments: &[u8],
     band: &mut [u8],
 ) -> Answer {
-    distort(
-        picture,
-        word(head, 0),
-        word(head, 1),
-        word(head, 2),
-        word(head, 3),
-        arguments,
-        word(head, 4),
-        word(head, 5),
-        background,
-        matte,
-        word(head, 6),
-        word(head, 7),
-        word(head, 8),
-        word(head, 9),
-        signed(word(head, 10)),
-        signed(word(head, 11)),
-        word(head, 12),
-        word(head, 13),
-        band,
-    )
+    let shape = Shape {
+        width: word(head, 0),
+        height: word(head, 1),
+        channels: word(head, 2),
+    };
+    let view = View {
+        bestfit: yes(word(head, 6)),
+        given: yes(word(head, 7)),
+        width: word(head, 8),
+        height: word(head, 9),
+        x: signed(word(head, 10)),
+        y: signed(word(head, 11)),
+    };
+    let rows = Rows {
+        first: word(head, 12),
+        count: word(head, 13),
+    };
+    let job = Job {
+        shape,
+        method: word(head, 3),
+        policy: word(head, 4),
+        interpolation: word(head, 5),
+        view,
+        rows,
+    };
+    distort(picture, arguments, background, matte, job, band)
 }
 
 // Whether the call answers as stored: a refusal leaves band and answer as they were.
@@ -137,7 +150,7 @@ fn answers(
 ) -> bool {
     let mut got = [90u8; 48];
     let answered = call(head, background, matte, picture, arguments, band);
-    if put_answer(answered, &mut got) != u64_at(head, 136) {
+    if store_answer(answered, &mut got) != u64_at(head, 136) {
         return false;
     }
     agree(&got, answer, band, expected)

@@ -1,6 +1,6 @@
--- In an opaque place every colour that is named is opaque, at every index of the plane and under each of the thirteen policies: a pixel that is named lies inside, and
--- no policy but `Transparent` names the clear colour.
--- Provides: `named-solid`, `pixel-opaque`, `at-opaque`. Assumes nothing.
+-- In an opaque place every colour that is named is opaque, at every index of the plane and under each of the thirteen
+-- policies: a pixel that is named lies inside, and no policy but `Transparent` names the clear colour. Provides:
+-- `named-solid`, `pixel-opaque`, `at-opaque`. Assumes nothing.
 use mathlib.Core.Path.{_≡_, refl, sym, subst}
 use mathlib.Core.Bool.{Bool, true, false, cond, _&&_}
 use mathlib.Core.List.{List}
@@ -14,18 +14,38 @@ use lib.Signed.{mag}
 use lib.Ieee.{ofBits, fits}
 use Rattle.exact.specs.Weighted.{Unit32}
 use Rattle.endian.specs.Bytes.{sampleAt, twosComplement}
-use Rattle.pixels.specs.At.{at}
-use Rattle.pixels.specs.Colour.{zero, half, one}
+use Rattle.picture.specs.At.{at}
+use Rattle.picture.specs.Colour.{zero, half, one}
 use Rattle.policies.specs.Index.{within, tile, parity}
-use Rattle.policies.specs.Named.{Policy, Edge, Background, Black, White, Gray, Transparent, Tile, Mirror, HorizontalTile, VerticalTile, HorizontalTileEdge, VerticalTileEdge, CheckerTile, Random, policy, picked, outside, named}
+use Rattle.policies.specs.Named.{
+  Policy,
+  Edge,
+  Background,
+  Black,
+  White,
+  Gray,
+  Transparent,
+  Tile,
+  Mirror,
+  HorizontalTile,
+  VerticalTile,
+  HorizontalTileEdge,
+  VerticalTileEdge,
+  CheckerTile,
+  Random,
+  policy,
+  picked,
+  outside,
+  named,
+}
 use Rattle.sampler.specs.Opaque.{OpaquePicture, OpaquePlace}
-use Rattle.pixels.specs.Pixel.{widened, pixelAt}
-use Rattle.weighted.specs.Weighted.{Opaque}
-use Rattle.pixels.specs.declared.colour.Rgba.{Rgba}
+use Rattle.picture.specs.Pixel.{widened, pixelAt}
+use Rattle.taps.specs.Weighted.{Opaque}
+use Rattle.picture.specs.declared.colour.Rgba.{Rgba}
 use Rattle.policies.specs.declared.named.Tap.{Tap}
 use Rattle.policies.specs.declared.named.Tap.the-variants as Tap
-use Rattle.indexed.proofs.AtLaws.{Solid, at-keep}
-use Rattle.pixels.proofs.PixelCode.{number-lt}
+use Rattle.picture.proofs.AtLaws.{Solid, at-keep}
+use Rattle.picture.proofs.PixelCode.{number-lt}
 
 -- ---- what is named is not the clear colour
 either : (t : Bool) (p q : Tap) → Solid p → Solid q → Solid (cond t p q)
@@ -46,12 +66,15 @@ outside-solid HorizontalTile f w h x y = either (within y h) (Tap.Pixel (tile x 
 outside-solid VerticalTile f w h x y = either (within x w) (Tap.Pixel (mag x) (tile y h)) Tap.Background tt tt
 outside-solid HorizontalTileEdge f w h x y = tt
 outside-solid VerticalTileEdge f w h x y = tt
-outside-solid CheckerTile f w h x y = either (eqb ((parity x w + parity y h) % 2) 0) (Tap.Pixel (tile x w) (tile y h)) Tap.Background tt tt
+outside-solid CheckerTile f w h x y =
+    either (eqb ((parity x w + parity y h) % 2) 0) (Tap.Pixel (tile x w) (tile y h)) Tap.Background tt tt
 outside-solid Random f w h x y = tt
 
 pub named-solid : (code w h : ℕ) → (policy code ≡ Transparent → ⊥) → (x y : ℤ) → Solid (named code w h x y)
 unfolding named
-named-solid code w h f x y = either (within x w && within y h) (Tap.Pixel (mag x) (mag y)) (outside (policy code) w h x y) tt (outside-solid (policy code) f w h x y)
+named-solid code w h f x y =
+    either (within x w && within y h) (Tap.Pixel (mag x) (mag y)) (outside (policy code) w h x y) tt
+    (outside-solid (policy code) f w h x y)
 
 -- ---- the constants
 zero-unit : Unit32 zero
@@ -102,15 +125,21 @@ module _ (bytes : List ℕ) (w h channels : ℕ) (P : OpaquePicture bytes w h ch
   pub pixel-opaque : (x y : ℕ) → x < w → y < h → Opaque (pixelAt bytes w channels x y)
   unfolding pixelAt
   pixel-opaque x y hx hy =
-      ⊎-elim (λ (e : channels ≡ 3). along 3 e (three bytes w h (y * w + x) (number-lt w h x y hx hy))) (λ (e : channels ≡ 4). along 4 e (four bytes w h (y * w + x) (number-lt w h x y hx hy)))
+      ⊎-elim (λ (e : channels ≡ 3). along 3 e (three bytes w h (y * w + x) (number-lt w h x y hx hy)))
+      (λ (e : channels ≡ 4). along 4 e (four bytes w h (y * w + x) (number-lt w h x y hx hy)))
       (P .colours)
     where
-      along : (c : ℕ) → channels ≡ c → (OpaquePicture bytes w h c → Opaque (widened bytes c ((y * w + x) * c))) → Opaque (widened bytes channels ((y * w + x) * channels))
-      along c e f = subst (λ (n : ℕ). OpaquePicture bytes w h n → Opaque (widened bytes n ((y * w + x) * n))) (sym e) f P
+      along : (c : ℕ) → channels ≡ c → (OpaquePicture bytes w h c → Opaque (widened bytes c ((y * w + x) * c)))
+          → Opaque (widened bytes channels ((y * w + x) * channels))
+      along c e f = subst (λ (n : ℕ). OpaquePicture bytes w h n → Opaque (widened bytes n ((y * w + x) * n))) (sym e) f
+          P
 
 -- ---- the law
-pub at-opaque : (bytes : List ℕ) (w h channels code : ℕ) (background : Rgba) → OpaquePlace bytes w h channels code background → (i j : ℤ) → Opaque (at bytes w h channels code background i j)
+pub at-opaque : (bytes : List ℕ) (w h channels code : ℕ) (background : Rgba)
+    → OpaquePlace bytes w h channels code background → (i j : ℤ) → Opaque (at bytes w h channels code background i j)
 at-opaque bytes w h channels code background O i j =
-    at-keep Opaque bytes w h channels (pixel-opaque bytes w h channels (O .inside)) background (O .around) (record { red = zero-unit; green = zero-unit; blue = zero-unit; alpha = refl })
-    (record { red = one-unit; green = one-unit; blue = one-unit; alpha = refl }) (record { red = half-unit; green = half-unit; blue = half-unit; alpha = refl }) (O .inside .picture) code i j
+    at-keep Opaque bytes w h channels (pixel-opaque bytes w h channels (O .inside)) background (O .around)
+    (record { red = zero-unit; green = zero-unit; blue = zero-unit; alpha = refl })
+    (record { red = one-unit; green = one-unit; blue = one-unit; alpha = refl })
+    (record { red = half-unit; green = half-unit; blue = half-unit; alpha = refl }) (O .inside .picture) code i j
     (λ f. absurd (f (named-solid code w h (O .solid) i j)))

@@ -2,5 +2,11 @@
 pub mod AtFinite
 pub mod AtOpaque
 pub mod BilinearOpaque
+pub mod CornerLaws
+pub mod FourByFourCode
+pub mod InsideLaws
+pub mod InterpolateCode
 pub mod InterpolateFinite
+pub mod MixedLaws
 pub mod ReachLaws
+pub mod SixteenCode

@@ -7,8 +7,8 @@ use Rattle.exact.specs.Double.{_⊖_}
 use Rattle.exact.specs.Warp.{half}
 use Rattle.number.specs.Magnitude.{within}
 use Rattle.point.specs.Point.{limit, usable}
-use Rattle.cell.specs.Cell.{Reached}
-use Rattle.cell.proofs.CellFloor.{usable-reached}
+use Rattle.taps.specs.Cell.{Reached}
+use Rattle.taps.proofs.CellFloor.{usable-reached}
 
 both : (a b : Bool) → a && b ≡ true → T a × T b
 both true b h = (tt, subst⁻¹ T h tt)
@@ -16,4 +16,5 @@ both false b h = absurd (false≢true h)
 
 pub both-reached : (u v : Float) → usable u v ≡ true → Reached (u ⊖ half) × Reached (v ⊖ half)
 unfolding usable
-both-reached u v h = let p = both (within limit u) (within limit v) h in (usable-reached u (p .0), usable-reached v (p .1))
+both-reached u v h = let p = both (within limit u) (within limit v) h in
+    (usable-reached u (p .0), usable-reached v (p .1))

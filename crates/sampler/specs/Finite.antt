@@ -1,13 +1,14 @@
--- What the laws of finite colours speak of: a picture whose samples are numbers of at most 65,536 in magnitude, and colours whose components are f32 values. Assumes nothing.
+-- What the laws of finite colours speak of: a picture whose samples are numbers of at most 65,536 in magnitude, and
+-- colours whose components are f32 values. Assumes nothing.
 use Prim.Native.Nat.{ℕ, _*_, _<_}
 use mathlib.Core.List.{List}
 use lib.Dec.{T}
 use lib.Ieee.{binary32, fits}
 use Rattle.exact.specs.Fraction.{frac}
 use Rattle.endian.specs.Bytes.{sampleAt}
-use Rattle.pixels.specs.Pixel.{Picture}
-use Rattle.weighted.specs.Weighted.{Bounded, BoundedBy}
-use Rattle.pixels.specs.declared.colour.Rgba.{Rgba}
+use Rattle.picture.specs.Pixel.{Picture}
+use Rattle.taps.specs.Weighted.{Bounded, BoundedBy}
+use Rattle.picture.specs.declared.colour.Rgba.{Rgba}
 
 pub record BoundedPicture (bytes : List ℕ) (width height channels : ℕ) : Type 0 where
   pub picture : Picture bytes width height channels

@@ -1,3 +1,7 @@
--- What is said of the sampler's colours: that they are finite, and the opaque case.
+-- The definitions of an interpolation, and of the ways for speed; what is said of the sampler's colours.
+pub mod Corners
 pub mod Finite
+pub mod FourByFour
+pub mod Interpolate
 pub mod Opaque
+pub mod Sixteen

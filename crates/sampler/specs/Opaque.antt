@@ -1,5 +1,5 @@
--- What the laws of an opaque picture speak of: samples from 0 to 1, no alpha or alphas of 1, and an exact picture beside it, which names a fraction for each colour and
--- index of the plane. Assumes nothing.
+-- What the laws of an opaque picture speak of: samples from 0 to 1, no alpha or alphas of 1, and an exact picture
+-- beside it, which names a fraction for each colour and index of the plane. Assumes nothing.
 use Prim.Native.Nat.{ℕ, _+_, _*_, _<_}
 use mathlib.Core.Path.{_≡_}
 use mathlib.Core.Logic.{_⊎_}
@@ -9,12 +9,12 @@ use Rattle.exact.specs.Fraction.{Fraction, Unit01}
 use Rattle.exact.specs.Warp.{exactSample}
 use Rattle.exact.specs.Weighted.{Unit32, Sample}
 use Rattle.endian.specs.Bytes.{sampleAt}
-use Rattle.pixels.specs.Colour.{one}
+use Rattle.picture.specs.Colour.{one}
 use Rattle.policies.specs.Named.{Transparent, policy}
-use Rattle.pixels.specs.Pixel.{Picture}
+use Rattle.picture.specs.Pixel.{Picture}
 use Rattle.taps.specs.Taps.{Plane}
-use Rattle.weighted.specs.Weighted.{Opaque}
-use Rattle.pixels.specs.declared.colour.Rgba.{Rgba}
+use Rattle.taps.specs.Weighted.{Opaque}
+use Rattle.picture.specs.declared.colour.Rgba.{Rgba}
 
 -- three channels, or four with every alpha 1
 pub record OpaquePicture (bytes : List ℕ) (width height channels : ℕ) : Type 0 where

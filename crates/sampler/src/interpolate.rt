@@ -6,19 +6,27 @@ ghost use Prim.Native.Nat.{_≤_, _<_};
 ghost use Rattle.exact.specs.Double.{_⊖_};
 ghost use Rattle.exact.specs.Warp.{half};
 ghost use Rattle.point.specs.Point as Points;
-ghost use Rattle.pixels.specs.At.{at};
-ghost use Rattle.cell.specs.Cell.{Reached, cell};
-ghost use Rattle.blend.specs.Interpolate as Interpolate;
-ghost use Rattle.cell.specs.Interpolation.{interpolation};
-ghost use Rattle.pixels.specs.Pixel.{Picture};
+ghost use Rattle.picture.specs.At.{at};
+ghost use Rattle.taps.specs.Cell.{Reached, cell};
+ghost use Rattle.sampler.specs.Interpolate as Interpolate;
+ghost use Rattle.taps.specs.Interpolation.{interpolation};
+ghost use Rattle.picture.specs.Pixel.{Picture};
 use crate::apart::apart;
-use bilinear::bilinear::bilinear;
-use blend::square::several;
-use cell::cell::first;
-use indexed::at::at;
-use pixels::colour::Rgba;
+use crate::fast_bilinear::bilinear;
+use crate::fast_sixteen::cubic;
+use crate::several::several;
+use picture::at::at;
+use picture::colour::Rgba;
 use point::point::Point;
-use sixteen::sixteen::cubic;
+use taps::cell::first;
+use taps::interpolation::AVERAGE;
+use taps::interpolation::AVERAGE9;
+use taps::interpolation::AVERAGE16;
+use taps::interpolation::BILINEAR;
+use taps::interpolation::CATROM;
+use taps::interpolation::INTEGER;
+use taps::interpolation::NEAREST;
+use taps::interpolation::SPLINE;
 
 // One tap alone.
 fn single(
@@ -35,7 +43,8 @@ fn single(
     requires { ⌜ Picture (now picture) width height channels ⌝ }
     requires { ⌜ Reached x × Reached y ⌝ }
     ensures { λ r.
-        ⌜ r ≡ Interpolate.single (at (now (picture .entry)) width height channels policy background) (cell (interpolation code) x y) ⌝ }
+        ⌜ r ≡ Interpolate.single (at (now (picture .entry)) width height channels policy background)
+        (cell (interpolation code) x y) ⌝ }
 {
     at(
         picture,
@@ -63,10 +72,11 @@ pub fn interpolate_at(
 ) -> Rgba
     requires { ⌜ Picture (now picture) width height channels ⌝ }
     requires { ⌜ Reached x × Reached y ⌝ }
-    ensures { λ r. ⌜ r ≡ Interpolate.interpolate (now (picture .entry)) width height channels policy code background x y ⌝ }
+    ensures { λ r. ⌜ r ≡ Interpolate.interpolate (now (picture .entry)) width height channels policy code background x
+        y ⌝ }
 {
     match code {
-        0 | 1 => single(
+        INTEGER | NEAREST => single(
             picture,
             width,
             height,
@@ -77,7 +87,7 @@ pub fn interpolate_at(
             x,
             y,
         ),
-        6 | 7 => apart(cubic(
+        CATROM | SPLINE => apart(cubic(
             picture,
             width,
             height,
@@ -88,7 +98,7 @@ pub fn interpolate_at(
             x,
             y,
         )),
-        2 | 3 | 4 => apart(several(
+        AVERAGE | AVERAGE9 | AVERAGE16 => apart(several(
             picture,
             width,
             height,
@@ -99,7 +109,7 @@ pub fn interpolate_at(
             x,
             y,
         )),
-        5 => apart(bilinear(picture, width, height, channels, policy, background, x, y)),
+        BILINEAR => apart(bilinear(picture, width, height, channels, policy, background, x, y)),
         _ => background,
     }
 }

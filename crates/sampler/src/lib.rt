@@ -1,3 +1,10 @@
-// The sampler: from a source point to a colour, by the nine interpolations over the pixels at indexes.
+// From a source point to a colour: the nine interpolations' definition (specs/Interpolate), the plain way over any
+// square of taps (`several`), and the ways for speed alone, for taps that lie inside (`fast_corners`, `fast_bilinear`,
+// `fast_four_by_four`, `fast_sixteen`). Read by `band`, `fast_colours` and `fast_cubic`.
 mod apart;
+pub mod fast_bilinear;
+pub mod fast_corners;
+pub mod fast_four_by_four;
+pub mod fast_sixteen;
 pub mod interpolate;
+pub mod several;

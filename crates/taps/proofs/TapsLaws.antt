@@ -1,6 +1,7 @@
--- A list of sixteen has its function's value at each number below sixteen, so the sums over the list are those over the square of taps, row by row.
--- Provides: `sixteen-at`, `tap-at`; `square-small`, `side-small`, `number-small`; of the sums: `started`, `grown` (one tap more), `row-done`,
--- `none-lined`, `lined-next` (one row more), `finished`; `four-corners`, `inside-corners` (four taps by name). Assumes nothing.
+-- A list of sixteen has its function's value at each number below sixteen, so the sums over the list are those over the
+-- square of taps, row by row. Provides: `sixteen-at`, `tap-at`; `square-small`, `side-small`, `number-small`; of the
+-- sums: `started`, `grown` (one tap more), `row-done`, `none-lined`, `lined-next` (one row more), `finished`;
+-- `four-corners`, `inside-corners` (four taps by name). Assumes nothing.
 use mathlib.Core.Path.{_≡_, refl, sym, ap, _∙_}
 use mathlib.Core.List.{List, [], _∷_}
 use Prim.Native.Nat.{ℕ, zero, suc, _+_, _*_, _≤_, _<_, zero-le}
@@ -13,18 +14,29 @@ use lib.IntN.{pos, _+ℤ_}
 use lib.Ieee.{Float, nan}
 use Rattle.exact.specs.Loop.{upTo}
 use Rattle.exact.proofs.Loop.{upTo-none, upTo-next, upTo-join}
-use Rattle.pixels.specs.At.{at}
-use Rattle.cell.specs.Cell.{Cell}
-use Rattle.pixels.specs.Colour.{grey}
-use Rattle.cell.specs.Interpolation.{Interpolation, Integer, Nearest, Average, Average9, Average16, Bilinear, Catrom, Spline, Background}
-use Rattle.pixels.specs.Pixel.{pixelAt}
+use Rattle.picture.specs.At.{at}
+use Rattle.taps.specs.Cell.{Cell}
+use Rattle.picture.specs.Colour.{grey}
+use Rattle.taps.specs.Interpolation.{
+  Interpolation,
+  Integer,
+  Nearest,
+  Average,
+  Average9,
+  Average16,
+  Bilinear,
+  Catrom,
+  Spline,
+  Background,
+}
+use Rattle.picture.specs.Pixel.{pixelAt}
 use Rattle.taps.specs.Taps.{Plane, side, sixteen, tap, taps}
-use Rattle.weighted.specs.Weighted.{nothing, added, mean, tapAt, weightAt, summed, lined, weighted}
+use Rattle.taps.specs.Weighted.{nothing, added, mean, tapAt, weightAt, summed, lined, weighted}
 use Rattle.taps.specs.Weights.{corners, weights}
-use Rattle.pixels.specs.declared.colour.Rgba.{Rgba}
-use Rattle.weighted.specs.declared.weighted.Sums.{Sums}
-use Rattle.indexed.proofs.AtLaws.{at-inside}
-use Rattle.weighted.proofs.WeightedOpaque.{summed-four}
+use Rattle.picture.specs.declared.colour.Rgba.{Rgba}
+use Rattle.taps.specs.declared.weighted.Sums.{Sums}
+use Rattle.picture.proofs.AtLaws.{at-inside}
+use Rattle.taps.proofs.WeightedOpaque.{summed-four}
 
 pub sixteen-at : {A : Type 0} (f : ℕ → A) (d : A) (k : ℕ) → k < 16 → getD (sixteen f) k d ≡ f k
 sixteen-at f d zero h = refl
@@ -43,7 +55,8 @@ sixteen-at f d (suc (suc (suc (suc (suc (suc (suc (suc (suc (suc (suc (suc zero)
 sixteen-at f d (suc (suc (suc (suc (suc (suc (suc (suc (suc (suc (suc (suc (suc zero))))))))))))) h = refl
 sixteen-at f d (suc (suc (suc (suc (suc (suc (suc (suc (suc (suc (suc (suc (suc (suc zero)))))))))))))) h = refl
 sixteen-at f d (suc (suc (suc (suc (suc (suc (suc (suc (suc (suc (suc (suc (suc (suc (suc zero))))))))))))))) h = refl
-sixteen-at f d (suc (suc (suc (suc (suc (suc (suc (suc (suc (suc (suc (suc (suc (suc (suc (suc k)))))))))))))))) h = absurd (omega arith)
+sixteen-at f d (suc (suc (suc (suc (suc (suc (suc (suc (suc (suc (suc (suc (suc (suc (suc (suc k)))))))))))))))) h =
+    absurd (omega arith)
 
 pub square-small : (n : ℕ) → n ≤ 4 → n * n ≤ 16
 square-small n h = mul-le-mul h h
@@ -66,16 +79,20 @@ module _ (plane : Plane) (c : Cell) (n : ℕ) (w : List Float) where
   started j start = upTo-none step (j * n) start ∙ ap (λ (k : ℕ). upTo step (j * n) k start) (sym (add-zero (j * n)))
 
   -- with the tap numbered i in row j
-  pub grown : (j i : ℕ) (start : Sums) (p : Rgba) (s r : Sums) → j < n → i < n → n ≤ 4 → p ≡ plane (c .column +ℤ pos i) (c .row +ℤ pos j) → s ≡ upTo step (j * n) (j * n + i) start
+  pub grown : (j i : ℕ) (start : Sums) (p : Rgba) (s r : Sums) → j < n → i < n → n ≤ 4
+      → p ≡ plane (c .column +ℤ pos i) (c .row +ℤ pos j) → s ≡ upTo step (j * n) (j * n + i) start
       → r ≡ added p (weightAt w (j * n + i)) s → r ≡ upTo step (j * n) (j * n + (i + 1)) start
   grown j i start p s r hj hi h e inv g =
       g
-      ∙ ap (λ (q : Rgba). added q (weightAt w (j * n + i)) s) (e ∙ sym (tap-at plane c n (j * n + i) (number-small n j i hj hi h) ∙ (λ t. plane (c .column +ℤ pos (digits-mod j hi t)) (c .row +ℤ pos (digits-div j hi t)))))
+      ∙ ap (λ (q : Rgba). added q (weightAt w (j * n + i)) s) (e
+      ∙ sym (tap-at plane c n (j * n + i) (number-small n j i hj hi h)
+      ∙ (λ t. plane (c .column +ℤ pos (digits-mod j hi t)) (c .row +ℤ pos (digits-div j hi t)))))
       ∙ upTo-next step (j * n) start (j * n + i) (le-add-right (j * n) i) inv
       ∙ ap (λ (k : ℕ). upTo step (j * n) k start) (add-assoc (j * n) i 1)
 
   -- after its last
-  pub row-done : (j i : ℕ) (start s : Sums) → i ≤ n → n ≤ i → s ≡ upTo step (j * n) (j * n + i) start → s ≡ lined (taps plane c n) w n j start
+  pub row-done : (j i : ℕ) (start s : Sums) → i ≤ n → n ≤ i → s ≡ upTo step (j * n) (j * n + i) start
+      → s ≡ lined (taps plane c n) w n j start
   row-done j i start s a b inv = inv ∙ ap (λ (k : ℕ). upTo step (j * n) (j * n + k) start) (le-antisymm a b)
 
   -- before the first row
@@ -83,7 +100,8 @@ module _ (plane : Plane) (c : Cell) (n : ℕ) (w : List Float) where
   none-lined = upTo-none step 0 nothing ∙ ap (λ (k : ℕ). summed (taps plane c n) w k) (sym (zero-mul n))
 
   -- with a whole row
-  pub lined-next : (j : ℕ) (s r : Sums) → s ≡ summed (taps plane c n) w (j * n) → r ≡ lined (taps plane c n) w n j s → r ≡ summed (taps plane c n) w ((j + 1) * n)
+  pub lined-next : (j : ℕ) (s r : Sums) → s ≡ summed (taps plane c n) w (j * n) → r ≡ lined (taps plane c n) w n j s
+      → r ≡ summed (taps plane c n) w ((j + 1) * n)
   lined-next j s r inv g =
       g
       ∙ ap (λ (z : Sums). upTo step (j * n) (j * n + n) z) inv
@@ -94,34 +112,44 @@ module _ (plane : Plane) (c : Cell) (n : ℕ) (w : List Float) where
       another j = omega arith
 
   -- and after the last row
-  pub finished : (j : ℕ) (s : Sums) (r : Rgba) → j ≤ n → n ≤ j → s ≡ summed (taps plane c n) w (j * n) → r ≡ mean s → r ≡ weighted (taps plane c n) w (n * n)
+  pub finished : (j : ℕ) (s : Sums) (r : Rgba) → j ≤ n → n ≤ j → s ≡ summed (taps plane c n) w (j * n) → r ≡ mean s
+      → r ≡ weighted (taps plane c n) w (n * n)
   unfolding weighted
   finished j s r a b inv g = g ∙ ap mean (inv ∙ ap (λ (i : ℕ). summed (taps plane c n) w (i * n)) (le-antisymm a b))
 
 -- ---- two by two: the list's four taps, in order
 pub four-corners : (plane : Plane) (c : Cell) (tx ty : Float)
-    → weighted (tap plane c 2 0 ∷ tap plane c 2 1 ∷ tap plane c 2 2 ∷ tap plane c 2 3 ∷ []) (corners tx ty) 4 ≡ weighted (taps plane c 2) (weights Bilinear tx ty) 4
+    → weighted (tap plane c 2 0 ∷ tap plane c 2 1 ∷ tap plane c 2 2 ∷ tap plane c 2 3 ∷ []) (corners tx ty) 4 ≡
+    weighted (taps plane c 2) (weights Bilinear tx ty) 4
 unfolding weighted taps
 four-corners plane c tx ty =
-    ap mean (summed-four (tap plane c 2 0 ∷ tap plane c 2 1 ∷ tap plane c 2 2 ∷ tap plane c 2 3 ∷ []) (corners tx ty) ∙ sym (summed-four (taps plane c 2) (weights Bilinear tx ty)))
+    ap mean (summed-four (tap plane c 2 0 ∷ tap plane c 2 1 ∷ tap plane c 2 2 ∷ tap plane c 2 3 ∷ []) (corners tx ty)
+    ∙ sym (summed-four (taps plane c 2) (weights Bilinear tx ty)))
 
 -- inside, they are the picture's own pixels
-module _ (bytes : List ℕ) (w h channels policy : ℕ) (background : Rgba) (x y : ℕ) (hx : x + 1 < w) (hy : y + 1 < h) where
-  here : (a n : ℕ) → a + 1 < n → a + 0 < n
-  here a n h = omega arith
+module _ (bytes : List ℕ) (w h channels policy : ℕ) (background : Rgba) (x y : ℕ) (hx : x + 1 < w) (hy : y + 1 < h)
+  where
+    here : (a n : ℕ) → a + 1 < n → a + 0 < n
+    here a n h = omega arith
 
-  own : (i j : ℕ) → x + i < w → y + j < h → at bytes w h channels policy background (pos x +ℤ pos i) (pos y +ℤ pos j) ≡ pixelAt bytes w channels (x + i) (y + j)
-  own i j p q = at-inside bytes w h channels policy background (x + i) (y + j) p q
+    own : (i j : ℕ) → x + i < w → y + j < h
+        → at bytes w h channels policy background (pos x +ℤ pos i) (pos y +ℤ pos j) ≡ pixelAt bytes w channels (x + i)
+        (y + j)
+    own i j p q = at-inside bytes w h channels policy background (x + i) (y + j) p q
 
-  pub inside-corners : (tx ty : Float)
-      → weighted (pixelAt bytes w channels x y ∷ pixelAt bytes w channels (x + 1) y ∷ pixelAt bytes w channels x (y + 1) ∷ pixelAt bytes w channels (x + 1) (y + 1) ∷ []) (corners tx ty) 4
-      ≡ weighted (taps (at bytes w h channels policy background) (record { column = pos x; row = pos y }) 2) (weights Bilinear tx ty) 4
-  inside-corners tx ty =
-      let P : ℕ → ℕ → Rgba = pixelAt bytes w channels in
-      let zero-x : x + 0 ≡ x = add-zero x in
-      let zero-y : y + 0 ≡ y = add-zero y in
-      sym (λ i. weighted ((own 0 0 (here x w hx) (here y h hy) ∙ λ j. P (zero-x j) (zero-y j)) i ∷ (own 1 0 hx (here y h hy) ∙ λ j. P (x + 1) (zero-y j)) i ∷ (own 0 1 (here x w hx) hy ∙ λ j. P (zero-x j) (y + 1)) i ∷ own 1 1 hx hy i ∷ []) (corners tx ty) 4)
-      ∙ four-corners (at bytes w h channels policy background) (record { column = pos x; row = pos y }) tx ty
+    pub inside-corners : (tx ty : Float)
+        → weighted (pixelAt bytes w channels x y ∷ pixelAt bytes w channels (x + 1) y
+        ∷ pixelAt bytes w channels x (y + 1) ∷ pixelAt bytes w channels (x + 1) (y + 1) ∷ []) (corners tx ty) 4
+        ≡ weighted (taps (at bytes w h channels policy background) (record { column = pos x; row = pos y }) 2)
+        (weights Bilinear tx ty) 4
+    inside-corners tx ty =
+        let P : ℕ → ℕ → Rgba = pixelAt bytes w channels in
+        let zero-x : x + 0 ≡ x = add-zero x in
+        let zero-y : y + 0 ≡ y = add-zero y in
+        sym (λ i. weighted ((own 0 0 (here x w hx) (here y h hy) ∙ λ j. P (zero-x j) (zero-y j)) i
+        ∷ (own 1 0 hx (here y h hy) ∙ λ j. P (x + 1) (zero-y j)) i
+        ∷ (own 0 1 (here x w hx) hy ∙ λ j. P (zero-x j) (y + 1)) i ∷ own 1 1 hx hy i ∷ []) (corners tx ty) 4)
+        ∙ four-corners (at bytes w h channels policy background) (record { column = pos x; row = pos y }) tx ty
 
 pub side-small : (i : Interpolation) → side i ≤ 4
 side-small Integer = lit≤ tt

@@ -2,14 +2,16 @@
 use mathlib.Core.Path.{_≡_, refl}
 use Prim.Native.Nat.{ℕ}
 use lib.Ieee.{Float}
-use Rattle.cell.specs.Interpolation.{interpolation}
+use Rattle.taps.specs.Interpolation.{interpolation}
 use Rattle.taps.specs.Weights.{alike, weights}
-use Rattle.cell.proofs.InterpolationCode.{each-code}
+use Rattle.taps.proofs.InterpolationCode.{each-code}
 
 -- one whose taps all weigh the same
-pub weights-alike : (tx ty : Float) (code : ℕ) → (((Unit {0} × (code ≡ 5 → ⊥)) × (code ≡ 6 → ⊥)) × (code ≡ 7 → ⊥)) → weights (interpolation code) tx ty ≡ alike
+pub weights-alike : (tx ty : Float) (code : ℕ) → (((Unit {0} × (code ≡ 5 → ⊥)) × (code ≡ 6 → ⊥)) × (code ≡ 7 → ⊥))
+    → weights (interpolation code) tx ty ≡ alike
 unfolding interpolation
 weights-alike tx ty =
     each-code
     (λ n. (((Unit {0} × (n ≡ 5 → ⊥)) × (n ≡ 6 → ⊥)) × (n ≡ 7 → ⊥)) → weights (interpolation n) tx ty ≡ alike)
-    (λ h. refl) (λ h. refl) (λ h. refl) (λ h. refl) (λ h. refl) (λ h. absurd (h .0 .0 .1 refl)) (λ h. absurd (h .0 .1 refl)) (λ h. absurd (h .1 refl)) (λ h. refl) (λ n h. refl)
+    (λ h. refl) (λ h. refl) (λ h. refl) (λ h. refl) (λ h. refl) (λ h. absurd (h .0 .0 .1 refl))
+    (λ h. absurd (h .0 .1 refl)) (λ h. absurd (h .1 refl)) (λ h. refl) (λ n h. refl)

@@ -1,11 +1,22 @@
--- The taps of an interpolation: a square of indexes from its cell on, row by row, sixteen at most. A plane names a colour for each
--- index for good, as a picture does under its policy. Assumes nothing.
+-- The taps of an interpolation: a square of indexes from its cell on, row by row, sixteen at most. A plane names a
+-- colour for each index for good, as a picture does under its policy. Specification 9. Assumes nothing.
 use Prim.Native.Nat.{ℕ, _*_, _/_, _%_}
 use mathlib.Core.List.{List, [], _∷_}
 use lib.IntN.{ℤ, pos, _+ℤ_}
-use Rattle.cell.specs.Cell.{Cell}
-use Rattle.cell.specs.Interpolation.{Interpolation, Integer, Nearest, Average, Average9, Average16, Bilinear, Catrom, Spline, Background}
-use Rattle.pixels.specs.declared.colour.Rgba.{Rgba}
+use Rattle.taps.specs.Cell.{Cell}
+use Rattle.taps.specs.Interpolation.{
+  Interpolation,
+  Integer,
+  Nearest,
+  Average,
+  Average9,
+  Average16,
+  Bilinear,
+  Catrom,
+  Spline,
+  Background,
+}
+use Rattle.picture.specs.declared.colour.Rgba.{Rgba}
 
 abbrev pub Plane : Type 0
 Plane = ℤ → ℤ → Rgba

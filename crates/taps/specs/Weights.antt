@@ -1,19 +1,35 @@
--- The weights of an interpolation's taps at the fractions tx and ty, in the taps' order; those past its count are not used. Assumes nothing.
+-- The weights of an interpolation's taps at the fractions tx and ty, in the taps' order; those past its count are not
+-- used. Specification 9. Assumes nothing.
 use Prim.Native.Nat.{ℕ, _/_, _%_}
 use mathlib.Core.List.{List, [], _∷_}
 use lib.ListN.{getD}
 use lib.Ieee.{Float}
 use Rattle.exact.specs.Single.{_⊗_}
 use Rattle.exact.specs.Weighted.{w00, w10, w01, w11}
-use Rattle.pixels.specs.Colour.{zero, one}
+use Rattle.picture.specs.Colour.{zero, one}
 use Rattle.cubic.specs.Cubic.{catrom, spline}
-use Rattle.cell.specs.Interpolation.{Interpolation, Integer, Nearest, Average, Average9, Average16, Bilinear, Catrom, Spline, Background}
+use Rattle.taps.specs.Interpolation.{
+  Interpolation,
+  Integer,
+  Nearest,
+  Average,
+  Average9,
+  Average16,
+  Bilinear,
+  Catrom,
+  Spline,
+  Background,
+}
+use Rattle.taps.specs.declared.weights.Corners.{Corners}
 use Rattle.taps.specs.Taps.{sixteen}
-use Rattle.weighted.specs.Weighted.{weightAt}
+use Rattle.taps.specs.Weighted.{weightAt}
 
 -- of the four taps of `Bilinear`
 abbrev pub corners : Float → Float → List Float
 corners tx ty = w00 tx ty ∷ w10 tx ty ∷ w01 tx ty ∷ w11 tx ty ∷ []
+
+abbrev pub atCorners : Float → Float → Corners
+atCorners tx ty = record { w00 = w00 tx ty; w10 = w10 tx ty; w01 = w01 tx ty; w11 = w11 tx ty }
 
 -- wx[n] * wy[m], rows outer
 abbrev pub products : List Float → List Float → List Float

@@ -1,3 +1,7 @@
-// The taps of an interpolation from a point's cell, and their weights.
+// The three steps of an interpolation: the cell of a point with its fractions, the taps around it, and their weighted
+// mean, colours weighted by alpha. Read by `sampler` and `fast_cells`.
+pub mod cell;
+pub mod interpolation;
 pub mod taps;
+pub mod weighted;
 pub mod weights;

@@ -1,17 +1,25 @@
-// The taps of an interpolation: a square of indexes from its cell on, numbered row by row. Assumes that the bytes are a picture's,
-// and the cell that of a point whose coordinates are small.
+// The taps of an interpolation: a square of indexes from its cell on, numbered row by row. Assumes that the bytes are a
+// picture's, and the cell that of a point whose coordinates are small.
 ghost use mathlib.Core.Path.{_≡_};
 ghost use Prim.Native.Nat.{_≤_};
 ghost use lib.IntN.{pos, _+ℤ_};
 ghost use lib.Signed.{mag};
-ghost use Rattle.pixels.specs.At.{at};
-ghost use Rattle.cell.specs.Interpolation.{interpolation};
-ghost use Rattle.pixels.specs.Pixel.{Picture};
+ghost use Rattle.picture.specs.At.{at};
+ghost use Rattle.taps.specs.Interpolation.{interpolation};
+ghost use Rattle.picture.specs.Pixel.{Picture};
 ghost use Rattle.taps.specs.Taps.{side};
+use crate::interpolation::AVERAGE;
+use crate::interpolation::AVERAGE9;
+use crate::interpolation::AVERAGE16;
+use crate::interpolation::BILINEAR;
+use crate::interpolation::CATROM;
+use crate::interpolation::INTEGER;
+use crate::interpolation::NEAREST;
+use crate::interpolation::SPLINE;
 use endian::pattern::bits_of_i64;
-use indexed::at::samples;
-use pixels::colour::Rgba;
-use pixels::pixel::pixel;
+use picture::at::tap_samples;
+use picture::colour::Rgba;
+use picture::pixel::pixel_at;
 use policies::named::named;
 
 // How many taps stand side by side.
@@ -19,14 +27,14 @@ pub fn side(code: u64) -> usize
     ensures { λ r. ⌜ r ≡ side (interpolation code) ⌝ }
 {
     match code {
-        0 => 1,
-        1 => 1,
-        2 => 2,
-        3 => 3,
-        4 => 4,
-        5 => 2,
-        6 => 4,
-        7 => 4,
+        INTEGER => 1,
+        NEAREST => 1,
+        AVERAGE => 2,
+        AVERAGE9 => 3,
+        AVERAGE16 => 4,
+        BILINEAR => 2,
+        CATROM => 4,
+        SPLINE => 4,
         _ => 0,
     }
 }
@@ -39,7 +47,8 @@ pub fn moved(v: i64, k: usize) -> i64
     v + k as i64
 }
 
-// The tap i columns and j rows from the cell. It is `at` written out, so that the compiler keeps a tap's components in registers.
+// The tap i columns and j rows from the cell. It is `at` written out, so that the compiler keeps a tap's components in
+// registers.
 pub fn tap(
     picture: &[u8],
     width: u64,
@@ -55,9 +64,10 @@ pub fn tap(
     requires { ⌜ Picture (now picture) width height channels ⌝ }
     requires { ⌜ (mag column ≤ 2147483649) × (mag row ≤ 2147483649) ⌝ }
     requires { ⌜ (i ≤ 4) × (j ≤ 4) ⌝ }
-    ensures { λ r. ⌜ r ≡ at (now (picture .entry)) width height channels policy background (column +ℤ pos i) (row +ℤ pos j) ⌝ }
+    ensures { λ r. ⌜ r ≡ at (now (picture .entry)) width height channels policy background (column +ℤ pos i)
+        (row +ℤ pos j) ⌝ }
 {
-    samples(
+    tap_samples(
         picture,
         width,
         channels,
@@ -82,16 +92,17 @@ pub fn nearby(
     requires { ⌜ Picture (now picture) width height channels ⌝ }
     requires { ⌜ (mag column ≤ 2147483649) × (mag row ≤ 2147483649) ⌝ }
     requires { ⌜ (i ≤ 4) × (j ≤ 4) ⌝ }
-    ensures { λ r. ⌜ r ≡ at (now (picture .entry)) width height channels policy background (column +ℤ pos i) (row +ℤ pos j) ⌝ }
+    ensures { λ r. ⌜ r ≡ at (now (picture .entry)) width height channels policy background (column +ℤ pos i)
+        (row +ℤ pos j) ⌝ }
 {
     let x = moved(column, i);
     let y = moved(row, j);
     let p = bits_of_i64(x);
     let q = bits_of_i64(y);
     if p < width && q < height {
-        return pixel(picture, width, channels, p, q);
+        return pixel_at(picture, width, channels, p, q);
     }
-    samples(
+    tap_samples(
         picture,
         width,
         channels,

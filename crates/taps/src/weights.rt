@@ -1,7 +1,10 @@
 // The weights of an interpolation's taps, in the taps' order. Assumes nothing.
 ghost use mathlib.Core.Path.{_≡_};
-ghost use Rattle.cell.specs.Interpolation.{Bilinear, interpolation};
-ghost use Rattle.taps.specs.Weights.{products, weights};
+ghost use Rattle.taps.specs.Interpolation.{Bilinear, interpolation};
+ghost use Rattle.taps.specs.Weights.{atCorners, products, weights};
+use crate::interpolation::BILINEAR;
+use crate::interpolation::CATROM;
+use crate::interpolation::SPLINE;
 use cubic::cubic::catrom;
 use cubic::cubic::spline;
 
@@ -37,14 +40,36 @@ fn products(wx: [f32; 4], wy: [f32; 4]) -> [f32; 16]
     ]
 }
 
+// The weights of the four taps of `Bilinear`: the cell's own pixel, the next, and both in the row after.
+pub struct Corners {
+    pub w00: f32,
+    pub w10: f32,
+    pub w01: f32,
+    pub w11: f32,
+}
+
+pub fn bilinear_weights(tx: f32, ty: f32) -> Corners
+    ensures { λ r. ⌜ r ≡ atCorners tx ty ⌝ }
+{
+    let sx = 1.0 - tx;
+    let sy = 1.0 - ty;
+    Corners {
+        w00: sx * sy,
+        w10: tx * sy,
+        w01: sx * ty,
+        w11: tx * ty,
+    }
+}
+
 fn bilinear(tx: f32, ty: f32) -> [f32; 16]
     ensures { λ r. ⌜ r ≡ weights Bilinear tx ty ⌝ }
 {
+    let w = bilinear_weights(tx, ty);
     [
-        (1.0 - tx) * (1.0 - ty),
-        tx * (1.0 - ty),
-        (1.0 - tx) * ty,
-        tx * ty,
+        w.w00,
+        w.w10,
+        w.w01,
+        w.w11,
         0.0,
         0.0,
         0.0,
@@ -64,9 +89,9 @@ pub fn weights(code: u64, tx: f32, ty: f32) -> [f32; 16]
     ensures { λ r. ⌜ r ≡ weights (interpolation code) tx ty ⌝ }
 {
     match code {
-        5 => bilinear(tx, ty),
-        6 => products(catrom(tx), catrom(ty)),
-        7 => products(spline(tx), spline(ty)),
+        BILINEAR => bilinear(tx, ty),
+        CATROM => products(catrom(tx), catrom(ty)),
+        SPLINE => products(spline(tx), spline(ty)),
         _ => [1.0; 16],
     }
 }

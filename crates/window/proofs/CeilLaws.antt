@@ -34,7 +34,8 @@ natAbs-neg (negsuc n) = refl
 
 pub ceil-size : (x : Float) → T (inDomain x) → natAbs (ceilℤ x) ≤ 2147483648
 ceil-size x d =
-    subst (λ (n : ℕ). n ≤ 2147483648) (sym (natAbs-neg (floorℤ (neg x))) ∙ ap natAbs (ceil-floor x)) (floor-size (neg x) (subst T (sym (domain-neg x)) d))
+    subst (λ (n : ℕ). n ≤ 2147483648) (sym (natAbs-neg (floorℤ (neg x))) ∙ ap natAbs (ceil-floor x))
+    (floor-size (neg x) (subst T (sym (domain-neg x)) d))
 
 mag-le : (z : ℤ) → mag z ≤ natAbs z
 mag-le (pos n) = le-refl n

@@ -1,5 +1,5 @@
--- A difference of integers, taken apart once, by signs: it is at most 0 where the test says so, and else a count within bounds. Assumes
--- nothing.
+-- A difference of integers, taken apart once, by signs: it is at most 0 where the test says so, and else a count within
+-- bounds. Assumes nothing.
 use mathlib.Core.Path.{_≡_, refl, sym, ap, _∙_, subst}
 use mathlib.Core.Logic.{_⊎_, inl, inr}
 use Prim.Native.Nat.{ℕ, zero, suc, _+_, _-_, _≤_}
@@ -10,7 +10,7 @@ use lib.IntN.{ℤ, pos, negsuc, natAbs, subℕ, _-ℤ_}
 use lib.Signed.{leZ}
 use lib.Dec.{leb, leb·suc-suc}
 use Rattle.number.proofs.FloorNear.{sub-split}
-use Rattle.window.specs.Span.{atLeastOne}
+use Rattle.window.specs.Extent.{atLeastOne}
 
 -- what is not negative of z
 abbrev pub plus : ℤ → ℕ
@@ -44,7 +44,8 @@ module _ (a k p n : ℕ) (most : a ≤ p + n) (least : p ≤ a - k + n) where
   diff-nat : Diff (leb a k) (subℕ a k) p n
   diff-nat = elim (sub-split a k) [
     | inl (zero, e, i) ↦ inl (le-leb a k (omega arith), ap atLeastOne i ∙ one-zero)
-    | inl (suc j, e, i) ↦ inr (lt-leb a k (omega arith), record { d = j; is = i; most = omega arith; least = omega arith })
+    | inl (suc j, e, i) ↦ inr
+        (lt-leb a k (omega arith), record { d = j; is = i; most = omega arith; least = omega arith })
     | inr (j, e, i) ↦ inl (le-leb a k (omega arith), ap atLeastOne i ∙ one-negative j)
   ]
 
@@ -59,18 +60,25 @@ zero-less a = elim (sub-split 0 (suc a)) [
 
 pub diff : (y z : ℤ) → Diff (leZ y z) (y -ℤ z) (plus y) (natAbs z)
 diff (pos zero) (pos zero) = inl (refl, one-zero)
-diff (pos (suc a)) (pos zero) = inr (lt-leb (suc a) 0 (omega arith), record { d = a; is = ap pos (more a); most = omega arith; least = omega arith })
+diff (pos (suc a)) (pos zero) =
+    inr (
+      lt-leb (suc a) 0 (omega arith),
+      record { d = a; is = ap pos (more a); most = omega arith; least = omega arith },
+    )
   where
     more : (a : ℕ) → suc a + 0 ≡ suc a
     more a = omega arith
 diff (pos a) (pos (suc b)) = diff-nat a (suc b) a (suc b) (omega arith) (omega arith)
-diff (pos a) (negsuc b) = inr (refl, record { d = a + b; is = ap pos (more a b); most = omega arith; least = omega arith })
+diff (pos a) (negsuc b) =
+    inr (refl, record { d = a + b; is = ap pos (more a b); most = omega arith; least = omega arith })
   where
     more : (a b : ℕ) → a + suc b ≡ suc (a + b)
     more a b = omega arith
 diff (negsuc a) (pos zero) = inl (refl, zero-less a)
 diff (negsuc a) (pos (suc b)) = inl (refl, one-negative (suc (a + b)))
-diff (negsuc a) (negsuc b) = subst (λ (t : Bool). Diff t (subℕ (suc b) (suc a)) 0 (suc b)) (leb·suc-suc b a) (diff-nat (suc b) (suc a) 0 (suc b) (omega arith) (omega arith))
+diff (negsuc a) (negsuc b) =
+    subst (λ (t : Bool). Diff t (subℕ (suc b) (suc a)) 0 (suc b)) (leb·suc-suc b a)
+    (diff-nat (suc b) (suc a) 0 (suc b) (omega arith) (omega arith))
 
 -- the two ways apart
 pub diff-low : (y z : ℤ) → leZ y z ≡ true → atLeastOne (y -ℤ z) ≡ 1

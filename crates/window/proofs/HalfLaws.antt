@@ -1,5 +1,5 @@
--- Half a pixel takes no f64 number to an infinity: |x ± 1/2| is at most the largest number plus 1/2, whose rounded sum is a number, and a
--- rounding of less is one too. Assumes nothing.
+-- Half a pixel takes no f64 number to an infinity: |x ± 1/2| is at most the largest number plus 1/2, whose rounded sum
+-- is a number, and a rounding of less is one too. Assumes nothing.
 use mathlib.Core.Path.{_≡_, refl, sym, subst}
 use Prim.Native.Nat.{ℕ, _+_, _*_, _<_}
 use native.Mathlib.Nat.{le-refl}
@@ -7,7 +7,30 @@ use native.Mathlib.Omega.{arith}
 use mathlib.Core.Bool.{Bool, true, false}
 use lib.IntN.{ℤ, negsuc}
 use lib.Dec.{T, le→leb, lit≤}
-use lib.Ieee.{Float, nan, inf, fin, binary64, up, down, le, add, sub, sum, round, units, odd, size, span, climb, neg, fits, ofBits, ofFields, toBits}
+use lib.Ieee.{
+  Float,
+  nan,
+  inf,
+  fin,
+  binary64,
+  up,
+  down,
+  le,
+  add,
+  sub,
+  sum,
+  round,
+  units,
+  odd,
+  size,
+  span,
+  climb,
+  neg,
+  fits,
+  ofBits,
+  ofFields,
+  toBits,
+}
 use lib.Ieee.Bits.{ofBits-toBits}
 use lib.Ieee.Fits.{down-pos}
 use lib.Ieee.Scale.{finite}
@@ -26,7 +49,7 @@ use Rattle.exact.proofs.PatternOrder.{pattern-order}
 use Rattle.exact.proofs.FloatPatterns.{finite-bits}
 use Rattle.number.proofs.MagnitudeLaws.{abs-fits}
 use Rattle.number.specs.Magnitude.{abs}
-use Rattle.window.specs.Span.{half}
+use Rattle.window.specs.Extent.{half}
 
 true-of : (b : Bool) → T b → b ≡ true
 true-of true t = refl
@@ -38,16 +61,20 @@ most = ofBits binary64 0x7fef_ffff_ffff_ffff
 
 -- ---- |x| is at most it
 under-most : (m : ℕ) (e : ℤ) → T (fits binary64 (fin false m e)) → T (le (fin false m e) most)
-under-most m e t = by-bits (toBits binary64 (fin false m e)) (finite-bits binary64 false m e t) (ofBits-toBits binary64 (fin false m e) t)
+under-most m e t = by-bits (toBits binary64 (fin false m e)) (finite-bits binary64 false m e t)
+    (ofBits-toBits binary64 (fin false m e) t)
   where
     by-bits : (b : ℕ) → b < 9218868437227405312 → ofBits binary64 b ≡ fin false m e → T (le (fin false m e) most)
     by-bits b h i =
         subst (λ (y : Float). T (le y most)) i
-        (subst T (sym (pattern-order binary64 b 0x7fef_ffff_ffff_ffff (omega arith) (lit≤ tt))) (le→leb b 0x7fef_ffff_ffff_ffff (omega arith)))
+        (subst T (sym (pattern-order binary64 b 0x7fef_ffff_ffff_ffff (omega arith) (lit≤ tt)))
+        (le→leb b 0x7fef_ffff_ffff_ffff (omega arith)))
 
 size-own : (s : Bool) (m : ℕ) (e : ℤ) → absF (value (fin s m e)) ≤F value (fin false m e)
 size-own s m e =
-    at-le (down e) (down-pos e) (abs-sized (down e) (down-pos e) s (m * up e) (sized-signed s (m * up e) (down e) (down-pos e))) (at-ratio (m * up e) 0 (down e) (down-pos e)) (le-refl (m * up e + 0))
+    at-le (down e) (down-pos e)
+    (abs-sized (down e) (down-pos e) s (m * up e) (sized-signed s (m * up e) (down e) (down-pos e)))
+    (at-ratio (m * up e) 0 (down e) (down-pos e)) (le-refl (m * up e + 0))
 
 number : T (finite most)
 unfolding ofBits
@@ -75,18 +102,21 @@ sum-number = tt
 no-more : {r : Float} {X : Fraction} → Rounds binary64 r X → absF X ≤F value most +F value half → T (finite r)
 no-more {r} {X} R h =
     rounds-finite R (add-rounds binary64 most half number half-number) sum-number
-    (le-trans (absF X) (value most +F value half) (absF (value most +F value half)) h (abs-grow (value most +F value half)))
+    (le-trans (absF X) (value most +F value half) (absF (value most +F value half)) h
+    (abs-grow (value most +F value half)))
 
 pub less-half : (x : Float) → T (fits binary64 x) → finite (x ⊖ half) ≡ finite x
 less-half nan t = unfold sub add in refl
 less-half (inf s) t = unfold sub add neg ofBits in refl
 less-half (fin s m e) t =
     true-of (finite (fin s m e ⊖ half))
-    (no-more (sub-rounds binary64 (fin s m e) half tt half-number) (abs-sub (value (fin s m e)) (value half) (value most) (value half) (size-most s m e t) half-own))
+    (no-more (sub-rounds binary64 (fin s m e) half tt half-number)
+    (abs-sub (value (fin s m e)) (value half) (value most) (value half) (size-most s m e t) half-own))
 
 pub more-half : (x : Float) → T (fits binary64 x) → finite (x ⊕ half) ≡ finite x
 more-half nan t = unfold add in refl
 more-half (inf s) t = unfold add ofBits in refl
 more-half (fin s m e) t =
     true-of (finite (fin s m e ⊕ half))
-    (no-more (add-rounds binary64 (fin s m e) half tt half-number) (abs-add (value (fin s m e)) (value half) (value most) (value half) (size-most s m e t) half-own))
+    (no-more (add-rounds binary64 (fin s m e) half tt half-number)
+    (abs-add (value (fin s m e)) (value half) (value most) (value half) (size-most s m e t) half-own))

@@ -1,8 +1,8 @@
--- The laws of the window's definitions, each file under its subject.
+-- The laws of the window, each file under its subject.
 pub mod CeilLaws
 pub mod DifferenceLaws
-pub mod SpanLaws
 pub mod EdgeLaws
-pub mod HalfLaws
-pub mod WindowLaws
 pub mod Examples
+pub mod HalfLaws
+pub mod ExtentLaws
+pub mod WindowLaws

@@ -1,5 +1,5 @@
--- Ceil: the least whole number that is not below x. Its domain is floor's, the finite x of magnitude at most 2^31; outside it the
--- i64 is i64::MIN. Assumes nothing.
+-- Ceil: the least whole number that is not below x. Its domain is floor's, the finite x of magnitude at most 2^31;
+-- outside it the i64 is i64::MIN. Assumes nothing.
 use Prim.Native.Nat.{_-_, _*_, _/_, _^_}
 use mathlib.Core.Bool.{true, false, cond}
 use lib.IntN.{ℤ, pos, negsuc, negℤ}

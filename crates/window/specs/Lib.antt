@@ -1,4 +1,7 @@
--- The definitions of the window.
+-- The definitions of `bestfit` and of the window.
+pub mod Bestfit
 pub mod Ceil
-pub mod Span
+pub mod Corners
+pub mod Edges
+pub mod Extent
 pub mod Window

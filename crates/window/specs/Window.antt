@@ -1,20 +1,21 @@
--- The window of the output. A given viewport wins; bestfit is tried where it is asked for; else, or where it finds none, the window is
--- the picture's own at 0, 0. Whichever it is, it is refused where a side is 0 or above 4,096, an offset beyond 1,048,576 either
--- way, or an edge of bestfit's box no number. Assumes nothing.
+-- The window of the output. A given viewport wins; bestfit is tried where it is asked for; else, or where it finds
+-- none, the window is the picture's own at 0, 0. Whichever it is, it is refused where a side is 0 or above 4,096, an
+-- offset beyond 1,048,576 either way, or an edge of bestfit's box no number. Specification 6. Assumes nothing.
 use Prim.Native.Nat.{ℕ}
-use mathlib.Core.Bool.{Bool, cond}
+use mathlib.Core.Bool.{cond}
 use lib.IntN.{ℤ, pos}
 use lib.Ieee.{binary64, ofInt}
-use Rattle.matrix.specs.Matrix.{Vector}
-use Rattle.bestfit.specs.declared.bestfit.Found.{Found}
-use Rattle.bestfit.specs.declared.bestfit.Found.the-variants.{Box, Nothing}
-use Rattle.bestfit.specs.declared.edges.Edges.{Edges}
-use Rattle.window.specs.declared.span.Span.{Span}
-use Rattle.window.specs.declared.span.Span.the-variants.{Of, Out}
+use Rattle.exact.specs.Vector.{Vector}
+use Rattle.window.specs.declared.bestfit.Found.{Found}
+use Rattle.window.specs.declared.bestfit.Found.the-variants.{Box, Nothing}
+use Rattle.window.specs.declared.edges.Edges.{Edges}
+use Rattle.window.specs.declared.extent.Extent.{Extent}
+use Rattle.window.specs.declared.extent.Extent.the-variants.{Of, Out}
+use Rattle.window.specs.declared.view.View.{View}
 use Rattle.window.specs.declared.window.Placed.{Placed}
 use Rattle.window.specs.declared.window.Placed.the-variants.{Window, Refused}
-use Rattle.bestfit.specs.Bestfit.{bestfit}
-use Rattle.window.specs.Span.{held, fitted}
+use Rattle.window.specs.Bestfit.{bestfit}
+use Rattle.window.specs.Extent.{held, fitted}
 
 -- ---- the number and the values of each answer; 0 is no refusal
 
@@ -40,7 +41,7 @@ yOf Refused = pos 0
 
 -- ---- the answer
 
-unfoldable pub joined : Span → Span → Placed
+unfoldable pub joined : Extent → Extent → Placed
 joined (Of x width) (Of y height) = Window width height x y
 joined (Of x width) Out = Refused
 joined Out down = Refused
@@ -56,11 +57,12 @@ judged (Box e) width height = around e
 judged Nothing width height = given width height (pos 0) (pos 0)
 
 abbrev pub best : ℕ → Vector → ℕ → ℕ → Placed
-best kind coef width height = judged (bestfit kind coef (ofInt binary64 (pos width)) (ofInt binary64 (pos height))) width height
+best kind coef width height = judged (bestfit kind coef (ofInt binary64 (pos width)) (ofInt binary64 (pos height)))
+    width height
 
 -- the arguments of the code's `window`
-unfoldable pub window : ℕ → Vector → ℕ → ℕ → Bool → Bool → ℕ → ℕ → ℤ → ℤ → Placed
-window kind coef width height bestfit viewport view-width view-height view-x view-y =
-    cond viewport (given view-width view-height view-x view-y)
-    (cond bestfit (best kind coef width height)
+unfoldable pub window : ℕ → Vector → ℕ → ℕ → View → Placed
+window kind coef width height v =
+    cond (v .given) (given (v .width) (v .height) (v .x) (v .y))
+    (cond (v .bestfit) (best kind coef width height)
     (given width height (pos 0) (pos 0)))

@@ -1,4 +1,5 @@
-// The least whole number that is not below x. The domain is floor's: outside it the answer is i64::MIN. Assumes nothing of x.
+// The least whole number that is not below x. The domain is floor's: outside it the answer is i64::MIN. Assumes nothing
+// of x.
 ghost use mathlib.Core.Path.{_≡_};
 ghost use Rattle.window.specs.Ceil.{ceilI64};
 use number::floor::floor_i64;

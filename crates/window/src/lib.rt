@@ -1,5 +1,10 @@
-// The output window: a viewport as it is given, the box that bestfit finds, or the picture's own. Each public
-// function equals its definition in specs/ for every input of its types.
+// The output window: a viewport as it is given, the box that `bestfit` finds around the picture's corners, or the
+// picture's own; and refusal 9. Read by `distort`. Each public function equals its definition in specs/ for every input
+// of its types.
+pub mod bestfit;
 pub mod ceil;
-pub mod span;
+pub mod corners;
+pub mod edges;
+pub mod extent;
+pub mod view;
 pub mod window;

@@ -1,13 +1,14 @@
-// The window of the output: its size and where it lies. A given viewport wins; bestfit is tried where it is asked for; else, or
-// where it finds none, the window is the picture's own. Assumes nothing.
+// The window of the output: its size and where it lies. A given viewport wins; bestfit is tried where it is asked for;
+// else, or where it finds none, the window is the picture's own. Assumes nothing.
 ghost use mathlib.Core.Path.{_≡_};
 ghost use Rattle.window.specs.Window as Placing;
-use crate::span::Span;
-use crate::span::fitted;
-use crate::span::held;
-use bestfit::bestfit::Found;
-use bestfit::bestfit::bestfit;
-use bestfit::edges::Edges;
+use crate::bestfit::Found;
+use crate::bestfit::bestfit;
+use crate::edges::Edges;
+use crate::extent::Extent;
+use crate::extent::fitted;
+use crate::extent::held;
+use crate::view::View;
 
 // Refused is refusal 9.
 pub enum Placed {
@@ -20,15 +21,15 @@ pub enum Placed {
     Refused,
 }
 
-fn joined(across: Span, down: Span) -> Placed
+fn joined(across: Extent, down: Extent) -> Placed
     ensures { λ r. ⌜ r ≡ Placing.joined across down ⌝ }
 {
     match across {
-        Span::Of {
+        Extent::Of {
             from: x,
             length: width,
         } => match down {
-            Span::Of {
+            Extent::Of {
                 from: y,
                 length: height,
             } => Placed::Window {
@@ -37,9 +38,9 @@ fn joined(across: Span, down: Span) -> Placed
                 x,
                 y,
             },
-            Span::Out => Placed::Refused,
+            Extent::Out => Placed::Refused,
         },
-        Span::Out => Placed::Refused,
+        Extent::Out => Placed::Refused,
     }
 }
 
@@ -66,24 +67,13 @@ fn best(kind: u64, coef: &[f64; 256], width: u64, height: u64) -> Placed
     }
 }
 
-pub fn window(
-    kind: u64,
-    coef: &[f64; 256],
-    width: u64,
-    height: u64,
-    bestfit: bool,
-    viewport: bool,
-    view_width: u64,
-    view_height: u64,
-    view_x: i64,
-    view_y: i64,
-) -> Placed
-    ensures { λ r. ⌜ r ≡ Placing.window kind (now (coef .entry)) width height bestfit viewport «view_width» «view_height» «view_x» «view_y» ⌝ }
+pub fn window(kind: u64, coef: &[f64; 256], width: u64, height: u64, view: View) -> Placed
+    ensures { λ r. ⌜ r ≡ Placing.window kind (now (coef .entry)) width height view ⌝ }
 {
-    if viewport {
-        return given(view_width, view_height, view_x, view_y);
+    if view.given {
+        return given(view.width, view.height, view.x, view.y);
     }
-    if bestfit {
+    if view.bestfit {
         return best(kind, coef, width, height);
     }
     given(width, height, 0, 0)

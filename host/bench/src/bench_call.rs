@@ -1,6 +1,6 @@
 //! Nanoseconds an output pixel of the whole distort call: the product's through its archive, whole and in bands of 16
-//! rows, and the original's `distort`; the time of one thread, of each the best of many rounds, in turns. The pictures must be the
-//! same, bit for bit. And what the test of all samples costs alone, beside a copy of the picture.
+//! rows, and the original's `distort`; the time of one thread, of each the best of many rounds, in turns. The pictures
+//! must be the same, bit for bit. And what the test of all samples costs alone, beside a copy of the picture.
 //!
 //! Words choose rows: `bench_call Perspective Bilinear 3` measures the rows that have all three in their names.
 //! `--quick` makes few rounds, and without words measures the large picture of 3 channels under `Edge` alone: a minute.
@@ -62,7 +62,8 @@ fn asked() -> Result<Asked, String> {
 fn run(r: Reference, asked: &Asked) {
     println!("Nanoseconds of one thread an output pixel, best of the rounds:\n");
     println!(
-        "| picture | channels | method | interpolation | policy | whole | in bands | of share and test | reference | times as fast | rounds |"
+        "| picture | channels | method | interpolation | policy | whole | in bands | of share and test \
+         | reference | times as fast | rounds |"
     );
     println!("|---|---|---|---|---|---:|---:|---:|---:|---:|---:|");
     let mut measured: Vec<(Row, Times)> = Vec::new();
@@ -133,13 +134,9 @@ fn print_memories(memories: &[(Shape, Memory)]) {
 /// Memory that is given back is kept and taken again, so that the original's output is touched before, as ours is.
 fn keep_memory() {
     #[cfg(target_env = "gnu")]
-    {
-        unsafe extern "C" {
-            safe fn mallopt(parameter: i32, value: i32) -> i32;
-        }
-        const TRIM_THRESHOLD: i32 = -1;
-        const MMAP_MAX: i32 = -4;
-        mallopt(TRIM_THRESHOLD, i32::MAX);
-        mallopt(MMAP_MAX, 0);
+    // SAFETY: two settings of the allocator, which are numbers.
+    unsafe {
+        libc::mallopt(libc::M_TRIM_THRESHOLD, i32::MAX);
+        libc::mallopt(libc::M_MMAP_MAX, 0);
     }
 }

@@ -1,5 +1,5 @@
-//! A list of distort calls by document 01's rule: which calls are warps, whole or in bands, the chain's picture after each
-//! call, and the exact chain beside it.
+//! A list of distort calls by the rule of specification 11.1: which calls are warps, whole or in bands, the chain's
+//! picture after each call, and the exact chain beside it.
 
 use crate::exact::{Mapping, Picture};
 use crate::runner::Answering;

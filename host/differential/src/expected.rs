@@ -1,4 +1,4 @@
-//! The answer that document 01 asks for, from the reference: `DistortImage::distort`, cut to the band, with the
+//! The answer that the specification asks for, from the reference: `DistortImage::distort`, cut to the band, with the
 //! matte in every pixel whose source point is unusable, which is outside the domain of the comparison.
 
 use crate::generate::LIGHT;

@@ -22,7 +22,7 @@ pub struct Job {
     pub bestfit: bool,
     pub viewport: Option<Window>,
     pub background: [f32; 4],
-    /// The colour of a pixel without a usable source point, the matte of document 01.
+    /// The colour of a pixel without a usable source point, the matte of specification 1.
     pub undefined: [f32; 4],
     pub width: u64,
     pub height: u64,

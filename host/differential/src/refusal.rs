@@ -1,4 +1,4 @@
-//! The refusal table of document 01, read off its text: tests in its order, the first that applies is the answer.
+//! The refusal table (specification 2), read off its text: tests in its order, the first that applies is the answer.
 //! Whether a fit is degenerate and which window bestfit finds are asked of the reference.
 
 use crate::codes::*;

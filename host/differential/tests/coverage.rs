@@ -98,7 +98,7 @@ fn accepted_jobs_cover_the_domain() {
     assert!(pixels > 4 * undefined, "too many pixels are undefined");
 }
 
-/// What the whole call's edges are, and how a job there has to be answered by document 01.
+/// What the whole call's edges are, and how a job there has to be answered by the specification.
 #[test]
 fn calls_cover_the_edges() {
     let r = reference_or_skip!();

@@ -72,7 +72,7 @@ fn coefficients_and_refusals() {
     }
 }
 
-/// Trial cards of document 01 that concern the fit.
+/// Trial cards that concern the fit (specification 5).
 #[test]
 fn trial_cards() {
     let fit = |method, args: &[f64]| {

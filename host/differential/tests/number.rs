@@ -59,7 +59,7 @@ fn powi() {
     same(inputs, product, |(x, n)| rust::powi(x, n), powered);
 }
 
-/// Repeated squaring is what `f64::powi` does here, so the reference and document 01 agree.
+/// Repeated squaring is what `f64::powi` does here, so the reference and specification 4 agree.
 #[test]
 fn powi_of_rust_is_repeated_squaring() {
     let inputs = rust::power_inputs(SEED, rust::count());

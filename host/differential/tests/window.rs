@@ -1,5 +1,5 @@
-//! The output's window against document 01, with the original's `Mapping::bestfit`: viewports, bestfit and the picture's own,
-//! inside and outside the limits of refusal 9. 20,000 windows, a million with DIHYRAVO_FULL=1.
+//! The output's window against specification 6, with the original's `Mapping::bestfit`: viewports, bestfit and the
+//! picture's own, inside and outside the limits of refusal 9. 20,000 windows, a million with DIHYRAVO_FULL=1.
 
 use differential::random::Random;
 use differential::refusal::{OFFSET, SIDE};
@@ -123,7 +123,7 @@ fn windows_and_refusals() {
     );
 }
 
-/// Windows of document 01: the identity by four corners on 4 by 3, and the limits.
+/// Windows of specification 6: the identity by four corners on 4 by 3, and the limits.
 #[test]
 fn trial_windows() {
     let corners = [

@@ -1,37 +1,7 @@
 //! All that is unsafe: the archive's four calls, and floats seen as bytes.
 
 use crate::raw::Job;
-
-unsafe extern "C" {
-    fn dihyravo_method(name: *const u8, length: usize) -> i64;
-    fn dihyravo_policy(name: *const u8, length: usize) -> i64;
-    fn dihyravo_interpolation(name: *const u8, length: usize) -> i64;
-    fn dihyravo_distort(
-        picture: *const u8,
-        picture_length: usize,
-        width: u64,
-        height: u64,
-        channels: u64,
-        method: u64,
-        arguments: *const u8,
-        arguments_length: usize,
-        policy: u64,
-        interpolation: u64,
-        background: *const [u8; 16],
-        matte: *const [u8; 16],
-        bestfit: u64,
-        viewport: u64,
-        view_width: u64,
-        view_height: u64,
-        view_x: i64,
-        view_y: i64,
-        first_row: u64,
-        rows: u64,
-        band: *mut u8,
-        band_length: usize,
-        answer: *mut [u8; 48],
-    ) -> u64;
-}
+use dihyravo_sys::{dihyravo_distort, dihyravo_interpolation, dihyravo_method, dihyravo_policy};
 
 /// The code of a method's name, or -3.
 pub fn method(name: &[u8]) -> i64 {
@@ -68,8 +38,8 @@ pub fn distort(job: &Job, band: &mut [u8], answer: &mut [u8; 48]) -> u64 {
             job.arguments.len(),
             job.policy,
             job.interpolation,
-            &job.background,
-            &job.matte,
+            job.background.as_ptr(),
+            job.matte.as_ptr(),
             job.bestfit,
             job.viewport,
             job.view_width,
@@ -80,7 +50,7 @@ pub fn distort(job: &Job, band: &mut [u8], answer: &mut [u8; 48]) -> u64 {
             job.rows,
             band.as_mut_ptr(),
             band.len(),
-            answer,
+            answer.as_mut_ptr(),
         )
     }
 }

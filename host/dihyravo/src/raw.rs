@@ -47,6 +47,7 @@ pub struct Job<'a> {
 
 /// What an accepted call answers: the output's size, offset and channels, and the matte pixels of the band.
 #[derive(Clone, Copy, Debug, PartialEq, Eq)]
+#[non_exhaustive]
 pub struct Answer {
     /// The output's width.
     pub width: u64,

@@ -14,6 +14,7 @@ use std::fmt;
 /// assert_eq!(Refusal::from_number(8), Some(refusal));
 /// ```
 #[derive(Clone, Copy, Debug, PartialEq, Eq, Hash, PartialOrd, Ord)]
+#[non_exhaustive]
 pub enum Refusal {
     /// 1: width or height is 0 or above 4,096, or channels is not 1, 3 or 4.
     Size = 1,

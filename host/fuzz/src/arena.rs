@@ -1,5 +1,5 @@
-//! Memory to lend: pages between two unmapped ones, seen twice. The call sees one view, which it may only read where it is
-//! lent an input; we write the other.
+//! Memory to lend: pages between two unmapped ones, seen twice. The call sees one view, which it may only read where it
+//! is lent an input; we write the other.
 
 use crate::sys;
 use std::ptr;
@@ -50,7 +50,7 @@ impl Arena {
         let both = sys::PROT_READ | sys::PROT_WRITE;
         if !read_only {
             // SAFETY: the mapping is new, and a page at each end stays as it is.
-            unsafe { sys::map_over(lent, length, both, -1) };
+            unsafe { sys::map_over(lent, length, both, None) };
             return Self {
                 lent,
                 own: lent,
@@ -61,10 +61,9 @@ impl Arena {
         let own = sys::reserve(length);
         // SAFETY: as above, and the second mapping is new too.
         unsafe {
-            sys::map_over(lent, length, sys::PROT_READ, file);
-            sys::map_over(own, length, both, file);
+            sys::map_over(lent, length, sys::PROT_READ, Some(&file));
+            sys::map_over(own, length, both, Some(&file));
         }
-        sys::close(file);
         Self { lent, own, length }
     }
 

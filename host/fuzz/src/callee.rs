@@ -1,68 +1,8 @@
 //! The exported functions as they are: pointers and numbers.
 
-// The archive comes with this crate.
-use dihyravo as _;
-
-/// The distort call's type, so that a planted fault can stand in its place.
-pub type Distort = unsafe extern "C" fn(
-    picture: *const u8,
-    picture_length: usize,
-    width: u64,
-    height: u64,
-    channels: u64,
-    method: u64,
-    arguments: *const u8,
-    arguments_length: usize,
-    policy: u64,
-    interpolation: u64,
-    background: *const u8,
-    matte: *const u8,
-    bestfit: u64,
-    viewport: u64,
-    view_width: u64,
-    view_height: u64,
-    view_x: i64,
-    view_y: i64,
-    first_row: u64,
-    rows: u64,
-    band: *mut u8,
-    band_length: usize,
-    answer: *mut u8,
-) -> u64;
-
-/// A name reader's type.
-pub type Reader = unsafe extern "C" fn(name: *const u8, length: usize) -> i64;
-
-unsafe extern "C" {
-    pub fn dihyravo_distort(
-        picture: *const u8,
-        picture_length: usize,
-        width: u64,
-        height: u64,
-        channels: u64,
-        method: u64,
-        arguments: *const u8,
-        arguments_length: usize,
-        policy: u64,
-        interpolation: u64,
-        background: *const u8,
-        matte: *const u8,
-        bestfit: u64,
-        viewport: u64,
-        view_width: u64,
-        view_height: u64,
-        view_x: i64,
-        view_y: i64,
-        first_row: u64,
-        rows: u64,
-        band: *mut u8,
-        band_length: usize,
-        answer: *mut u8,
-    ) -> u64;
-    pub fn dihyravo_method(name: *const u8, length: usize) -> i64;
-    pub fn dihyravo_policy(name: *const u8, length: usize) -> i64;
-    pub fn dihyravo_interpolation(name: *const u8, length: usize) -> i64;
-}
+pub use dihyravo_sys::{
+    Distort, Reader, dihyravo_distort, dihyravo_interpolation, dihyravo_method, dihyravo_policy,
+};
 
 /// The pointers of a call. Lengths come with those that are slices.
 #[derive(Clone, Copy, Debug)]

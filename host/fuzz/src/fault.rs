@@ -1,5 +1,5 @@
-//! Where a run is, so that a fault in the callee, or a call that does not end, can be told: the handler says which case it
-//! was and ends the process.
+//! Where a run is, so that a fault in the callee, or a call that does not end, can be told: the handler says which case
+//! it was and ends the process.
 
 use crate::sys;
 use std::ffi::c_int;
@@ -36,7 +36,7 @@ pub fn call(which: u64) {
 pub fn install() {
     for number in sys::SIGNALS {
         // SAFETY: the handler only reads atomics, writes to a file and ends the process.
-        unsafe { sys::signal(number, told) };
+        unsafe { sys::handle(number, told) };
     }
 }
 
@@ -49,9 +49,8 @@ extern "C" fn told(number: c_int) {
         line.number(n);
     }
     line.text("\n");
-    // SAFETY: the bytes are the line's own.
-    unsafe { sys::write(2, line.bytes.as_ptr().cast(), line.length) };
-    sys::_exit(STATUS)
+    sys::tell(&line.bytes[..line.length]);
+    sys::end(STATUS)
 }
 
 /// A line that is put together without memory of the heap's, which a handler may not ask for.

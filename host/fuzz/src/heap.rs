@@ -33,8 +33,9 @@ fn call(callee: Distort, lent: &Lent) -> (u64, [u8; 48], Vec<u8>) {
     let number = unsafe { callee::call(callee, &lent.numbers, &pointers) };
     let mut said = [0; 48];
     said.copy_from_slice(&answer);
-    // SAFETY: an accepted call writes every byte of the band. Where it did not, memcheck says so when they are compared.
     let written = match number {
+        // SAFETY: an accepted call writes every byte of the band. Where it did not, memcheck says so when they are
+        // compared.
         0 => unsafe { band.assume_init() }.into_vec(),
         _ => Vec::new(),
     };

@@ -1,4 +1,4 @@
-//! What a call has to answer: its refusal by the model of document 01's table, or its size, offset and channels.
+//! What a call has to answer: its refusal by the model of specification 2, or its size, offset and channels.
 
 use differential::refusal::{after_the_fit, before_the_fit};
 use differential::{Job, Window, expected};

@@ -1,10 +1,11 @@
-//! The stack that a call needs: it runs on a thread whose stack is ours and painted, and afterwards the lowest byte that
-//! is not as it was painted is looked for. What such a thread takes without the call is taken off.
+//! The stack that a call needs: it runs on a thread whose stack is ours and painted, and afterwards the lowest byte
+//! that is not as it was painted is looked for. What such a thread takes without the call is taken off.
 
 use crate::callee::{self, Distort, Pointers};
 use crate::lent::Lent;
-use crate::sys::{self, Attributes, Start};
+use crate::sys::{self, Start};
 use std::ffi::c_void;
+use std::mem::MaybeUninit;
 use std::ptr;
 
 /// Bytes of the painted stack.
@@ -44,7 +45,7 @@ impl Default for Stack {
         let page = sys::page();
         let lowest = sys::reserve(SIZE + page).wrapping_add(page);
         // SAFETY: the mapping is new, and its lowest page stays as it is.
-        unsafe { sys::map_over(lowest, SIZE, sys::PROT_READ | sys::PROT_WRITE, -1) };
+        unsafe { sys::map_over(lowest, SIZE, sys::PROT_READ | sys::PROT_WRITE, None) };
         let lowest = lowest.cast();
         let mut stack = Self { lowest, idle: 0 };
         stack.idle = stack.deepest(idle, ptr::null_mut());
@@ -61,17 +62,18 @@ impl Stack {
     /// Bytes of the stack, from its top, that a thread changes.
     fn deepest(&mut self, start: Start, argument: *mut c_void) -> usize {
         self.words().fill(PAINT);
-        let mut attributes = Attributes([0; 16]);
+        let mut attributes = MaybeUninit::uninit();
+        let attributes = attributes.as_mut_ptr();
         let mut thread = 0;
-        // SAFETY: the attributes have room enough, the stack is ours, and the thread is waited for.
+        // SAFETY: the first call fills the attributes, the stack is ours, and the thread is waited for.
         let made = unsafe {
             let lowest = self.lowest.cast();
             [
-                sys::pthread_attr_init(&mut attributes),
-                sys::pthread_attr_setstack(&mut attributes, lowest, SIZE),
-                sys::pthread_create(&mut thread, &attributes, start, argument),
-                sys::pthread_join(thread, ptr::null_mut()),
-                sys::pthread_attr_destroy(&mut attributes),
+                libc::pthread_attr_init(attributes),
+                sys::pthread_attr_setstack(attributes, lowest, SIZE),
+                libc::pthread_create(&mut thread, attributes, start, argument),
+                libc::pthread_join(thread, ptr::null_mut()),
+                libc::pthread_attr_destroy(attributes),
             ]
         };
         assert_eq!(made, [0; 5], "a thread runs on the painted stack");

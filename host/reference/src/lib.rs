@@ -18,8 +18,6 @@ mod shims;
 mod skip;
 mod types;
 
-pub mod sha256;
-
 #[cfg(not(reference_present))]
 pub use absent::{Mapping, ORIGINALS, Prepared, Reference, Sampler, open};
 #[cfg(reference_present)]

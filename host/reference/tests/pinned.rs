@@ -1,5 +1,7 @@
 //! The text that is compiled starts with the original's, unchanged: the three digests are pinned here.
 
+use sha2::{Digest, Sha256};
+
 const PINNED: [(&str, &str); 3] = [
     (
         "distort_image.rs",
@@ -24,6 +26,24 @@ fn the_original_is_the_pinned_one() {
         assert_eq!(name, found);
         assert_eq!(digest, written, "{name} is not the pinned original");
         let start = &compiled.as_bytes()[..*length];
-        assert_eq!(*digest, reference::sha256::hex(start), "{name} was changed");
+        assert_eq!(*digest, hex(start), "{name} was changed");
     }
+}
+
+/// The SHA-256 digest in hexadecimal.
+fn hex(bytes: &[u8]) -> String {
+    format!("{:x}", Sha256::digest(bytes))
+}
+
+#[test]
+fn published_examples() {
+    let empty = "e3b0c44298fc1c149afbf4c8996fb92427ae41e4649b934ca495991b7852b855";
+    let abc = "ba7816bf8f01cfea414140de5dae2223b00361a396177a9cb410ff61f20015ad";
+    let two = "248d6a61d20638b8e5c026930c3e6039a33ce45964ff2167f6ecedd419db06c1";
+    assert_eq!(hex(b""), empty);
+    assert_eq!(hex(b"abc"), abc);
+    assert_eq!(
+        hex(b"abcdbcdecdefdefgefghfghighijhijkijkljklmklmnlmnomnopnopq"),
+        two
+    );
 }

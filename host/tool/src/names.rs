@@ -1,7 +1,8 @@
 //! The lists of names, for people and for programs.
 
-use crate::report::{Object, list, quoted};
+use crate::report;
 use dihyravo::{Interpolate, Method, VirtualPixel};
+use serde::Serialize;
 
 /// Second names that the proved readers know.
 const ALSO: [(&str, &str); 8] = [
@@ -89,19 +90,29 @@ pub fn table() -> String {
     lines.join("\n")
 }
 
+#[derive(Serialize)]
+struct Names {
+    methods: Vec<MethodObject>,
+    virtual_pixels: &'static [&'static str],
+    interpolations: &'static [&'static str],
+}
+
+#[derive(Serialize)]
+struct MethodObject {
+    name: &'static str,
+    arguments: &'static str,
+}
+
 pub fn json() -> String {
-    let methods = Method::ALL.iter().map(|method| {
-        let mut object = Object::new();
-        object.text("name", method.name());
-        object.text("arguments", method.arguments());
-        object.finish()
-    });
-    let names = |names: &[&str]| list(names.iter().map(|name| quoted(name)));
-    let mut object = Object::new();
-    object.literal("methods", list(methods));
-    object.literal("virtual_pixels", names(VirtualPixel::NAMES));
-    object.literal("interpolations", names(Interpolate::NAMES));
-    object.finish()
+    let method = |method: &Method| MethodObject {
+        name: method.name(),
+        arguments: method.arguments(),
+    };
+    report::json(&Names {
+        methods: Method::ALL.iter().map(method).collect(),
+        virtual_pixels: VirtualPixel::NAMES,
+        interpolations: Interpolate::NAMES,
+    })
 }
 
 #[cfg(test)]

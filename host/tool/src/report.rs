@@ -2,7 +2,10 @@
 
 use crate::failure::{Failure, one_line};
 use crate::job::Made;
-use std::fmt::Write;
+use serde::ser::Error;
+use serde::{Serialize, Serializer};
+use serde_json::value::RawValue;
+use std::time::Duration;
 
 /// The line about a picture that was made.
 pub fn made(made: &Made) -> String {
@@ -31,106 +34,127 @@ pub fn made(made: &Made) -> String {
     )
 }
 
+#[derive(Serialize)]
+struct MadeObject<'a> {
+    ok: bool,
+    output: &'a str,
+    format: String,
+    bits: u32,
+    width: u64,
+    height: u64,
+    x: i64,
+    y: i64,
+    channels: u64,
+    matte_pixels: u64,
+    #[serde(serialize_with = "six_places")]
+    distort_seconds: Duration,
+    #[serde(serialize_with = "six_places")]
+    seconds: Duration,
+    #[serde(skip_serializing_if = "Option::is_none")]
+    note: Option<String>,
+}
+
+/// Seconds with six places, those that are 0 too.
+fn six_places<S: Serializer>(time: &Duration, to: S) -> Result<S::Ok, S::Error> {
+    let digits = format!("{:.6}", time.as_secs_f64());
+    let number = RawValue::from_string(digits).map_err(S::Error::custom)?;
+    number.serialize(to)
+}
+
 pub fn made_json(made: &Made) -> String {
-    let mut object = Object::new();
-    object.literal("ok", true);
-    object.text("output", &made.output.to_string_lossy());
-    object.text("format", &made.format.to_string());
-    object.literal("bits", made.depth.bits());
-    object.literal("width", made.width);
-    object.literal("height", made.height);
-    object.literal("x", made.x);
-    object.literal("y", made.y);
-    object.literal("channels", made.channels);
-    object.literal("matte_pixels", made.matte_pixels);
-    object.literal(
-        "distort_seconds",
-        format!("{:.6}", made.distort.as_secs_f64()),
-    );
-    object.literal("seconds", format!("{:.6}", made.whole.as_secs_f64()));
-    if !made.notes.is_empty() {
-        object.text("note", &made.notes.join("; "));
-    }
-    object.finish()
+    json(&MadeObject {
+        ok: true,
+        output: &made.output.to_string_lossy(),
+        format: made.format.to_string(),
+        bits: made.depth.bits(),
+        width: made.width,
+        height: made.height,
+        x: made.x,
+        y: made.y,
+        channels: made.channels,
+        matte_pixels: made.matte_pixels,
+        distort_seconds: made.distort,
+        seconds: made.whole,
+        note: (!made.notes.is_empty()).then(|| made.notes.join("; ")),
+    })
 }
 
 /// A refusal has number, word and mend; another failure an error.
+#[derive(Serialize)]
+#[serde(untagged)]
+enum FailureObject<'a> {
+    Refused {
+        ok: bool,
+        status: u8,
+        number: u64,
+        word: &'a str,
+        mend: String,
+    },
+    Unusable {
+        ok: bool,
+        status: u8,
+        error: String,
+    },
+}
+
 pub fn failure_json(failure: &Failure) -> String {
-    let mut object = Object::new();
-    object.literal("ok", false);
-    object.literal("status", failure.status());
-    match failure {
-        Failure::Refused { refusal, .. } => {
-            object.literal("number", refusal.number());
-            object.text("word", refusal.word());
-            object.text("mend", &one_line(&failure.mend()));
-        }
-        Failure::Unusable(what) => object.text("error", &one_line(what)),
-    }
-    object.finish()
+    let (ok, status) = (false, failure.status());
+    json(&match failure {
+        Failure::Refused { refusal, .. } => FailureObject::Refused {
+            ok,
+            status,
+            number: refusal.number(),
+            word: refusal.word(),
+            mend: one_line(&failure.mend()),
+        },
+        Failure::Unusable(what) => FailureObject::Unusable {
+            ok,
+            status,
+            error: one_line(what),
+        },
+    })
 }
 
-/// A JSON object in the making.
-pub struct Object(String);
-
-impl Object {
-    pub fn new() -> Self {
-        Self("{".to_owned())
-    }
-
-    fn key(&mut self, key: &str) {
-        if self.0.len() > 1 {
-            self.0.push(',');
-        }
-        self.0.push_str(&quoted(key));
-        self.0.push(':');
-    }
-
-    /// A value that is JSON already: a number, a truth value, a list.
-    pub fn literal(&mut self, key: &str, value: impl std::fmt::Display) {
-        self.key(key);
-        self.0.push_str(&value.to_string());
-    }
-
-    pub fn text(&mut self, key: &str, value: &str) {
-        self.key(key);
-        self.0.push_str(&quoted(value));
-    }
-
-    pub fn finish(mut self) -> String {
-        self.0.push('}');
-        self.0
-    }
-}
-
-/// A JSON list of JSON values.
-pub fn list(values: impl IntoIterator<Item = String>) -> String {
-    format!("[{}]", values.into_iter().collect::<Vec<_>>().join(","))
-}
-
-/// A text as JSON has it.
-pub fn quoted(text: &str) -> String {
-    let mut out = String::from("\"");
-    for c in text.chars() {
-        match c {
-            '"' | '\\' => out.extend(['\\', c]),
-            // Writing into a string can't fail.
-            c if c < ' ' => _ = write!(out, "\\u{:04x}", u32::from(c)),
-            c => out.push(c),
-        }
-    }
-    out.push('"');
-    out
+/// One line of JSON, with the fields in the order that they are declared in.
+pub fn json(value: &impl Serialize) -> String {
+    serde_json::to_string(value).expect("texts, numbers and lists of them are JSON")
 }
 
 #[cfg(test)]
 mod tests {
     use super::*;
+    use crate::file::{Depth, Format};
     use dihyravo::Refusal;
 
     #[test]
     fn texts_are_escaped() {
-        assert_eq!(quoted("a\"b\\c\nd é"), "\"a\\\"b\\\\c\\u000ad é\"");
+        assert_eq!(json(&"a\"b\\c\nd é"), "\"a\\\"b\\\\c\\nd é\"");
+    }
+
+    #[test]
+    fn a_picture_has_its_fields() {
+        let mut made = Made {
+            output: "a\tb.pgm".into(),
+            format: Format::Pgm,
+            depth: Depth::Sixteen,
+            width: 4,
+            height: 3,
+            channels: 1,
+            x: -2,
+            y: 0,
+            matte_pixels: 5,
+            distort: Duration::from_millis(140),
+            whole: Duration::from_nanos(12_000_000_400),
+            notes: Vec::new(),
+        };
+        let start = concat!(
+            r#"{"ok":true,"output":"a\tb.pgm","format":"PGM","bits":16,"width":4,"height":3,"x":-2,"y":0,"#,
+            r#""channels":1,"matte_pixels":5,"distort_seconds":0.140000,"seconds":12.000000"#
+        );
+        assert_eq!(made_json(&made), format!("{start}}}"));
+        made.notes = vec!["one".to_owned(), "two".to_owned()];
+        let noted = r#","note":"one; two"}"#;
+        assert_eq!(made_json(&made), format!("{start}{noted}"));
     }
 
     #[test]

@@ -1,4 +1,5 @@
--- `dihyravo::dihyravo_method` meets its contract: the reader's answer has a small code, and its number is the answer. Assumes nothing.
+-- `dihyravo::dihyravo_method` meets its contract: the reader's answer has a small code, and its number is the answer.
+-- Assumes nothing.
 use mathlib.Core.Path.{_≡_, ap, _∙_}
 use Prim.Native.Nat.{_^_}
 use borrow.Author.Needs.{needs}
@@ -14,7 +15,8 @@ number-requires : tie.Need-number-requires
 number-requires c κs = rw (c .method .ensures) (lookup-below (2 ^ 63) methods _ tt)
 
 returns : tie.Need-returns
-returns c = toZ-ofZ {w = w64} (record { sfits = c .number .ok }) ∙ c .number .ensures ∙ ap answer (c .before .method .ensures)
+returns c = toZ-ofZ {w = w64} (record { sfits = c .number .ok }) ∙ c .number .ensures
+    ∙ ap answer (c .before .method .ensures)
 
 pub dihyravo-method-spec : {M : Type 1} → statement M
 dihyravo-method-spec = tie.close (tie.spec (λ c κs. search needs) number-requires returns)

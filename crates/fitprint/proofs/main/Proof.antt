@@ -7,15 +7,17 @@ use borrow.Author.Needs.{needs}
 use lib.ListN.{length, length-take, length-replicate}
 use Rattle.listing.specs.Print.{put}
 use Rattle.listing.proofs.EndLaws.{answer-length}
-use Rattle.listing.proofs.PrintLaws.{put-length}
+use Rattle.listing.proofs.PrintLaws.{store-length}
 use Rattle.fitprint.proofs.main.Statement.{statement}
 use Rattle.fitprint.proofs.main.Tie as tie
 
-inside : (n : ℕ) (out s text : List ℕ) → n ≡ length text → length text ≤ 124 → length s ≡ 124 → out ≡ put s 0 text → n ≤ length out
-inside n out s text e h l p = omega (arith, ap length p ∙ put-length s 0 text)
+inside : (n : ℕ) (out s text : List ℕ) → n ≡ length text → length text ≤ 124 → length s ≡ 124 → out ≡ put s 0 text
+    → n ≤ length out
+inside n out s text e h l p = omega (arith, ap length p ∙ store-length s 0 text)
 
 within : (c : tie.After-answer) → c .answer .result ≤ length (c .answer .last .1 .1 .0)
-within c = inside _ _ _ _ (c .answer .ensures .0) (answer-length _ _) (length-replicate {A = ℕ} 124 0) (c .answer .ensures .1)
+within c = inside _ _ _ _ (c .answer .ensures .0) (answer-length _ _) (length-replicate {A = ℕ} 124 0)
+    (c .answer .ensures .1)
 
 array-share-prefix-out : tie.Need-array-share-prefix-out
 array-share-prefix-out c = within c
@@ -26,4 +28,5 @@ slice-aggregate-write-all c = simp length-take (omega (arith, within (c .before)
 pub main-spec : {M : Type 1} → statement M
 main-spec =
     tie.close
-    (tie.spec (λ c κs. search needs) (λ c κs. search needs) array-share-prefix-out slice-aggregate-write-all (λ c κs. search needs) (λ c. search needs))
+    (tie.spec (λ c κs. search needs) (λ c κs. search needs) array-share-prefix-out slice-aggregate-write-all
+    (λ c κs. search needs) (λ c. search needs))

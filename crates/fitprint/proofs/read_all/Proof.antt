@@ -1,5 +1,5 @@
--- `fitprint::read_all` is safe and ends. The measure is the number of reads that are left. Nothing has to hold from turn to turn, so the
--- invariant says nothing. Assumes nothing.
+-- `fitprint::read_all` is safe and ends. The measure is the number of reads that are left. Nothing has to hold from
+-- turn to turn, so the invariant says nothing. Assumes nothing.
 use borrow.Author.Needs.{needs}
 use Rattle.fitprint.proofs.read_all.Statement.{statement}
 use Rattle.fitprint.proofs.read_all.Tie as tie

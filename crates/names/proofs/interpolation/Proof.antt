@@ -1,4 +1,5 @@
--- `names::interpolation` meets its contract: the entries of its text compute to the table of the definition. Assumes nothing.
+-- `names::interpolation` meets its contract: the entries of its text compute to the table of the definition. Assumes
+-- nothing.
 use borrow.Author.Needs.{needs}
 use Rattle.names.specs.Table.{endsName, nextName, nextCode, split, entries}
 use Rattle.names.proofs.interpolation.Statement.{statement}

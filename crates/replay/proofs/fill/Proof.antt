@@ -12,4 +12,5 @@ slice-aggregate-read-full c = sym (length-take-le _ _ (omega arith))
 pub fill-spec : {M : Type 1} → statement M
 fill-spec =
     tie.close
-    (tie.spec (λ c. search needs) (λ c. search needs) slice-aggregate-read-full (λ c κs. search needs) (λ c. search needs) (λ c. search needs))
+    (tie.spec (λ c. search needs) (λ c. search needs) slice-aggregate-read-full (λ c κs. search needs)
+    (λ c. search needs) (λ c. search needs))

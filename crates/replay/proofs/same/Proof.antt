@@ -40,7 +40,8 @@ loop-again c = (upTo-next _ _ _ _ zero-le (c .before .before .before .loop .inv 
 
 returns-2 : tie.Need-returns-2 Inv-loop μ-loop
 returns-2 c =
-    agree _ _ _ (c .before .loop .inv .1 .1 .1) (upTo-last _ _ _ (c .before .loop .k) _ (omega arith) (omega arith) (c .before .loop .inv .0))
+    agree _ _ _ (c .before .loop .inv .1 .1 .1)
+    (upTo-last _ _ _ (c .before .loop .k) _ (omega arith) (omega arith) (c .before .loop .inv .0))
 
 pub same-spec : {M : Type 1} → statement M
 same-spec =

@@ -1,4 +1,5 @@
--- `replay::signed` meets its contract: where the highest bit is set, k = 2^64 - 1 - bits has 63 bits, and -1 - k is `negsuc k`. Assumes nothing.
+-- `replay::signed` meets its contract: where the highest bit is set, k = 2^64 - 1 - bits has 63 bits, and -1 - k is
+-- `negsuc k`. Assumes nothing.
 use mathlib.Core.Path.{_≡_, refl, sym, ap, _∙_, subst}
 use Prim.Native.Nat.{ℕ, zero, suc, _+_, _-_, _^_, _≤_, _<_}
 use native.Mathlib.Omega.{arith}
@@ -35,7 +36,8 @@ sub-result-2 : tie.Need-sub-result-2
 sub-result-2 c = fit _ (small _ (c .if1 .left))
 
 -- what the code answers, read back
-above : (bits : ℕ) → 2 ^ 63 ≤ bits → bits < 2 ^ 64 → twosComplement (toZ w64 (ofZ w64 (negsuc 0 -ℤ toZ w64 (18446744073709551615 - bits)))) ≡ bits
+above : (bits : ℕ) → 2 ^ 63 ≤ bits → bits < 2 ^ 64
+    → twosComplement (toZ w64 (ofZ w64 (negsuc 0 -ℤ toZ w64 (18446744073709551615 - bits)))) ≡ bits
 unfolding twosComplement
 above bits h g =
     ap twosComplement (toZ-ofZ (fit _ (small bits h)) ∙ made _ (small bits h)) ∙ others bits h g

@@ -23,7 +23,7 @@ const ACCEPTED: u64 = 11;
 const TEXT: &str = "Jobs with the answers of DistortImage::distort, OxideAV/oxideav-image-filter commit 3c7faed292.\n\
     Made in the folder host: cargo run --release --bin store_jobs > ../tests/replay-cases/jobs\n";
 
-/// Limits of document 01 and its trial cards, each followed by what lies just beyond where there is such a thing.
+/// Limits of specification 2 and the trial cards, each followed by what lies just beyond where there is such a thing.
 const BY_HAND: [&str; 42] = [
     "",
     "size=4096x1x1",

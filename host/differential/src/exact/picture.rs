@@ -1,11 +1,13 @@
 //! A picture whose samples are fractions from 0 to 1, and one exact warp of it.
 //!
-//! All samples are over one denominator, a whole number times 2^149, so that every f32 from 0 to 1 is a whole number over
-//! it. A warp multiplies it by what the weights are over: once where that is a power of two, and by each distinct one of a
-//! perspective's pixels.
+//! All samples are over one denominator, a whole number times 2^149, so that every f32 from 0 to 1 is a whole number
+//! over it. A warp multiplies it by what the weights are over: once where that is a power of two, and by each distinct
+//! one of a perspective's pixels.
 
-use super::{Mapping, Natural, Tap, parts, tap};
+use super::number::{floor, parts, quotient};
+use super::{Mapping, Tap, tap};
 use crate::{Job, Window};
+use num_bigint::{BigInt, BigUint};
 
 /// Every finite f32 is a whole number over 2 to this.
 const FINEST: usize = 149;
@@ -16,20 +18,20 @@ pub struct Picture {
     pub height: u64,
     pub channels: u64,
     /// Samples row by row, over `scale` times 2^149.
-    samples: Vec<Natural>,
-    scale: Natural,
+    samples: Vec<BigUint>,
+    scale: BigUint,
 }
 
 /// A sample from 0 to 1 as a whole number over 2^149.
-fn whole(x: f32) -> Natural {
+fn whole(x: f32) -> BigUint {
     assert!((0.0..=1.0).contains(&x), "{x} is not from 0 to 1");
     let (digits, exponent) = parts(x as f64);
-    let size = digits.size();
+    let size = digits.magnitude();
     let shift = exponent + FINEST as i64;
     match usize::try_from(shift) {
-        Ok(bits) => size.shifted(bits),
+        Ok(bits) => size << bits,
         // The lowest digits of a widened f32 are 0.
-        Err(_) => Natural::from((x as f64 * 2f64.powi(FINEST as i32)) as u64),
+        Err(_) => BigUint::from((x as f64 * 2f64.powi(FINEST as i32)) as u64),
     }
 }
 
@@ -37,9 +39,9 @@ fn whole(x: f32) -> Natural {
 struct Cell {
     x: i64,
     y: i64,
-    across: Natural,
-    down: Natural,
-    under: Natural,
+    across: BigUint,
+    down: BigUint,
+    under: BigUint,
 }
 
 impl Picture {
@@ -51,7 +53,7 @@ impl Picture {
             height,
             channels,
             samples: samples.iter().map(|&x| whole(x)).collect(),
-            scale: Natural::one(),
+            scale: BigUint::from(1u8),
         }
     }
 
@@ -68,7 +70,7 @@ impl Picture {
         for cell in &cells {
             let others = unders.others(&cell.under);
             for channel in 0..self.channels {
-                samples.push(self.blend(job, cell, channel).times(others));
+                samples.push(self.blend(job, cell, channel) * others);
             }
         }
         Some(Self {
@@ -76,28 +78,28 @@ impl Picture {
             height: answer.height,
             channels: self.channels,
             samples,
-            scale: self.scale.times(&unders.all),
+            scale: &self.scale * &unders.all,
         })
     }
 
     /// The four taps times their weights, over the denominator times the square of the cell's.
-    fn blend(&self, job: &Job, cell: &Cell, channel: u64) -> Natural {
+    fn blend(&self, job: &Job, cell: &Cell, channel: u64) -> BigUint {
         let (right, low) = (&cell.across, &cell.down);
-        let (left, high) = (cell.under.minus(right), cell.under.minus(low));
+        let (left, high) = (&cell.under - right, &cell.under - low);
         let tap = |x: i64, y: i64| self.tapped(job, cell.x + x, cell.y + y, channel);
         let weighted = [
-            (tap(0, 0), left.times(&high)),
-            (tap(1, 0), right.times(&high)),
-            (tap(0, 1), left.times(low)),
-            (tap(1, 1), right.times(low)),
+            (tap(0, 0), &left * &high),
+            (tap(1, 0), right * &high),
+            (tap(0, 1), &left * low),
+            (tap(1, 1), right * low),
         ];
         weighted
-            .iter()
-            .map(|(sample, weight)| sample.times(weight))
-            .fold(Natural::zero(), |sum, product| sum.plus(&product))
+            .into_iter()
+            .map(|(sample, weight)| sample * weight)
+            .sum()
     }
 
-    fn tapped(&self, job: &Job, x: i64, y: i64, channel: u64) -> Natural {
+    fn tapped(&self, job: &Job, x: i64, y: i64, channel: u64) -> BigUint {
         let grey = |x: f32| if channel == 3 { 1.0 } else { x };
         let component = match tap(job.policy, self.width, self.height, x, y) {
             Tap::Pixel(x, y) => return self.sample(x, y, channel).clone(),
@@ -107,40 +109,40 @@ impl Picture {
             Tap::Gray => grey(0.5),
             Tap::Clear => panic!("`Transparent` is outside the chain conditions"),
         };
-        whole(component).times(&self.scale)
+        whole(component) * &self.scale
     }
 
-    fn sample(&self, x: u64, y: u64, channel: u64) -> &Natural {
+    fn sample(&self, x: u64, y: u64, channel: u64) -> &BigUint {
         &self.samples[((y * self.width + x) * self.channels + channel) as usize]
     }
 
-    /// How far f32 samples in 0 to 1 are from the exact ones at most: whether by no more than n/524,288, and the most in
-    /// units of that; where n is 0, in units of 1/524,288.
+    /// How far f32 samples in 0 to 1 are from the exact ones at most: whether by no more than n/524,288, and the most
+    /// in units of that; where n is 0, in units of 1/524,288.
     pub fn error(&self, samples: &[f32], n: u64) -> (bool, f64) {
         assert_eq!(samples.len(), self.samples.len());
-        let mut most = Natural::zero();
+        let mut most = BigUint::default();
         for (&float, exact) in samples.iter().zip(&self.samples) {
-            let float = whole(float).times(&self.scale);
+            let float = whole(float) * &self.scale;
             let off = match float >= *exact {
-                true => float.minus(exact),
-                false => exact.minus(&float),
+                true => float - exact,
+                false => exact - float,
             };
             most = most.max(off);
         }
-        let under = self.scale.shifted(FINEST);
-        let (most, allowed) = (most.shifted(19), under.times(&Natural::from(n)));
-        let unit = under.times(&Natural::from(n.max(1)));
-        (most <= allowed, most.quotient(&unit))
+        let under = &self.scale << FINEST;
+        let (most, allowed) = (most << 19u8, &under * n);
+        let unit = under * n.max(1);
+        (most <= allowed, quotient(&most, &unit))
     }
 }
 
 /// The cell of an output pixel by `Bilinear`'s steps: half a pixel back, floor, fraction.
 fn cell(mapping: &Mapping, answer: Window, i: u64, j: u64) -> Option<Cell> {
     let point = mapping.point(i, j, (answer.x, answer.y))?;
-    let under = point.under.size().shifted(1);
-    let back = |x: &super::Integer| x.shifted(1).minus(&point.under);
-    let (x, across) = back(&point.u).floor(&under);
-    let (y, down) = back(&point.v).floor(&under);
+    let under = point.under.magnitude() << 1u8;
+    let back = |x: &BigInt| (x << 1u8) - &point.under;
+    let (x, across) = floor(&back(&point.u), &under);
+    let (y, down) = floor(&back(&point.v), &under);
     Some(Cell {
         x,
         y,
@@ -153,35 +155,34 @@ fn cell(mapping: &Mapping, answer: Window, i: u64, j: u64) -> Option<Cell> {
 /// The distinct denominators of a picture's cells, squared, and their product.
 struct Unders {
     /// Each, and the product of the others' squares.
-    each: Vec<(Natural, Natural)>,
-    all: Natural,
+    each: Vec<(BigUint, BigUint)>,
+    all: BigUint,
 }
 
 impl Unders {
     fn new(cells: &[Cell]) -> Self {
-        let mut distinct: Vec<Natural> = cells.iter().map(|cell| cell.under.clone()).collect();
+        let mut distinct: Vec<BigUint> = cells.iter().map(|cell| cell.under.clone()).collect();
         distinct.sort();
         distinct.dedup();
-        let squares: Vec<Natural> = distinct.iter().map(|n| n.times(n)).collect();
+        let squares: Vec<BigUint> = distinct.iter().map(|n| n * n).collect();
         // The products of all before each, and of all after it.
-        let running = |product: &mut Natural, square: &Natural| {
+        let running = |product: &mut BigUint, square: &BigUint| {
             let before = product.clone();
-            *product = product.times(square);
+            *product *= square;
             Some(before)
         };
-        let before: Vec<_> = squares.iter().scan(Natural::one(), running).collect();
-        let mut after: Vec<_> = squares.iter().rev().scan(Natural::one(), running).collect();
+        let one = || BigUint::from(1u8);
+        let before: Vec<_> = squares.iter().scan(one(), running).collect();
+        let mut after: Vec<_> = squares.iter().rev().scan(one(), running).collect();
         after.reverse();
-        let others = before.iter().zip(&after).map(|(a, b)| a.times(b));
+        let others = before.iter().zip(&after).map(|(a, b)| a * b);
         Self {
             each: distinct.iter().cloned().zip(others).collect(),
-            all: squares
-                .iter()
-                .fold(Natural::one(), |all, square| all.times(square)),
+            all: squares.iter().product(),
         }
     }
 
-    fn others(&self, under: &Natural) -> &Natural {
+    fn others(&self, under: &BigUint) -> &BigUint {
         let place = self.each.binary_search_by(|(n, _)| n.cmp(under));
         &self.each[place.expect("each cell's is among them")].1
     }
@@ -234,16 +235,17 @@ mod tests {
 
     #[test]
     fn floats_are_their_fractions() {
-        let one = Natural::one().shifted(FINEST);
+        let of = |n: u32| BigUint::from(n);
+        let one = of(1) << FINEST;
         assert_eq!(whole(1.0), one);
-        assert_eq!(whole(f32::from_bits(1)), Natural::one());
-        assert_eq!(whole(-0.0), Natural::zero());
-        assert_eq!(whole(f32::from_bits(0x7f_ffff)), Natural::from(0x7f_ffff));
+        assert_eq!(whole(f32::from_bits(1)), of(1));
+        assert_eq!(whole(-0.0), of(0));
+        assert_eq!(whole(f32::from_bits(0x7f_ffff)), of(0x7f_ffff));
         assert_eq!(
-            whole(1.0f32.next_down()).plus(&one.shifted(0)),
-            one.shifted(1).minus(&Natural::one().shifted(FINEST - 24))
+            whole(1.0f32.next_down()) + &one,
+            (&one << 1u8) - (of(1) << (FINEST - 24))
         );
-        let third = whole(1.0 / 3.0).quotient(&one);
+        let third = quotient(&whole(1.0 / 3.0), &one);
         assert_eq!(third as f32, 1.0 / 3.0);
     }
 
@@ -288,7 +290,7 @@ mod tests {
         let picture = greys(2, &[0.0, 1.0]);
         let depth = [1.0, 0.0, 0.0, 0.0, 0.0, 0.5, 0.25, 0.0, 1.0];
         let made = warped(PERSPECTIVE, &depth, 2, &picture, view(2, 1, 0, 0));
-        let value = |k: usize| made.samples[k].quotient(&made.scale.shifted(FINEST));
+        let value = |k: usize| quotient(&made.samples[k], &(&made.scale << FINEST));
         // v is 1/2 over the denominator: 4/9 and 4/11, so the row above, black, has 1/18 and 3/22.
         assert!((value(0) - 0.0).abs() < 1e-15, "{}", value(0));
         let second = (12.0 / 11.0 - 0.5) * (1.0 - 3.0 / 22.0);

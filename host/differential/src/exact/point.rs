@@ -1,12 +1,13 @@
 //! The source point of an output pixel in exact fractions, and the chain conditions on the sums that it is made of.
 
-use super::{Integer, Natural, parts};
+use super::number::parts;
 use crate::codes::*;
 use crate::{Job, Window};
+use num_bigint::{BigInt, BigUint};
 
 /// A coefficient times powers of x and y.
 struct Term {
-    coefficient: Integer,
+    coefficient: BigInt,
     x: u32,
     y: u32,
 }
@@ -28,9 +29,9 @@ pub struct Mapping {
 /// u and v over one denominator, which is above 0 where the conditions hold.
 #[derive(Clone, Debug, PartialEq, Eq)]
 pub struct Point {
-    pub u: Integer,
-    pub v: Integer,
-    pub under: Integer,
+    pub u: BigInt,
+    pub v: BigInt,
+    pub under: BigInt,
 }
 
 /// The powers of a polynomial's terms.
@@ -64,7 +65,7 @@ impl Mapping {
         let term = |(&c, &(x, y)): (&f64, &(u32, u32))| {
             let (digits, exponent) = parts(c);
             let shift = exponent + scale as i64;
-            let coefficient = digits.shifted(shift as usize);
+            let coefficient = digits << shift as usize;
             Term { coefficient, x, y }
         };
         let count = powers.len();
@@ -84,25 +85,18 @@ impl Mapping {
     }
 
     /// The terms of a sum at x = across/2, y = down/2, as whole numbers over `unit`.
-    fn terms(&self, sum: &Sum, across: i64, down: i64) -> Vec<Integer> {
-        let power = |n: i64, k: u32| {
-            let mut product = Integer::from(1);
-            for _ in 0..k {
-                product = product.times(&Integer::from(n));
-            }
-            product
-        };
+    fn terms(&self, sum: &Sum, across: i64, down: i64) -> Vec<BigInt> {
+        let (across, down) = (BigInt::from(across), BigInt::from(down));
         let value = |term: &Term| {
-            let powers = power(across, term.x).times(&power(down, term.y));
-            let halves = (self.degree - term.x - term.y) as usize;
-            term.coefficient.times(&powers).shifted(halves)
+            let powers = across.pow(term.x) * down.pow(term.y);
+            (&term.coefficient * powers) << (self.degree - term.x - term.y)
         };
         sum.iter().map(value).collect()
     }
 
     /// What a sum's terms are over.
-    fn unit(&self) -> Natural {
-        Natural::one().shifted(self.scale + self.degree as usize)
+    fn unit(&self) -> BigUint {
+        BigUint::from(1u8) << (self.scale + self.degree as usize)
     }
 
     /// Whether the chain conditions hold at every pixel of a window.
@@ -117,25 +111,22 @@ impl Mapping {
         let across = 2 * (i as i64 + offset.0) + 1;
         let down = 2 * (j as i64 + offset.1) + 1;
         let unit = self.unit();
-        let most = unit.shifted(14);
-        let add = |terms: &[Integer], most: &Natural| {
-            let fit = terms.iter().all(|term| term.size() <= most);
-            let sum = terms
-                .iter()
-                .fold(Integer::from(0), |sum, term| sum.plus(term));
-            fit.then_some(sum)
+        let most = &unit << 14u8;
+        let add = |terms: &[BigInt], most: &BigUint| {
+            let fit = terms.iter().all(|term| term.magnitude() <= most);
+            fit.then(|| terms.iter().sum::<BigInt>())
         };
         let u = add(&self.terms(&self.u, across, down), &most)?;
         let v = add(&self.terms(&self.v, across, down), &most)?;
         let under = match &self.under {
             None => unit.into(),
             Some(sum) => {
-                let sum = add(&self.terms(sum, across, down), &unit.shifted(2))?;
-                (sum.shifted(10) >= Integer::from(unit)).then_some(sum)?
+                let sum = add(&self.terms(sum, across, down), &(&unit << 2u8))?;
+                (&sum << 10u8 >= BigInt::from(unit)).then_some(sum)?
             }
         };
-        let most = under.size().shifted(14);
-        let near = *u.size() <= most && *v.size() <= most;
+        let most = under.magnitude() << 14u8;
+        let near = *u.magnitude() <= most && *v.magnitude() <= most;
         near.then_some(Point { u, v, under })
     }
 }
@@ -143,6 +134,8 @@ impl Mapping {
 #[cfg(test)]
 mod tests {
     use super::*;
+    use crate::exact::number::quotient;
+    use num_bigint::Sign;
 
     fn job(method: u64) -> Job {
         Job {
@@ -154,9 +147,9 @@ mod tests {
     fn at(method: u64, coefficients: &[f64], i: u64, j: u64) -> Option<(f64, f64)> {
         let mapping = Mapping::new(&job(method), coefficients)?;
         let point = mapping.point(i, j, (0, 0))?;
-        let show = |x: &Integer| {
-            let size = x.size().quotient(point.under.size());
-            if x.negative() { -size } else { size }
+        let show = |x: &BigInt| {
+            let size = quotient(x.magnitude(), point.under.magnitude());
+            if x.sign() == Sign::Minus { -size } else { size }
         };
         Some((show(&point.u), show(&point.v)))
     }
@@ -185,8 +178,9 @@ mod tests {
         // x is 3/2 and y is 5/2.
         for (k, expected) in [1.0, 1.5, 2.5, 2.25, 3.75, 6.25].into_iter().enumerate() {
             let point = mapping(k).point(1, 2, (0, 0)).unwrap();
-            assert_eq!(point.u.size().quotient(point.under.size()), expected);
-            assert_eq!(point.v, Integer::from(0));
+            let found = quotient(point.u.magnitude(), point.under.magnitude());
+            assert_eq!(found, expected);
+            assert_eq!(point.v, BigInt::from(0));
         }
         assert_eq!(powers(2.5).len(), 10);
         assert_eq!(powers(5.0).len(), 21);

@@ -1,5 +1,5 @@
-//! What a policy names at an index: a pixel of the picture or a colour. Written from document 01 and the Rust's words, in
-//! i128, so that nothing wraps but the mix of `Random`.
+//! What a policy names at an index: a pixel of the picture or a colour. Written from specification 8 and the Rust's
+//! words, in i128, so that nothing wraps but the mix of `Random`.
 
 /// A pixel by column and row, or a colour.
 #[derive(Clone, Copy, Debug, PartialEq, Eq)]

@@ -27,7 +27,7 @@ pub fn root(x: u64) -> u64 {
     tidy(f64::from_bits(x).sqrt().to_bits())
 }
 
-/// Repeated squaring as document 01 has it: x to the fifth is x times the square of the square.
+/// Repeated squaring as specification 4 has it: x to the fifth is x times the square of the square.
 pub fn powi(x: u64, n: u64) -> u64 {
     let x = f64::from_bits(x);
     let square = x * x;

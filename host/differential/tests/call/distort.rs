@@ -1,9 +1,10 @@
-//! The whole call against `DistortImage::distort` over document 01's domain, bit for bit: every method, policy,
-//! interpolation and channel count, viewport and bestfit, as asked, whole, and put together out of bands; the matte where
-//! the source point is unusable, and its count; refused jobs by the model of the table, with nothing written.
+//! The whole call against `DistortImage::distort` over the domain of specification 1.3, bit for bit: every method,
+//! policy, interpolation and channel count, viewport and bestfit, as asked, whole, and put together out of bands; the
+//! matte where the source point is unusable, and its count; refused jobs by the model of the table, with nothing
+//! written.
 //!
-//! 50,000 jobs: piece 0. With DIHYRAVO_FULL=1 pieces 0 to 99, five million jobs; DIHYRAVO_PIECES=7..20 runs those from 7
-//! up to 20 of them. A piece has a seed of its own.
+//! 50,000 jobs: piece 0. With DIHYRAVO_FULL=1 pieces 0 to 99, five million jobs; DIHYRAVO_PIECES=7..20 runs those from
+//! 7 up to 20 of them. A piece has a seed of its own.
 
 use crate::compiled;
 use differential::answer::parting;

@@ -102,7 +102,7 @@ fn by_the_window_and_the_band() {
     assert!(number(0..1, &mut [0.0; 57]).is_ok());
 }
 
-/// Document 01's words, in its order.
+/// The words of specification 2, in its order.
 #[test]
 fn words() {
     let words = [

@@ -1,29 +1,16 @@
-//! The name that was probably meant: the one that is the fewest edits away.
+//! The name that was probably meant: the one that is the fewest edits away. An edit puts in, takes out or changes a
+//! letter.
+
+use strsim::levenshtein;
 
 /// The nearest of the names, ASCII case ignored, if few enough letters differ.
 pub fn nearest<'a>(given: &str, names: &[&'a str]) -> Option<&'a str> {
     let given = given.to_ascii_lowercase();
     let (distance, name) = names
         .iter()
-        .map(|name| (edits(&given, &name.to_ascii_lowercase()), *name))
+        .map(|name| (levenshtein(&given, &name.to_ascii_lowercase()), *name))
         .min_by_key(|(d, _)| *d)?;
     (distance <= 1 + given.chars().count() / 4).then_some(name)
-}
-
-/// How many letters are to be put in, taken out or changed to turn a into b.
-fn edits(a: &str, b: &str) -> usize {
-    let b: Vec<char> = b.chars().collect();
-    let mut row: Vec<usize> = (0..=b.len()).collect();
-    for (i, from) in a.chars().enumerate() {
-        let mut corner = i;
-        row[0] = i + 1;
-        for (j, to) in b.iter().enumerate() {
-            let change = corner + usize::from(from != *to);
-            corner = row[j + 1];
-            row[j + 1] = change.min(row[j] + 1).min(corner + 1);
-        }
-    }
-    row[b.len()]
 }
 
 #[cfg(test)]
@@ -32,9 +19,9 @@ mod tests {
 
     #[test]
     fn edits_are_counted() {
-        assert_eq!(edits("kitten", "sitting"), 3);
-        assert_eq!(edits("", "abc"), 3);
-        assert_eq!(edits("abc", "abc"), 0);
+        assert_eq!(levenshtein("kitten", "sitting"), 3);
+        assert_eq!(levenshtein("", "abc"), 3);
+        assert_eq!(levenshtein("abc", "abc"), 0);
     }
 
     #[test]

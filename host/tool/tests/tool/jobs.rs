@@ -207,7 +207,8 @@ fn an_orientation_that_is_not_applied_is_noted() {
     };
     folder.run(words("plain.jpg")).good();
     let kept = folder.read("out.png");
-    let note = "the file's orientation is 6, which viewers apply and this program does not: numbers count on the picture as it is stored";
+    let note = "the file's orientation is 6, which viewers apply and this program does not: \
+        numbers count on the picture as it is stored";
     noted(&folder, &words("turned.jpg"), note);
     assert_eq!(folder.read("out.png"), kept);
 }
@@ -359,6 +360,9 @@ fn json_is_one_object_with_every_field() {
         out.starts_with(start) && out.contains(",\"seconds\":") && out.ends_with("}\n"),
         "{out}"
     );
+    let object: serde_json::Value = serde_json::from_str(out).expect("JSON");
+    assert_eq!(object["output"], "o\"ut.png");
+    assert!(object["distort_seconds"].as_f64() <= object["seconds"].as_f64());
 }
 
 #[test]

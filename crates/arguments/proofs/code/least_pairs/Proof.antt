@@ -1,5 +1,5 @@
--- `least_pairs` is its definition: where the code is known, the definition computes to what that method states; else every
--- test of it fails. Assumes nothing.
+-- `least_pairs` is its definition: where the code is known, the definition computes to what that method states; else
+-- every test of it fails. Assumes nothing.
 use borrow.Author.Needs.{needs}
 use borrow.Author.Tests.{ne-eqb}
 use Rattle.arguments.specs.Method.{leastPairs}
@@ -60,4 +60,5 @@ returns-11 c =
     )
 
 pub least-pairs-spec : {M : Type 1} → statement M
-least-pairs-spec = tie.close (tie.spec returns returns-2 returns-3 returns-4 (λ c κs. search needs) returns-5 returns-6 returns-7 returns-8 returns-9 returns-10 returns-11)
+least-pairs-spec = tie.close (tie.spec returns returns-2 returns-3 returns-4 (λ c κs. search needs) returns-5 returns-6
+    returns-7 returns-8 returns-9 returns-10 returns-11)

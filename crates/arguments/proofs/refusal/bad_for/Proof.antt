@@ -1,5 +1,5 @@
--- `bad_for` is its definition: where the method is known the definition computes to that method's test; else every test of the
--- method fails. Assumes nothing.
+-- `bad_for` is its definition: where the method is known the definition computes to that method's test; else every test
+-- of the method fails. Assumes nothing.
 use borrow.Author.Needs.{needs}
 use borrow.Author.Tests.{eq-eqb, ne-eqb}
 use Rattle.arguments.specs.Refusal.{badFor}

@@ -1,5 +1,5 @@
--- `bad_number` is its definition: before turn k every number passed is good; the first that is not decides, since no later
--- turn changes that. Assumes nothing.
+-- `bad_number` is its definition: before turn k every number passed is good; the first that is not decides, since no
+-- later turn changes that. Assumes nothing.
 use mathlib.Core.Path.{_≡_, refl, sym, ap, _∙_}
 use mathlib.Core.Bool.{true, false, not}
 use Prim.Native.Nat.{_+_, _-_, _*_, _≤_, zero-le}
@@ -24,11 +24,15 @@ loop-holds : tie.Need-loop-holds Inv-loop μ-loop
 loop-holds c = (upTo-none _ _ _, search needs)
 
 -- the number at hand is not good, or it is
-found : (c : tie.Then1 Inv-loop μ-loop) → false ≡ stillGood (now (c .before .before .before .before .before .before .args .arguments)) (c .before .before .before .loop .k) true
+found : (c : tie.Then1 Inv-loop μ-loop)
+    → false ≡ stillGood (now (c .before .before .before .before .before .before .args .arguments))
+    (c .before .before .before .loop .k) true
 unfolding stillGood goodNumber
 found c = sym (not-true _ (c .if1 .taken)) ∙ c .before .f64-within .ensures
 
-passed : (c : tie.Else1 Inv-loop μ-loop) → true ≡ stillGood (now (c .before .before .before .before .before .before .args .arguments)) (c .before .before .before .loop .k) true
+passed : (c : tie.Else1 Inv-loop μ-loop)
+    → true ≡ stillGood (now (c .before .before .before .before .before .before .args .arguments))
+    (c .before .before .before .loop .k) true
 unfolding stillGood goodNumber
 passed c = sym (not-false _ (c .if1 .left)) ∙ c .before .f64-within .ensures
 

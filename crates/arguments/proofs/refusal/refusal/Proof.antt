@@ -19,13 +19,16 @@ Rest k s x = x ≡ firstOf (drop k (refusals (s .args .method) (now (s .args .ar
 past-1 : (c : tie.Else1) {x : ℕ} → Rest 1 (c .before .before .before) x → Rest 0 (c .before .before .before) x
 past-1 c h = row-passed _ _ _ (ap not (sym (c .before .is-present .ensures)) ∙ c .if1 .left) h
 
-past-2 : (c : tie.Else2) {x : ℕ} → Rest 2 (c .before .before .before .before .before) x → Rest 0 (c .before .before .before .before .before) x
+past-2 : (c : tie.Else2) {x : ℕ} → Rest 2 (c .before .before .before .before .before) x
+    → Rest 0 (c .before .before .before .before .before) x
 past-2 c h = past-1 (c .before .before) (row-passed _ _ _ (sym (c .before .bad-count .ensures) ∙ c .if2 .left) h)
 
-past-3 : (c : tie.Else3) {x : ℕ} → Rest 3 (c .before .before .before .before .before .before .before) x → Rest 0 (c .before .before .before .before .before .before .before) x
+past-3 : (c : tie.Else3) {x : ℕ} → Rest 3 (c .before .before .before .before .before .before .before) x
+    → Rest 0 (c .before .before .before .before .before .before .before) x
 past-3 c h = past-2 (c .before .before) (row-passed _ _ _ (sym (c .before .bad-number .ensures) ∙ c .if3 .left) h)
 
-past-4 : (c : tie.Else4) {x : ℕ} → Rest 4 (c .before .before .before .before .before .before .before .before .before) x → Rest 0 (c .before .before .before .before .before .before .before .before .before) x
+past-4 : (c : tie.Else4) {x : ℕ} → Rest 4 (c .before .before .before .before .before .before .before .before .before) x
+    → Rest 0 (c .before .before .before .before .before .before .before .before .before) x
 past-4 c h = past-3 (c .before .before) (row-passed _ _ _ (sym (c .before .bad-order .ensures) ∙ c .if4 .left) h)
 
 returns : tie.Need-returns

@@ -32,7 +32,8 @@ loop-again c = (rw (c .f64-at .ensures) (upTo-next _ _ _ _ zero-le (c .before .b
 returns : tie.Need-returns Inv-loop μ-loop
 unfolding valuesOf zeros
 returns c = (
-  rw (← c .before .before .held-of .ensures) (upTo-last _ _ _ (c .before .loop .k) _ (search needs) (search needs) (c .before .loop .inv .0)),
+  rw (← c .before .before .held-of .ensures)
+      (upTo-last _ _ _ (c .before .loop .k) _ (search needs) (search needs) (c .before .loop .inv .0)),
   c .before .before .held-of .ensures,
 )
 

@@ -19,7 +19,12 @@ far-piece-requires-2 : tie.Need-far-piece-requires-2
 far-piece-requires-2 c κs = search needs
 
 returns : tie.Need-returns
-returns c = rw (c .before .before .before .far-piece .ensures, c .before .before .near-piece .ensures, c .before .near-piece2 .ensures, c .far-piece2 .ensures)
+returns c = rw (
+  c .before .before .before .far-piece .ensures,
+  c .before .before .near-piece .ensures,
+  c .before .near-piece2 .ensures,
+  c .far-piece2 .ensures,
+)
 
 pub middle-spec : {M : Type 1} → statement M
 middle-spec =

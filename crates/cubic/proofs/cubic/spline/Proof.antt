@@ -1,4 +1,5 @@
--- `cubic::cubic::spline` meets its contract: between a cell's ends the pieces are known, and at its ends the tests choose. Assumes nothing.
+-- `cubic::cubic::spline` meets its contract: between a cell's ends the pieces are known, and at its ends the tests
+-- choose. Assumes nothing.
 use Rattle.cubic.specs.Cubic.{zero, one}
 use Rattle.cubic.proofs.CubicCode.{middle-weights}
 use mathlib.Core.Path.{_≡_, refl, sym, ap, _∙_}
@@ -27,7 +28,11 @@ middle-requires : tie.Need-middle-requires
 middle-requires c κs = search needs
 
 returns : tie.Need-returns
-returns c = middle-weights one zero (c .before .before .before .before .before .before .before .args .t) _ _ _ _ _ (c .before .before .before .before .before .before .abs-f32 .ensures) (c .before .before .before .before .before .abs-f322 .ensures) (c .before .before .before .before .abs-f323 .ensures) (c .before .before .before .abs-f324 .ensures) (c .before .before .between .ensures) (c .before .if1 .taken) (c .middle .ensures)
+returns c = middle-weights one zero (c .before .before .before .before .before .before .before .args .t) _ _ _ _ _
+    (c .before .before .before .before .before .before .abs-f32 .ensures)
+    (c .before .before .before .before .before .abs-f322 .ensures)
+    (c .before .before .before .before .abs-f323 .ensures) (c .before .before .before .abs-f324 .ensures)
+    (c .before .before .between .ensures) (c .before .if1 .taken) (c .middle .ensures)
 
 cubic-weights-requires : tie.Need-cubic-weights-requires
 cubic-weights-requires c κs = search needs

@@ -1,4 +1,5 @@
--- `bad_number` is its definition: each way out is the test that it found; a picture that is fit can be counted. Assumes nothing.
+-- `bad_number` is its definition: each way out is the test that it found; a picture that is fit can be counted. Assumes
+-- nothing.
 use native.Mathlib.Omega.{arith}
 use borrow.Author.Needs.{needs}
 use Rattle.distort.specs.Refusal.{badNumber}
@@ -11,27 +12,47 @@ unfolding badNumber
 returns c = rw (← c .before .bad-number .ensures, c .if1 .taken)
 
 mul-large : tie.Need-mul-large
-mul-large c = omega (arith, counted _ _ _ (c .before .before .before .before .pre .0))
+mul-large c = omega (arith, counted _ _ _ (c .before .before .before .before .before .pre .0))
 
 mul-large-2 : tie.Need-mul-large-2
-mul-large-2 c = omega (arith, counted _ _ _ (c .before .before .before .before .pre .0))
+mul-large-2 c = omega (arith, counted _ _ _ (c .before .before .before .before .before .before .pre .0))
 
 large-requires : tie.Need-large-requires
-large-requires c κs = omega (arith, stock-whole _ (c .before .before .before .before .pre .1))
+large-requires c κs = omega (arith, stock-whole _ (c .before .before .before .before .before .before .pre .1))
 
 returns-2 : tie.Need-returns-2
 unfolding badNumber
-returns-2 c = rw (← c .before .before .before .bad-number .ensures, c .before .before .if1 .left, ← c .before .large .ensures, c .if2 .taken)
+returns-2 c = rw (
+  ← c .before .before .before .before .before .bad-number .ensures,
+  c .before .before .before .before
+      .if1 .left,
+  ← c .before .large .ensures,
+  c .if2 .taken,
+)
 
 returns-3 : tie.Need-returns-3
 unfolding badNumber
 returns-3 c =
-    rw (← c .before .before .before .before .before .before .bad-number .ensures, c .before .before .before .before .before .if1 .left, ← c .before .before .before .before .large .ensures, c .before .before .before .if2 .left, ← c .before .large2 .ensures, c .if3 .taken)
+    rw (
+      ← c .before .before .before .before .before .before .before .before .bad-number .ensures,
+      c .before .before .before .before .before .before .before .if1 .left,
+      ← c .before .before .before .before .large .ensures,
+      c .before .before .before .if2 .left,
+      ← c .before .large2 .ensures,
+      c .if3 .taken,
+    )
 
 returns-4 : tie.Need-returns-4
 unfolding badNumber
 returns-4 c =
-    rw (← c .before .before .before .before .before .before .before .before .bad-number .ensures, c .before .before .before .before .before .before .before .if1 .left, ← c .before .before .before .before .before .before .large .ensures, c .before .before .before .before .before .if2 .left, ← c .before .before .before .large2 .ensures, c .before .before .if3 .left)
+    rw (
+      ← c .before .before .before .before .before .before .before .before .before .before .bad-number .ensures,
+      c .before .before .before .before .before .before .before .before .before .if1 .left,
+      ← c .before .before .before .before .before .before .large .ensures,
+      c .before .before .before .before .before .if2 .left,
+      ← c .before .before .before .large2 .ensures,
+      c .before .before .if3 .left,
+    )
     (c .large3 .ensures)
 
 pub bad-number-spec : {M : Type 1} → statement M

@@ -7,13 +7,13 @@ use Rattle.distort.proofs.refusal.bad_stock.Statement.{statement}
 use Rattle.distort.proofs.refusal.bad_stock.Tie as tie
 
 mul-result : tie.Need-mul-result
-mul-result c = omega (arith, counted _ _ _ (c .pre))
+mul-result c = omega (arith, counted _ _ _ (c .before .pre))
 
 mul-result-2 : tie.Need-mul-result-2
-mul-result-2 c = omega (arith, counted _ _ _ (c .pre))
+mul-result-2 c = omega (arith, counted _ _ _ (c .before .before .pre))
 
 mul-result-3 : tie.Need-mul-result-3
-mul-result-3 c = omega (arith, counted _ _ _ (c .pre))
+mul-result-3 c = omega (arith, counted _ _ _ (c .before .before .pre))
 
 returns : tie.Need-returns
 unfolding badStock

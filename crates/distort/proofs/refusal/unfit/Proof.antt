@@ -7,7 +7,7 @@ use borrow.Author.Needs.{needs}
 use lib.ListN.{take, drop}
 use Rattle.exact.specs.Table.{firstOf}
 use Rattle.exact.proofs.TableLaws.{row-holds, row-passed, no-rows}
-use Rattle.distort.specs.Job.{imageOf, plainly}
+use Rattle.distort.specs.Job.{shapedImage, givenBy}
 use Rattle.distort.specs.Refusal.{ofJob, unfit}
 use Rattle.distort.proofs.refusal.unfit.Statement.{statement}
 use Rattle.distort.proofs.refusal.unfit.Tie as tie
@@ -15,24 +15,35 @@ use Rattle.distort.proofs.refusal.unfit.Tie as tie
 -- x is the answer of these rows from number k on
 abbrev Rest : ℕ → tie.Start → ℕ → Type 0
 Rest k s x =
-    x ≡ firstOf (drop k (take 7 (ofJob (imageOf (now (s .args .picture)) (s .args .width) (s .args .height) (s .args .channels)) (plainly (s .args .method) (now (s .args .arguments)) (s .args .policy) (s .args .interpolation) (now (s .args .background)) (now (s .args .matte))) [])))
+    x ≡ firstOf (drop k (take 7
+    (ofJob (shapedImage (now (s .args .picture)) (s .args .job .shape))
+    (givenBy (now (s .args .arguments)) (now (s .args .background)) (now (s .args .matte)) (s .args .job)) [])))
 
-past-1 : (c : tie.Else1) {x : ℕ} → Rest 1 (c .before .before .before .before) x → Rest 0 (c .before .before .before .before) x
+past-1 : (c : tie.Else1) {x : ℕ} → Rest 1 (c .before .before .before .before .before) x → Rest 0 (c .before .before
+    .before .before .before) x
 past-1 c h = row-passed _ _ _ (sym (c .before .bad-size .ensures) ∙ c .if1 .left) h
 
-past-2 : (c : tie.Else2) {x : ℕ} → Rest 2 (c .before .before .before .before .before .before) x → Rest 0 (c .before .before .before .before .before .before) x
+past-2 : (c : tie.Else2) {x : ℕ} → Rest 2 (c .before .before .before .before .before .before .before) x → Rest 0 (c
+    .before .before .before .before .before .before .before) x
 past-2 c h = past-1 (c .before .before) (row-passed _ _ _ (sym (c .before .bad-stock .ensures) ∙ c .if2 .left) h)
 
-past-3 : (c : tie.Else3) {x : ℕ} → Rest 3 (c .before .before .before .before .before .before .before .before) x → Rest 0 (c .before .before .before .before .before .before .before .before) x
+past-3 : (c : tie.Else3) {x : ℕ} → Rest 3 (c .before .before .before .before .before .before .before .before .before)
+    x → Rest 0 (c .before .before .before .before .before .before .before .before .before) x
 past-3 c h = past-2 (c .before .before) (row-passed _ _ _ (sym (c .before .bad-code .ensures) ∙ c .if3 .left) h)
 
-past-4 : (c : tie.Else4) {x : ℕ} → Rest 4 (c .before .before .before .before .before .before .before .before .before .before) x → Rest 0 (c .before .before .before .before .before .before .before .before .before .before) x
+past-4 : (c : tie.Else4) {x : ℕ} → Rest 4 (c .before .before .before .before .before .before .before .before .before
+    .before .before) x → Rest 0 (c .before .before .before .before .before .before .before .before .before .before
+    .before) x
 past-4 c h = past-3 (c .before .before) (row-passed _ _ _ (sym (c .before .bad-count .ensures) ∙ c .if4 .left) h)
 
-past-5 : (c : tie.Else5) {x : ℕ} → Rest 5 (c .before .before .before .before .before .before .before .before .before .before .before .before) x → Rest 0 (c .before .before .before .before .before .before .before .before .before .before .before .before) x
+past-5 : (c : tie.Else5) {x : ℕ} → Rest 5 (c .before .before .before .before .before .before .before .before .before
+    .before .before .before .before) x → Rest 0 (c .before .before .before .before .before .before .before .before
+    .before .before .before .before .before) x
 past-5 c h = past-4 (c .before .before) (row-passed _ _ _ (sym (c .before .bad-number .ensures) ∙ c .if5 .left) h)
 
-past-6 : (c : tie.Else6) {x : ℕ} → Rest 6 (c .before .before .before .before .before .before .before .before .before .before .before .before .before .before) x → Rest 0 (c .before .before .before .before .before .before .before .before .before .before .before .before .before .before) x
+past-6 : (c : tie.Else6) {x : ℕ} → Rest 6 (c .before .before .before .before .before .before .before .before .before
+    .before .before .before .before .before .before) x → Rest 0 (c .before .before .before .before .before .before
+    .before .before .before .before .before .before .before .before .before) x
 past-6 c h = past-5 (c .before .before) (row-passed _ _ _ (sym (c .before .bad-order .ensures) ∙ c .if6 .left) h)
 
 returns : tie.Need-returns
@@ -71,7 +82,11 @@ bad-stock-requires : tie.Need-bad-stock-requires
 bad-stock-requires c κs = sym (c .before .bad-size .ensures) ∙ c .if1 .left
 
 bad-number-requires : tie.Need-bad-number-requires
-bad-number-requires c κs = (sym (c .before .before .before .before .before .before .before .bad-size .ensures) ∙ c .before .before .before .before .before .before .if1 .left, sym (c .before .before .before .before .before .bad-stock .ensures) ∙ c .before .before .before .before .if2 .left)
+bad-number-requires c κs = (
+  sym (c .before .before .before .before .before .before .before .bad-size .ensures)
+      ∙ c .before .before .before .before .before .before .if1 .left,
+  sym (c .before .before .before .before .before .bad-stock .ensures) ∙ c .before .before .before .before .if2 .left,
+)
 
 pub unfit-spec : {M : Type 1} → statement M
 unfit-spec =

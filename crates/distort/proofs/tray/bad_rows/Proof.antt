@@ -1,4 +1,5 @@
--- `bad_rows` is its definition: where the first row is not beyond the height, what is left above it is compared. Assumes nothing.
+-- `bad_rows` is its definition: where the first row is not beyond the height, what is left above it is compared.
+-- Assumes nothing.
 use mathlib.Core.Path.{_≡_, refl, sym}
 use mathlib.Core.Bool.{Bool, true, false}
 use Prim.Native.Nat.{ℕ, _+_, _-_, _≤_, _<_}

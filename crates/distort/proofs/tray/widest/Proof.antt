@@ -14,11 +14,19 @@ returns-2 c = simp (ne-eqb _ _ (c .before .if1 .left), eq-eqb _ _ (c .if2 .taken
 
 returns-3 : tie.Need-returns-3
 unfolding widest
-returns-3 c = simp (ne-eqb _ _ (c .before .before .before .if1 .left), ne-eqb _ _ (c .before .before .if2 .left), c .if3 .taken)
+returns-3 c = simp (
+  ne-eqb _ _ (c .before .before .before .if1 .left),
+  ne-eqb _ _ (c .before .before .if2 .left),
+  c .if3 .taken,
+)
 
 returns-4 : tie.Need-returns-4
 unfolding widest
-returns-4 c = simp (ne-eqb _ _ (c .before .before .before .if1 .left), ne-eqb _ _ (c .before .before .if2 .left), c .if3 .left)
+returns-4 c = simp (
+  ne-eqb _ _ (c .before .before .before .if1 .left),
+  ne-eqb _ _ (c .before .before .if2 .left),
+  c .if3 .left,
+)
 
 pub widest-spec : {M : Type 1} → statement M
 widest-spec = tie.close (tie.spec returns returns-2 returns-3 returns-4)

@@ -1,5 +1,5 @@
--- `endian::pattern::bits_of_f64` meets its contract. What differs from itself is the NaN, whose pattern the code has as a
--- literal; any other float has a pattern of its own. Assumes nothing.
+-- `endian::pattern::bits_of_f64` meets its contract. What differs from itself is the NaN, whose pattern the code has as
+-- a literal; any other float has a pattern of its own. Assumes nothing.
 use mathlib.Core.Path.{sym}
 use lib.Ieee.{binary64}
 use Rattle.exact.proofs.FloatPatterns.{nan-bits}

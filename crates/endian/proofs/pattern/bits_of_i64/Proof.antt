@@ -1,5 +1,5 @@
--- `endian::pattern::bits_of_i64` meets its contract. A negative number is `negsuc k`, which is -1 - k; so the code's -1 - n
--- is k, and 2^64 - 1 - k are its bits. Assumes nothing.
+-- `endian::pattern::bits_of_i64` meets its contract. A negative number is `negsuc k`, which is -1 - k; so the code's -1
+-- - n is k, and 2^64 - 1 - k are its bits. Assumes nothing.
 use mathlib.Core.Path.{_≡_, refl, sym, ap, _∙_, subst}
 use mathlib.Core.Bool.{Bool, true, false, true≢false, cond}
 use Prim.Native.Nat.{ℕ, suc, _-_, _^_, _≤_, _<_}
@@ -20,7 +20,8 @@ abbrev rest : ℤ → ℤ
 rest z = negsuc 0 -ℤ toZ w64 (ofZ w64 z)
 
 minus-one : (k : ℕ) → negsuc 0 -ℤ negsuc k ≡ pos k
-minus-one k = ap (λ (t : Bool). cond t (negsuc (1 - suc (suc k))) (pos (suc k - 1))) (le-ltb (suc k) 1 (omega arith)) ∙ ap pos (less k)
+minus-one k = ap (λ (t : Bool). cond t (negsuc (1 - suc (suc k))) (pos (suc k - 1))) (le-ltb (suc k) 1 (omega arith))
+    ∙ ap pos (less k)
   where
     less : (k : ℕ) → suc k - 1 ≡ k
     less k = omega arith
@@ -46,7 +47,14 @@ negative z f h = go z f (ap (λ (y : ℤ). ltZ y (pos 0)) (sym (toZ-ofZ f)) ∙ 
     go (pos n) f h = absurd (zero-least n h)
     go (negsuc k) f h =
         let made : rest (negsuc k) ≡ pos k = ap (λ (y : ℤ). negsuc 0 -ℤ y) (toZ-ofZ f) ∙ minus-one k in
-        record { k = k; is = refl; small = f .sfits; made = made; again = ap (λ (y : ℤ). toZ w64 (ofZ w64 y)) made ∙ toZ-ofZ {w = w64} {z = pos k} (record { sfits = f .sfits }) }
+        record {
+          k = k;
+          is = refl;
+          small = f .sfits;
+          made = made;
+          again = ap (λ (y : ℤ). toZ w64 (ofZ w64 y)) made
+              ∙ toZ-ofZ {w = w64} {z = pos k} (record { sfits = f .sfits });
+        }
 
 taken : (c : tie.Then1) → Negative (c .before .args .n)
 taken c = negative (c .before .args .n) (c .before .fits .n) (c .if1 .taken)
@@ -56,10 +64,12 @@ sub-result c = subst (SFits w64) (sym (taken c .made)) (record { sfits = taken c
 
 cast-result : tie.Need-cast-result
 cast-result c =
-    subst (λ (y : ℤ). T (nonNeg y) × Fits w64 (natAbs y)) (sym (taken c .again)) (tt, record { fits = wider (taken c .k) (taken c .small) })
+    subst (λ (y : ℤ). T (nonNeg y) × Fits w64 (natAbs y)) (sym (taken c .again))
+    (tt, record { fits = wider (taken c .k) (taken c .small) })
 
 sub-result-2 : tie.Need-sub-result-2
-sub-result-2 c = subst (λ (y : ℤ). natAbs y ≤ 18446744073709551615) (sym (taken c .again)) (inside (taken c .k) (taken c .small))
+sub-result-2 c = subst (λ (y : ℤ). natAbs y ≤ 18446744073709551615) (sym (taken c .again))
+    (inside (taken c .k) (taken c .small))
   where
     inside : (k : ℕ) → k < 2 ^ 63 → k ≤ 18446744073709551615
     inside k h = omega arith
@@ -67,19 +77,23 @@ sub-result-2 c = subst (λ (y : ℤ). natAbs y ≤ 18446744073709551615) (sym (t
 returns : tie.Need-returns
 unfolding twosComplement
 returns c =
-    ap (λ (y : ℤ). 18446744073709551615 - natAbs y) (taken c .again) ∙ others (taken c .k) ∙ sym (ap twosComplement (taken c .is))
+    ap (λ (y : ℤ). 18446744073709551615 - natAbs y) (taken c .again) ∙ others (taken c .k)
+    ∙ sym (ap twosComplement (taken c .is))
   where
     others : (k : ℕ) → 18446744073709551615 - k ≡ 2 ^ 64 - suc k
     others k = omega arith
 
 -- a number from 0 on is its own magnitude
 from-zero : (z : ℤ) → SFits w64 z → ltZ (toZ w64 (ofZ w64 z)) (pos 0) ≡ false
-    → (T (nonNeg (toZ w64 (ofZ w64 z))) × Fits w64 (natAbs (toZ w64 (ofZ w64 z)))) × (natAbs (toZ w64 (ofZ w64 z)) ≡ twosComplement z)
+    → (T (nonNeg (toZ w64 (ofZ w64 z))) × Fits w64 (natAbs (toZ w64 (ofZ w64 z))))
+    × (natAbs (toZ w64 (ofZ w64 z)) ≡ twosComplement z)
 unfolding twosComplement
 from-zero z f h =
-    subst (λ (y : ℤ). (T (nonNeg y) × Fits w64 (natAbs y)) × (natAbs y ≡ twosComplement z)) (sym (toZ-ofZ f)) (go z f (ap (λ (y : ℤ). ltZ y (pos 0)) (sym (toZ-ofZ f)) ∙ h))
+    subst (λ (y : ℤ). (T (nonNeg y) × Fits w64 (natAbs y)) × (natAbs y ≡ twosComplement z)) (sym (toZ-ofZ f))
+    (go z f (ap (λ (y : ℤ). ltZ y (pos 0)) (sym (toZ-ofZ f)) ∙ h))
   where
-    go : (z : ℤ) → SFits w64 z → ltZ z (pos 0) ≡ false → (T (nonNeg z) × Fits w64 (natAbs z)) × (natAbs z ≡ twosComplement z)
+    go : (z : ℤ) → SFits w64 z → ltZ z (pos 0) ≡ false → (T (nonNeg z) × Fits w64 (natAbs z))
+        × (natAbs z ≡ twosComplement z)
     go (pos n) f h = ((tt, record { fits = wider n (f .sfits) }), refl)
     go (negsuc k) f h = absurd (true≢false h)
 

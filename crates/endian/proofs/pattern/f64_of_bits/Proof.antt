@@ -1,5 +1,5 @@
--- `endian::pattern::f64_of_bits` meets its contract. A pattern above the infinity's, its sign aside, is a NaN's, and so is
--- 0 / 0; any other may be made a float. Assumes nothing.
+-- `endian::pattern::f64_of_bits` meets its contract. A pattern above the infinity's, its sign aside, is a NaN's, and so
+-- is 0 / 0; any other may be made a float. Assumes nothing.
 use mathlib.Core.Path.{sym, _∙_}
 use lib.Ieee.{binary64}
 use Rattle.exact.proofs.Nan.{zero-by-zero}

@@ -13,14 +13,19 @@ returns c = rw (eq-eqb _ _ (c .before .if1 .taken)) (c .shift .ensures)
 
 returns-2 : tie.Need-returns-2
 unfolding affine
-returns-2 c = rw (ne-eqb _ _ (c .before .before .if1 .left), eq-eqb _ _ (c .before .if2 .taken)) (c .similarity .ensures)
+returns-2 c = rw (ne-eqb _ _ (c .before .before .if1 .left), eq-eqb _ _ (c .before .if2 .taken))
+    (c .similarity .ensures)
 
 fit-both-requires : tie.Need-fit-both-requires
 fit-both-requires c κs = (search needs, affine-terms _ (c .terms .ensures))
 
 returns-3 : tie.Need-returns-3
 unfolding affine
-returns-3 c = rw (ne-eqb _ _ (c .before .before .before .if1 .left), ne-eqb _ _ (c .before .before .if2 .left), ← c .before .terms .ensures) (c .fit-both .ensures)
+returns-3 c = rw (
+  ne-eqb _ _ (c .before .before .before .if1 .left),
+  ne-eqb _ _ (c .before .before .if2 .left),
+  ← c .before .terms .ensures,
+) (c .fit-both .ensures)
 
 pub affine-spec : {M : Type 1} → statement M
 affine-spec =

@@ -9,7 +9,8 @@ use Rattle.fit.proofs.affine.shift.Tie as tie
 
 returns : tie.Need-returns
 unfolding shift
-returns c = c .accepted .ensures ∙ ap fitted (c .before .mapping-of .ensures) ∙ ap (λ p. fitted (mapping affineKind 0 (shifted p))) (c .before .before .before .before .before .pair-at .ensures)
+returns c = c .accepted .ensures ∙ ap fitted (c .before .mapping-of .ensures)
+    ∙ ap (λ p. fitted (mapping affineKind 0 (shifted p))) (c .before .before .before .before .before .pair-at .ensures)
 
 pub shift-spec : {M : Type 1} → statement M
 shift-spec =

@@ -16,11 +16,17 @@ fit-twin-requires c κs = (search needs, affine-terms 2 (c .terms .ensures))
 
 returns : tie.Need-returns
 unfolding similarity
-returns c = rw (← c .before .before .before .before .terms .ensures, ← c .before .before .before .fit-twin .ensures) (none-8 _ _ (c .refused .ensures) (not-true _ (c .before .if1 .taken)))
+returns c = rw (← c .before .before .before .before .terms .ensures, ← c .before .before .before .fit-twin .ensures)
+    (none-8 _ _ (c .refused .ensures) (not-true _ (c .before .if1 .taken)))
 
 returns-2 : tie.Need-returns-2
 unfolding similarity
-returns-2 c = rw (← c .before .before .before .before .before .before .before .terms .ensures, ← c .before .before .before .before .before .before .fit-twin .ensures) (some-8 _ _ (c .accepted .ensures ∙ ap fitted (c .before .mapping-of .ensures)) (not-false _ (c .before .before .before .before .if1 .left)))
+returns-2 c = rw (
+  ← c .before .before .before .before .before .before .before .terms .ensures,
+  ← c .before .before .before .before .before .before .fit-twin .ensures,
+)
+    (some-8 _ _ (c .accepted .ensures ∙ ap fitted (c .before .mapping-of .ensures))
+    (not-false _ (c .before .before .before .before .if1 .left)))
 
 pub similarity-spec : {M : Type 1} → statement M
 similarity-spec =

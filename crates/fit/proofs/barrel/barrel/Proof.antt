@@ -9,7 +9,13 @@ use Rattle.fit.proofs.barrel.barrel.Tie as tie
 
 returns : tie.Need-returns
 unfolding barrel
-returns c = c .accepted .ensures ∙ ap fitted (c .before .mapping-of .ensures) ∙ rw (c .before .before .before .before .before .before .given-or .ensures, c .before .before .before .before .before .given-or2 .ensures, c .before .before .before .before .given-or3 .ensures, c .before .before .before .min .ensures)
+returns c = c .accepted .ensures ∙ ap fitted (c .before .mapping-of .ensures)
+    ∙ rw (
+      c .before .before .before .before .before .before .given-or .ensures,
+      c .before .before .before .before .before .given-or2 .ensures,
+      c .before .before .before .before .given-or3 .ensures,
+      c .before .before .before .min .ensures,
+    )
 
 pub barrel-spec : {M : Type 1} → statement M
 barrel-spec =

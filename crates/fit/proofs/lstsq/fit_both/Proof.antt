@@ -10,13 +10,26 @@ use Rattle.fit.proofs.lstsq.fit_both.Statement.{statement}
 use Rattle.fit.proofs.lstsq.fit_both.Tie as tie
 
 returns : tie.Need-returns
-returns c = rw (← c .before .before .before .fit-one .ensures) (both-first _ _ _ _ _ (c .refused .ensures) (not-true _ (c .before .if1 .taken)))
+returns c = rw (← c .before .before .before .fit-one .ensures)
+    (both-first _ _ _ _ _ (c .refused .ensures) (not-true _ (c .before .if1 .taken)))
 
 returns-2 : tie.Need-returns-2
-returns-2 c = rw (← c .before .before .before .before .before .before .fit-one .ensures, ← c .before .before .before .fit-one2 .ensures) (both-second _ _ _ _ _ (c .refused2 .ensures) (not-false _ (c .before .before .before .before .if1 .left)) (not-true _ (c .before .if2 .taken)))
+returns-2 c = rw (
+  ← c .before .before .before .before .before .before .fit-one .ensures,
+  ← c .before .before .before .fit-one2 .ensures,
+)
+    (both-second _ _ _ _ _ (c .refused2 .ensures) (not-false _ (c .before .before .before .before .if1 .left))
+    (not-true _ (c .before .if2 .taken)))
 
 returns-3 : tie.Need-returns-3
-returns-3 c = rw (← c .before .before .before .before .before .before .before .before .before .before .before .fit-one .ensures, ← c .before .before .before .before .before .before .before .before .fit-one2 .ensures) (both-found _ _ _ _ _ (c .accepted .ensures ∙ ap fitted (c .before .mapping-of-two .ensures)) (not-false _ (c .before .before .before .before .before .before .before .before .before .if1 .left)) (not-false _ (c .before .before .before .before .before .before .if2 .left)))
+returns-3 c = rw (
+  ← c .before .before .before .before .before .before .before .before .before .before
+      .before .fit-one .ensures,
+  ← c .before .before .before .before .before .before .before .before .fit-one2 .ensures,
+)
+    (both-found _ _ _ _ _ (c .accepted .ensures ∙ ap fitted (c .before .mapping-of-two .ensures))
+    (not-false _ (c .before .before .before .before .before .before .before .before .before .if1 .left))
+    (not-false _ (c .before .before .before .before .before .before .if2 .left)))
 
 pub fit-both-spec : {M : Type 1} → statement M
 fit-both-spec =

@@ -1,5 +1,6 @@
--- `fit::perspective::mean` meets its contract. The loop's invariant: the sum is the definition's after j pairs. Assumes nothing.
-use Rattle.matrix.specs.Matrix.{nought}
+-- `fit::perspective::mean` meets its contract. The loop's invariant: the sum is the definition's after j pairs. Assumes
+-- nothing.
+use Rattle.linear.specs.Matrix.{nought}
 use Rattle.fit.specs.Perspective.{addPart}
 use Rattle.exact.proofs.Loop.{upTo-none, upTo-next, upTo-last}
 use Rattle.exact.specs.Loop.{upTo}
@@ -20,7 +21,15 @@ loop-holds c = (upTo-none _ _ _, search needs)
 
 loop-again : tie.Need-loop-again Inv-loop μ-loop
 unfolding addPart
-loop-again c = (rw (c .side-of .ensures, c .before .pair-at .ensures, c .before .before .before .before .nearest-u64-to-f64 .ensures) (upTo-next _ _ _ _ (search needs) (c .before .before .before .loop .inv .0)), search needs)
+loop-again c = (
+  rw (
+    c .side-of .ensures,
+    c .before .pair-at .ensures,
+    c .before .before .before .before .nearest-u64-to-f64 .ensures,
+  )
+      (upTo-next _ _ _ _ (search needs) (c .before .before .before .loop .inv .0)),
+  search needs,
+)
 
 returns : tie.Need-returns Inv-loop μ-loop
 returns c = upTo-last _ _ _ _ _ (search needs) (search needs) (c .before .loop .inv .0)

@@ -1,5 +1,5 @@
--- `fit::perspective::perspective` meets its contract: each way out is the case of the solution that was or was not found.
--- Assumes nothing.
+-- `fit::perspective::perspective` meets its contract: each way out is the case of the solution that was or was not
+-- found. Assumes nothing.
 use Rattle.fit.specs.Perspective.{perspective}
 use Rattle.fit.proofs.FitLaws.{none-8, some-8}
 use borrow.Author.Tests.{not-true, not-false}
@@ -12,11 +12,20 @@ use Rattle.fit.proofs.perspective.perspective.Tie as tie
 
 returns : tie.Need-returns
 unfolding perspective
-returns c = rw (← c .before .before .before .fit-twin .ensures) (none-8 _ _ (c .refused .ensures) (not-true _ (c .before .if1 .taken)))
+returns c = rw (← c .before .before .before .fit-twin .ensures)
+    (none-8 _ _ (c .refused .ensures) (not-true _ (c .before .if1 .taken)))
 
 returns-2 : tie.Need-returns-2
 unfolding perspective
-returns-2 c = rw (← c .before .before .before .before .before .before .before .before .before .fit-twin .ensures, ← c .before .before .before .before .before .mean .ensures, ← c .before .before .before .before .mean2 .ensures) (some-8 _ _ (c .accepted .ensures ∙ ap fitted (c .before .mapping-of .ensures ∙ ap (mapping perspectiveKind 0) (c .before .before .before .orient .ensures))) (not-false _ (c .before .before .before .before .before .before .before .if1 .left)))
+returns-2 c = rw (
+  ← c .before .before .before .before .before .before .before .before .before .fit-twin .ensures,
+  ← c .before .before .before .before .before .mean .ensures,
+  ← c .before .before .before .before .mean2 .ensures,
+)
+    (some-8 _ _ (c .accepted .ensures
+    ∙ ap fitted (c .before .mapping-of .ensures
+    ∙ ap (mapping perspectiveKind 0) (c .before .before .before .orient .ensures)))
+    (not-false _ (c .before .before .before .before .before .before .before .if1 .left)))
 
 pub perspective-spec : {M : Type 1} → statement M
 perspective-spec =

@@ -7,7 +7,12 @@ use Rattle.inverse.proofs.barrel.barrel.Tie as tie
 returns : tie.Need-returns
 returns c =
     let d = c .before .before .before in
-    c .barrel-from .ensures ∙ rw (c .before .root .ensures, c .before .before .square .ensures, d .down .ensures, d .before .across .ensures)
+    c .barrel-from .ensures ∙ rw (
+      c .before .root .ensures,
+      c .before .before .radius-squared .ensures,
+      d .down .ensures,
+      d .before .across .ensures,
+    )
 
 pub barrel-spec : {M : Type 1} → statement M
 barrel-spec =

@@ -1,4 +1,5 @@
--- `inverse::polynomial::dots` meets its contract. The loop's invariant: u and v are the sums of the terms passed. Assumes nothing.
+-- `inverse::polynomial::dots` meets its contract. The loop's invariant: u and v are the sums of the terms passed.
+-- Assumes nothing.
 use mathlib.Core.Path.{_≡_, _∙_}
 use Prim.Native.Nat.{_-_, _≤_}
 use borrow.Author.Needs.{needs}
@@ -19,8 +20,10 @@ loop-holds c = (upTo-none _ _ _, (upTo-none _ _ _, search needs))
 
 loop-again : tie.Need-loop-again Inv-loop μ-loop
 loop-again c =
-    let head = c .before .before .before .before .before in
-    (upTo-next _ _ _ (head .loop .k) (search needs) (head .loop .inv .0), (upTo-next _ _ _ (head .loop .k) (search needs) (head .loop .inv .1 .0), search needs))
+    let head = c .before .before .before .before .before in (
+      upTo-next _ _ _ (head .loop .k) (search needs) (head .loop .inv .0),
+      (upTo-next _ _ _ (head .loop .k) (search needs) (head .loop .inv .1 .0), search needs),
+    )
 
 returns : tie.Need-returns Inv-loop μ-loop
 returns c =

@@ -1,5 +1,5 @@
--- `inverse::polynomial::terms` meets its contract: each way out is a case of the definition, and after all the tests the order is above 4.
--- Assumes nothing.
+-- `inverse::polynomial::terms` meets its contract: each way out is a case of the definition, and after all the tests
+-- the order is above 4. Assumes nothing.
 use mathlib.Core.Path.{_≡_, refl}
 use Prim.Native.Nat.{ℕ, zero, suc}
 use Rattle.inverse.specs.Polynomial.{terms}
@@ -26,7 +26,8 @@ returns-5 : tie.Need-returns-5
 unfolding terms
 returns-5 c = rw (c .if5 .taken)
 
-many : (order : ℕ) → (order ≡ 0 → ⊥) → (order ≡ 1 → ⊥) → (order ≡ 2 → ⊥) → (order ≡ 3 → ⊥) → (order ≡ 4 → ⊥) → 21 ≡ terms order
+many : (order : ℕ) → (order ≡ 0 → ⊥) → (order ≡ 1 → ⊥) → (order ≡ 2 → ⊥) → (order ≡ 3 → ⊥) → (order ≡ 4 → ⊥)
+    → 21 ≡ terms order
 unfolding terms
 many zero a b c d e = absurd (a refl)
 many (suc zero) a b c d e = absurd (b refl)
@@ -36,7 +37,8 @@ many (suc (suc (suc (suc zero)))) a b c d e = absurd (e refl)
 many (suc (suc (suc (suc (suc n))))) a b c d e = refl
 
 returns-6 : tie.Need-returns-6
-returns-6 c = many _ (c .before .before .before .before .if1 .left) (c .before .before .before .if2 .left) (c .before .before .if3 .left) (c .before .if4 .left) (c .if5 .left)
+returns-6 c = many _ (c .before .before .before .before .if1 .left) (c .before .before .before .if2 .left)
+    (c .before .before .if3 .left) (c .before .if4 .left) (c .if5 .left)
 
 pub terms-spec : {M : Type 1} → statement M
 terms-spec = tie.close (tie.spec returns returns-2 returns-3 returns-4 returns-5 returns-6)

@@ -1,4 +1,5 @@
--- `inverse::source::inverse` meets its contract: each way out is the case of the definition whose kind the test found. Assumes nothing.
+-- `inverse::source::inverse` meets its contract: each way out is the case of the definition whose kind the test found.
+-- Assumes nothing.
 use mathlib.Core.Path.{_∙_}
 use borrow.Author.Needs.{needs}
 use borrow.Author.Tests.{ne-eqb}

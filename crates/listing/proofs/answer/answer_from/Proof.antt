@@ -1,5 +1,5 @@
--- `listing::answer::answer_from` meets its contract: each case of the outcome is that of the definition, and the arguments of a text that
--- is accepted lie within the bytes. Assumes nothing.
+-- `listing::answer::answer_from` meets its contract: each case of the outcome is that of the definition, and the
+-- arguments of a text that is accepted lie within the bytes. Assumes nothing.
 use Prim.Native.Nat.{_≤_}
 use mathlib.Core.Path.{sym, subst, _∙_}
 use native.Mathlib.Omega.{arith}
@@ -14,7 +14,8 @@ use Rattle.listing.proofs.answer.answer_from.Tie as tie
 slice-aggregate-fit-pairs : tie.Need-slice-aggregate-fit-pairs
 slice-aggregate-fit-pairs c =
     let e = sym (c .before .before .before .before .finish .ensures) ∙ c .before .before .end2 .given .1 in
-    let h : c .before .before .end2 .given .0 .0 ≤ 2048 = subst (AtMost 2048) e (finish-at-most (c .before .before .before .before .before .before .args .s)) in
+    let h : c .before .before .end2 .given .0 .0 ≤ 2048 =
+    subst (AtMost 2048) e (finish-at-most (c .before .before .before .before .before .before .args .s)) in
     simp length-take (omega (arith, c .before .before .before .before .before .before .pre))
 
 returns : tie.Need-returns
@@ -25,7 +26,8 @@ returns c =
 
 returns-2 : tie.Need-returns-2
 unfolding answerText outcomeText
-returns-2 c = rw (sym (c .before .before .before .before .before .before .finish .ensures) ∙ c .before .before .before .before .end2 .given .1) (c .fit-pairs .ensures)
+returns-2 c = rw (sym (c .before .before .before .before .before .before .finish .ensures)
+    ∙ c .before .before .before .before .end2 .given .1) (c .fit-pairs .ensures)
 
 pub answer-from-spec : {M : Type 1} → statement M
 answer-from-spec =

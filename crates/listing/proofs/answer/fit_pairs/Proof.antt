@@ -16,8 +16,12 @@ returns c =
 returns-2 : tie.Need-returns-2
 unfolding fitText fittedText
 returns-2 c =
-    rw (← c .before .before .before .before .before .before .build .ensures, eq-eqb _ _ (c .before .before .before .before .before .if1 .left))
+    rw (
+      ← c .before .before .before .before .before .before .build .ensures,
+      eq-eqb _ _ (c .before .before .before .before .before .if1 .left),
+    )
     (c .listing .ensures .0 ∙ sym (listing-length _), c .listing .ensures .1)
 
 pub fit-pairs-spec : {M : Type 1} → statement M
-fit-pairs-spec = tie.close (tie.spec (λ c κs. search needs) (λ c κs. search needs) returns (λ c κs. search needs) returns-2)
+fit-pairs-spec = tie.close (tie.spec (λ c κs. search needs) (λ c κs. search needs) returns (λ c κs. search needs)
+    returns-2)

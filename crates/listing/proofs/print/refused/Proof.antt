@@ -1,4 +1,5 @@
--- `listing::print::refused` meets its contract: the word and the two stores after it are the refusal's text. Assumes nothing.
+-- `listing::print::refused` meets its contract: the word and the two stores after it are the refusal's text. Assumes
+-- nothing.
 use mathlib.Core.Path.{refl}
 use borrow.Author.Needs.{needs}
 use Rattle.listing.specs.Print.{put, refusedText}
@@ -7,7 +8,7 @@ use Rattle.listing.proofs.print.refused.Tie as tie
 
 returns : tie.Need-returns
 unfolding put refusedText
-returns c = rw (c .put-text .ensures .0, c .put-text .ensures .1) (refl, refl)
+returns c = rw (c .store-text .ensures .0, c .store-text .ensures .1) (refl, refl)
 
 pub refused-spec : {M : Type 1} → statement M
 refused-spec =

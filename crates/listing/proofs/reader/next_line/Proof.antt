@@ -1,4 +1,5 @@
--- `listing::reader::next_line` meets its contract. Each way out is what the definition picks where its tests are as the code found them. Assumes nothing.
+-- `listing::reader::next_line` meets its contract. Each way out is what the definition picks where its tests are as the
+-- code found them. Assumes nothing.
 use borrow.Author.Tests.{eq-eqb, ne-eqb}
 use borrow.Author.Needs.{needs}
 use Rattle.listing.specs.Reader.{nextLine}

@@ -1,4 +1,5 @@
--- `listing::take::is_large` meets its contract. Each way out is what the definition picks where its tests are as the code found them. Assumes nothing.
+-- `listing::take::is_large` meets its contract. Each way out is what the definition picks where its tests are as the
+-- code found them. Assumes nothing.
 use borrow.Author.Tests.{lt-ltb, le-ltb}
 use Rattle.listing.specs.Reader.{isLarge}
 use Rattle.listing.proofs.take.is_large.Statement.{statement}

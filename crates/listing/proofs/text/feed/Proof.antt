@@ -1,5 +1,5 @@
--- `listing::text::feed` meets its contract. The invariant: what is left of the chunk leads from here to where the whole chunk leads
--- from the start; the measure is what is left of the length. Assumes nothing.
+-- `listing::text::feed` meets its contract. The invariant: what is left of the chunk leads from here to where the whole
+-- chunk leads from the start; the measure is what is left of the length. Assumes nothing.
 use mathlib.Core.Path.{_≡_, refl, sym, ap, _∙_}
 use Prim.Native.Nat.{_+_, _-_, _≤_}
 use native.Mathlib.Omega.{arith}
@@ -24,7 +24,8 @@ loop-again : tie.Need-loop-again Inv-loop μ-loop
 loop-again c =
     let l = c .before .before .before .before .loop in
     let chunk = c .before .before .before .before .before .before .args .chunk .now in (
-      ap (λ (t : State). fed t (drop (l .k + 1) chunk)) (c .step .ensures) ∙ sym (fed-next _ chunk (l .k) (omega arith)) ∙ l .inv .0,
+      ap (λ (t : State). fed t (drop (l .k + 1) chunk)) (c .step .ensures)
+          ∙ sym (fed-next _ chunk (l .k) (omega arith)) ∙ l .inv .0,
       search needs,
     )
 

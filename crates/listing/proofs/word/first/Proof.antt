@@ -1,4 +1,5 @@
--- `listing::word::first` meets its contract. Each way out is what the definition picks where its tests are as the code found them. Assumes nothing.
+-- `listing::word::first` meets its contract. Each way out is what the definition picks where its tests are as the code
+-- found them. Assumes nothing.
 use borrow.Author.Tests.{eq-eqb, ne-eqb, lt-ltb, le-ltb}
 use borrow.Author.Needs.{needs}
 use Rattle.listing.specs.Word.{first}
@@ -15,7 +16,11 @@ returns-2 c = rw (← c .before .name-of .ensures, ne-eqb _ _ (c .before .before
 
 returns-3 : tie.Need-returns-3
 unfolding first
-returns-3 c = rw (← c .before .before .name-of .ensures, ne-eqb _ _ (c .before .before .before .if1 .left), le-ltb _ _ (c .before .if2 .left)) (c .digit .ensures)
+returns-3 c = rw (
+  ← c .before .before .name-of .ensures,
+  ne-eqb _ _ (c .before .before .before .if1 .left),
+  le-ltb _ _ (c .before .if2 .left),
+) (c .digit .ensures)
 
 pub first-spec : {M : Type 1} → statement M
 first-spec = tie.close (tie.spec returns (λ c κs. search needs) returns-2 (λ c κs. search needs) returns-3)

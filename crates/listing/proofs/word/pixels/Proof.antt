@@ -1,4 +1,5 @@
--- `listing::word::pixels` meets its contract. Each way out is what the definition picks where its tests are as the code found them. Assumes nothing.
+-- `listing::word::pixels` meets its contract. Each way out is what the definition picks where its tests are as the code
+-- found them. Assumes nothing.
 use borrow.Author.Needs.{needs}
 use Rattle.listing.specs.Word.{pixels}
 use Rattle.listing.proofs.word.pixels.Statement.{statement}

@@ -17,10 +17,16 @@ loop-holds : tie.Need-loop-holds Inv-loop μ-loop
 loop-holds c = (paste-zero (c .args .coef .now) (c .args .start) (c .args .xs .now), search needs)
 
 loop-again : tie.Need-loop-again Inv-loop μ-loop
-loop-again c = (paste-next (c .before .before .before .args .coef .now) _ (c .before .before .before .args .xs .now) _ (search needs) (search needs) (c .before .before .loop .inv .0), search needs)
+loop-again c = (
+  paste-next (c .before .before .before .args .coef .now) _ (c .before .before .before .args .xs .now) _
+      (search needs) (search needs) (c .before .before .loop .inv .0),
+  search needs,
+)
 
 returns : tie.Need-returns Inv-loop μ-loop
-returns c = c .before .loop .inv .0 ∙ ap (λ (j : ℕ). paste (c .before .before .args .coef .now) (c .before .before .args .start) (c .before .before .args .xs .now) j) {x = c .before .loop .k} {y = c .before .before .args .n} (search needs)
+returns c = c .before .loop .inv .0
+    ∙ ap (λ (j : ℕ). paste (c .before .before .args .coef .now) (c .before .before .args .start)
+    (c .before .before .args .xs .now) j) {x = c .before .loop .k} {y = c .before .before .args .n} (search needs)
 
 pub lay-spec : {M : Type 1} → statement M
 lay-spec =

@@ -1,4 +1,5 @@
--- `mappings::mapping::mapping_of_first` meets its contract: the copy into the blank array is the padded list. Assumes nothing.
+-- `mappings::mapping::mapping_of_first` meets its contract: the copy into the blank array is the padded list. Assumes
+-- nothing.
 use Rattle.mappings.proofs.MappingLaws.{mapping-one}
 use Prim.Native.Nat.{_-_}
 use borrow.Author.Needs.{needs}

@@ -1,5 +1,5 @@
--- `names::same_name` meets its contract. The invariant: the two are the same where what is left of them from `i` on is; the measure is
--- what is left of the length. Assumes nothing.
+-- `names::same_name` meets its contract. The invariant: the two are the same where what is left of them from `i` on is;
+-- the measure is what is left of the length. Assumes nothing.
 use mathlib.Core.Path.{_≡_, sym, _∙_}
 use Prim.Native.Nat.{_-_, _≤_}
 use native.Mathlib.Omega.{arith}
@@ -12,7 +12,8 @@ use Rattle.names.proofs.letters.same_name.Tie as tie
 
 abbrev Inv-loop : tie.InvT-loop
 Inv-loop s name i₀ i-end i =
-    (sameName s name ≡ sameName (drop i s) (drop i name)) × ((i ≤ length s) × ((length s ≡ length name) × (i-end ≡ length s)))
+    (sameName s name ≡ sameName (drop i s) (drop i name))
+    × ((i ≤ length s) × ((length s ≡ length name) × (i-end ≡ length s)))
 
 abbrev μ-loop : tie.MeasureT-loop
 μ-loop s name i₀ i-end i = length s - i
@@ -23,12 +24,16 @@ returns c = sym (same-length _ _ (c .if1 .taken))
 returns-2 : tie.Need-returns-2 Inv-loop μ-loop
 returns-2 c =
     let l = c .before .before .before .before .before .loop in
-    sym (l .inv .0 ∙ same-unlike _ _ (l .i) (omega arith) (omega arith) (λ e. c .if2 .taken (c .before .before .to-ascii-lowercase .ensures ∙ e)))
+    sym (l .inv .0 ∙ same-unlike _ _ (l .i) (omega arith) (omega arith)
+    (λ e. c .if2 .taken (c .before .before .to-ascii-lowercase .ensures ∙ e)))
 
 loop-again : tie.Need-loop-again Inv-loop μ-loop
 loop-again c =
-    let l = c .before .before .before .before .before .loop in
-    (l .inv .0 ∙ same-next _ _ (l .i) (omega arith) (omega arith) (sym (c .before .before .to-ascii-lowercase .ensures) ∙ c .if2 .left), search needs)
+    let l = c .before .before .before .before .before .loop in (
+      l .inv .0 ∙ same-next _ _ (l .i) (omega arith) (omega arith) (sym (c .before .before .to-ascii-lowercase .ensures)
+          ∙ c .if2 .left),
+      search needs,
+    )
 
 returns-3 : tie.Need-returns-3 Inv-loop μ-loop
 returns-3 c =

@@ -1,5 +1,5 @@
--- `names::table::find` meets its contract. The invariant: the whole table's answer is that of the entries that are left at `k`, in a
--- name that started at `from`; the measure is what is left of the text. Assumes nothing.
+-- `names::table::find` meets its contract. The invariant: the whole table's answer is that of the entries that are left
+-- at `k`, in a name that started at `from`; the measure is what is left of the text. Assumes nothing.
 use mathlib.Core.Path.{_≡_, sym, _∙_}
 use Prim.Native.Nat.{_-_, _≤_}
 use native.Mathlib.Omega.{arith}
@@ -14,7 +14,8 @@ use Rattle.names.proofs.table.find.Tie as tie
 
 abbrev Inv-loop : tie.InvT-loop
 Inv-loop s text from₀ code₀ k₀ k-end from code k =
-    (lookup (entries text) s ≡ lookup (left text from code k) s) × ((from ≤ k) × ((k ≤ length text) × ((code ≤ k) × (k-end ≡ length text))))
+    (lookup (entries text) s ≡ lookup (left text from code k) s)
+    × ((from ≤ k) × ((k ≤ length text) × ((code ≤ k) × (k-end ≡ length text))))
 
 abbrev μ-loop : tie.MeasureT-loop
 μ-loop s text from₀ code₀ k₀ k-end from code k = length text - k
@@ -38,11 +39,15 @@ loop-again c =
     (λ w. (
       rw (w .5, w .6, w .4 .ensures)
           (l .inv .0
-          ∙ passed _ _ _ _ (l .inv .1 .0) (omega arith) _ (sym (c .before .ends-name .ensures) ∙ w .0 .taken) (sym (w .2 .ensures) ∙ w .3 .left)),
+          ∙ passed _ _ _ _ (l .inv .1 .0) (omega arith) _ (sym (c .before .ends-name .ensures) ∙ w .0 .taken)
+          (sym (w .2 .ensures) ∙ w .3 .left)),
       omega (arith, next-code-le _ _ _ (w .4 .ensures)),
     ))
-    (λ w.
-    (rw (w .1, w .2) (l .inv .0 ∙ inside _ _ _ _ (l .inv .1 .0) (omega arith) _ (sym (c .before .ends-name .ensures) ∙ w .0 .left)), search needs))
+    (λ w. (
+      rw (w .1, w .2) (l .inv .0 ∙ inside _ _ _ _ (l .inv .1 .0) (omega arith) _ (sym (c .before .ends-name .ensures)
+          ∙ w .0 .left)),
+      search needs,
+    ))
     (c .if1 .came)
 
 returns-2 : tie.Need-returns-2 Inv-loop μ-loop

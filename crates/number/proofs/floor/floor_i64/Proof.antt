@@ -10,10 +10,13 @@ in-domain-requires : tie.Need-in-domain-requires
 in-domain-requires c κs = search needs
 
 returns : tie.Need-returns
-returns c = sym (floor-integer-out (c .before .before .args .x) (outside (c .before .before .args .x) (c .before .in-domain .result) (c .before .in-domain .ensures) (c .if1 .taken)))
+returns c = sym (floor-integer-out (c .before .before .args .x)
+    (outside (c .before .before .args .x) (c .before .in-domain .result) (c .before .in-domain .ensures)
+    (c .if1 .taken)))
 
 floor-i64-within-requires : tie.Need-floor-i64-within-requires
-floor-i64-within-requires c κs = inside (c .before .before .args .x) (c .before .in-domain .result) (c .before .in-domain .ensures) (c .if1 .left)
+floor-i64-within-requires c κs =
+    inside (c .before .before .args .x) (c .before .in-domain .result) (c .before .in-domain .ensures) (c .if1 .left)
 
 returns-2 : tie.Need-returns-2
 returns-2 c = search needs

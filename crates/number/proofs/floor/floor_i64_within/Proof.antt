@@ -1,5 +1,5 @@
--- `number::floor::floor_i64_within` meets its contract: the floor is a whole number of at most 31 digits, so that its float casts to it.
--- Assumes nothing.
+-- `number::floor::floor_i64_within` meets its contract: the floor is a whole number of at most 31 digits, so that its
+-- float casts to it. Assumes nothing.
 use mathlib.Core.Path.{_≡_, sym, ap, _∙_, subst}
 use Prim.Native.Nat.{_^_, _≤_, _<_}
 use native.Mathlib.Nat.{le-refl, le-suc, le-trans, lt-of-le-of-lt}
@@ -27,19 +27,23 @@ module _ (x f : Float) (e : f ≡ ofInt binary64 (floorℤ x)) (d : T (inDomain 
   word = lt-of-le-of-lt (le-trans (mag-le (floorℤ x)) (floor-size x d)) (lit< tt)
 
   back : T (inSigned binary64 63 f) × (toSigned 63 f ≡ floorℤ x)
-  back = subst (λ (y : Float). T (inSigned binary64 63 y) × (toSigned 63 y ≡ floorℤ x)) (sym e) (ofInt-back binary64 63 (floorℤ x) (floor-counted x d) word)
+  back = subst (λ (y : Float). T (inSigned binary64 63 y) × (toSigned 63 y ≡ floorℤ x)) (sym e)
+      (ofInt-back binary64 63 (floorℤ x) (floor-counted x d) word)
 
   answer : toZ w64 (ofZ w64 (toSigned 63 f)) ≡ floorI64 x
-  answer = ap (λ (z : ℤ). toZ w64 (ofZ w64 z)) (back .1) ∙ toZ-ofZ w64 (floorℤ x) (record { sfits = word }) ∙ sym (floor-integer x d)
+  answer = ap (λ (z : ℤ). toZ w64 (ofZ w64 z)) (back .1) ∙ toZ-ofZ w64 (floorℤ x) (record { sfits = word })
+      ∙ sym (floor-integer x d)
 
 whole-below-requires : tie.Need-whole-below-requires
 whole-below-requires c κs = search needs
 
 float-to-int-result : tie.Need-float-to-int-result
-float-to-int-result c = back (c .before .before .args .x) (c .before .whole-below .result) (c .before .whole-below .ensures) (c .before .before .pre) .0
+float-to-int-result c = back (c .before .before .args .x) (c .before .whole-below .result)
+    (c .before .whole-below .ensures) (c .before .before .pre) .0
 
 returns : tie.Need-returns
-returns c = answer (c .before .before .args .x) (c .before .whole-below .result) (c .before .whole-below .ensures) (c .before .before .pre)
+returns c = answer (c .before .before .args .x) (c .before .whole-below .result) (c .before .whole-below .ensures)
+    (c .before .before .pre)
 
 pub floor-i64-within-spec : {M : Type 1} → statement M
 floor-i64-within-spec = tie.close (tie.spec whole-below-requires float-to-int-result returns)

@@ -1,5 +1,5 @@
--- `number::floor::in_domain` meets its contract: by the kind of float, and of a finite one by its sign. One of the two comparisons
--- always passes, and the other is one of naturals. Assumes nothing.
+-- `number::floor::in_domain` meets its contract: by the kind of float, and of a finite one by its sign. One of the two
+-- comparisons always passes, and the other is one of naturals. Assumes nothing.
 use mathlib.Core.Path.{_≡_, refl, ap, _∙_}
 use Prim.Native.Nat.{ℕ, _*_}
 use native.Mathlib.Nat.{mul-one}
@@ -27,8 +27,10 @@ unfolding le neg ofBits inDomain
 tests nan = refl
 tests (inf true) = refl
 tests (inf false) = refl
-tests (fin false m e) = (λ i. le-flip true false 1 m (pos 31) e i && le-flip false false m 1 e (pos 31) i) ∙ turned (m * up e) (2147483648 * down e)
-tests (fin true m e) = (λ i. le-flip true true 1 m (pos 31) e i && le-flip true false m 1 e (pos 31) i) ∙ and-true (not (ltb (2147483648 * down e) (m * up e * 1))) ∙ turned (m * up e) (2147483648 * down e)
+tests (fin false m e) = (λ i. le-flip true false 1 m (pos 31) e i && le-flip false false m 1 e (pos 31) i)
+    ∙ turned (m * up e) (2147483648 * down e)
+tests (fin true m e) = (λ i. le-flip true true 1 m (pos 31) e i && le-flip true false m 1 e (pos 31) i)
+    ∙ and-true (not (ltb (2147483648 * down e) (m * up e * 1))) ∙ turned (m * up e) (2147483648 * down e)
 
 returns : tie.Need-returns
 returns c = tests (c .args .x)

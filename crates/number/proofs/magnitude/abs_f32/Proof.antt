@@ -1,5 +1,5 @@
--- `number::magnitude::abs_f32` meets its contract. Up to zero the difference 0 - x is exact, and above zero, as at a NaN,
--- x is its own magnitude. Assumes nothing.
+-- `number::magnitude::abs_f32` meets its contract. Up to zero the difference 0 - x is exact, and above zero, as at a
+-- NaN, x is its own magnitude. Assumes nothing.
 use mathlib.Core.Path.{sym, subst}
 use lib.Dec.{T}
 use lib.Ieee.{binary32}

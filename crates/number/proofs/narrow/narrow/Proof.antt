@@ -11,7 +11,8 @@ use Rattle.number.proofs.narrow.narrow.Statement.{statement}
 use Rattle.number.proofs.narrow.narrow.Tie as tie
 
 returns : tie.Need-returns
-returns c = zero-by-zero binary32 ∙ sym (ap narrow (differs-from-itself (c .before .args .x) (subst T (sym (c .if1 .taken)) tt)) ∙ narrow-nan)
+returns c = zero-by-zero binary32
+    ∙ sym (ap narrow (differs-from-itself (c .before .args .x) (subst T (sym (c .if1 .taken)) tt)) ∙ narrow-nan)
 
 narrow-number-requires : tie.Need-narrow-number-requires
 narrow-number-requires c κs = number-test (c .before .args .x) (c .if1 .left)

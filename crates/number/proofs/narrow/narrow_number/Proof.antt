@@ -1,4 +1,5 @@
--- Between the two bounds the bits are a pattern without a sign, and its 29 digits fewer are the answer's bits (`narrow-bits`). Assumes nothing.
+-- Between the two bounds the bits are a pattern without a sign, and its 29 digits fewer are the answer's bits
+-- (`narrow-bits`). Assumes nothing.
 use mathlib.Core.Path.{_≡_, sym, ap, _∙_, subst}
 use Prim.Native.Nat.{ℕ, _+_, _*_, _/_, _%_, _≤_, _<_}
 use native.Mathlib.Omega.{arith}
@@ -16,17 +17,20 @@ use Rattle.number.proofs.narrow.narrow_number.Statement.{statement}
 use Rattle.number.proofs.narrow.narrow_number.Tie as tie
 
 -- a pattern below the sign's bit
-unsigned : (b p : ℕ) → b < 0x47f0000000000000 → (b / 0x8000000000000000 * 0x80000000 + p ≡ p) × (b % 0x8000000000000000 ≡ b)
+unsigned : (b p : ℕ) → b < 0x47f0000000000000 → (b / 0x8000000000000000 * 0x80000000 + p ≡ p)
+    × (b % 0x8000000000000000 ≡ b)
 unsigned b p h = (omega arith, omega arith)
 
-module _ (x : Float) (r : ℕ) (n : T (not (isNan x))) (f : T (fits binary64 x)) (e : r ≡ short (toBits binary64 x)) (h : toBits binary64 x < 0x47f0000000000000) where
+module _ (x : Float) (r : ℕ) (n : T (not (isNan x))) (f : T (fits binary64 x)) (e : r ≡ short (toBits binary64 x))
+    (h : toBits binary64 x < 0x47f0000000000000) where
   least : r ≤ 0x7f800000
   least = subst (λ (p : ℕ). p ≤ 0x7f800000) (sym e) (bits-le (toBits binary64 x) (omega arith))
 
   answer : ofBits binary32 r ≡ narrow x
   answer =
       let b = toBits binary64 x in
-      ap (ofBits binary32) (e ∙ sym (unsigned b (short b) h .0) ∙ ap (λ (m : ℕ). b / 0x8000000000000000 * 0x80000000 + short m) (sym (unsigned b 0 h .1)))
+      ap (ofBits binary32) (e ∙ sym (unsigned b (short b) h .0)
+      ∙ ap (λ (m : ℕ). b / 0x8000000000000000 * 0x80000000 + short m) (sym (unsigned b 0 h .1)))
       ∙ narrow-bits x n f
 
 float-to-bits-bits : tie.Need-float-to-bits-bits
@@ -43,7 +47,8 @@ module _ (c : tie.After-ordinary) where
   held = subst T (sym (c .before .before .before .good .0 .1)) tt
 
   below : c .ordinary .result ≤ 0x7f800000
-  below = least (c .before .before .before .args .x) (c .ordinary .result) (c .before .before .before .pre) held (c .ordinary .ensures) small
+  below = least (c .before .before .before .args .x) (c .ordinary .result) (c .before .before .before .pre) held
+      (c .ordinary .ensures) small
 
 cast-result : tie.Need-cast-result
 cast-result c = omega (arith, below c)
@@ -52,7 +57,8 @@ float-from-bits-result : tie.Need-float-from-bits-result
 float-from-bits-result c = pattern-number binary32 (c .ordinary .result) (le-trans (mod-le _ _) (below c))
 
 returns : tie.Need-returns
-returns c = answer (c .before .before .before .args .x) (c .ordinary .result) (c .before .before .before .pre) (held c) (c .ordinary .ensures) (small c)
+returns c = answer (c .before .before .before .args .x) (c .ordinary .result) (c .before .before .before .pre) (held c)
+    (c .ordinary .ensures) (small c)
 
 signed-requires : tie.Need-signed-requires
 signed-requires c κs = search needs

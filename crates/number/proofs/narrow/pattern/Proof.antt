@@ -21,7 +21,8 @@ returns-2 : tie.Need-returns-2
 returns-2 c = search needs
 
 returns-3 : tie.Need-returns-3
-returns-3 c = sym (over-bits (c .before .before .args .m) (⊎-elim (λ w. ltb-false _ _ (w .1 .left)) (λ w. omega arith) (c .before .if1 .came)) (c .before .before .pre))
+returns-3 c = sym (over-bits (c .before .before .args .m)
+    (⊎-elim (λ w. ltb-false _ _ (w .1 .left)) (λ w. omega arith) (c .before .if1 .came)) (c .before .before .pre))
 
 pub pattern-spec : {M : Type 1} → statement M
 pattern-spec =

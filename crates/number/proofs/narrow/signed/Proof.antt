@@ -21,10 +21,16 @@ pattern-requires : tie.Need-pattern-requires
 pattern-requires c κs = bits-number (c .args .x) (c .pre) (held c)
 
 -- the sum has 32 bits
-small : (c : tie.After-pattern) → toBits binary64 (c .before .args .x) / 0x8000000000000000 * 0x80000000 + c .pattern .result < 0x100000000
+small : (c : tie.After-pattern)
+    → toBits binary64 (c .before .args .x) / 0x8000000000000000 * 0x80000000 + c .pattern .result < 0x100000000
 small c =
     let x = c .before .args .x in
-    omega (arith, c .pattern .ensures, toBits-lt binary64 x (held (c .before)), bits-le (toBits binary64 x % 0x8000000000000000) (bits-number x (c .before .pre) (held (c .before))))
+    omega (
+      arith,
+      c .pattern .ensures,
+      toBits-lt binary64 x (held (c .before)),
+      bits-le (toBits binary64 x % 0x8000000000000000) (bits-number x (c .before .pre) (held (c .before))),
+    )
 
 mul-result : tie.Need-mul-result
 mul-result c = omega (arith, small c)
@@ -36,7 +42,8 @@ cast-result : tie.Need-cast-result
 cast-result c = omega (arith, small c)
 
 float-from-bits-result : tie.Need-float-from-bits-result
-float-from-bits-result c = rw (c .pattern .ensures) (narrow-no-nan (c .before .args .x) (c .before .pre) (held (c .before)))
+float-from-bits-result c =
+    rw (c .pattern .ensures) (narrow-no-nan (c .before .args .x) (c .before .pre) (held (c .before)))
 
 returns : tie.Need-returns
 returns c = rw (c .pattern .ensures) (narrow-bits (c .before .args .x) (c .before .pre) (held (c .before)))

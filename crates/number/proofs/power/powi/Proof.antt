@@ -8,7 +8,8 @@ use Rattle.number.specs.Power.{power, square}
 use Rattle.number.proofs.power.powi.Statement.{statement}
 use Rattle.number.proofs.power.powi.Tie as tie
 
-from-five : (x : Float) (n : ℕ) → (n ≡ 0 → ⊥) → (n ≡ 1 → ⊥) → (n ≡ 2 → ⊥) → (n ≡ 3 → ⊥) → (n ≡ 4 → ⊥) → x ⊗ square (square x) ≡ power x n
+from-five : (x : Float) (n : ℕ) → (n ≡ 0 → ⊥) → (n ≡ 1 → ⊥) → (n ≡ 2 → ⊥) → (n ≡ 3 → ⊥) → (n ≡ 4 → ⊥)
+    → x ⊗ square (square x) ≡ power x n
 unfolding power
 from-five x zero a b c d e = absurd (a refl)
 from-five x (suc zero) a b c d e = absurd (b refl)
@@ -39,7 +40,8 @@ returns-5 c = rw (c .if5 .taken)
 
 returns-6 : tie.Need-returns-6
 returns-6 c =
-    from-five _ _ (c .before .before .before .before .if1 .left) (c .before .before .before .if2 .left) (c .before .before .if3 .left) (c .before .if4 .left) (c .if5 .left)
+    from-five _ _ (c .before .before .before .before .if1 .left) (c .before .before .before .if2 .left)
+    (c .before .before .if3 .left) (c .before .if4 .left) (c .if5 .left)
 
 pub powi-spec : {M : Type 1} → statement M
 powi-spec = tie.close (tie.spec returns returns-2 returns-3 returns-4 returns-5 returns-6)

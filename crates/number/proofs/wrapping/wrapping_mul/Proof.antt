@@ -3,7 +3,14 @@
 -- Assumes nothing.
 use mathlib.Core.Path.{_≡_, sym, ap, _∙_}
 use Prim.Native.Nat.{ℕ, _+_, _*_, _/_, _%_, _^_, _<_}
-use native.Mathlib.Nat.{div-add-mod', mul-add-mod-self-left, mul-le-mul-left, mul-lt-mul-of-pos-right, le-of-lt, lt-of-le-of-lt}
+use native.Mathlib.Nat.{
+  div-add-mod',
+  mul-add-mod-self-left,
+  mul-le-mul-left,
+  mul-lt-mul-of-pos-right,
+  le-of-lt,
+  lt-of-le-of-lt,
+}
 use native.Mathlib.Omega.{arith}
 use lib.Dec.{lit<}
 use borrow.Author.Needs.{needs}
@@ -15,7 +22,8 @@ half-product a b p q = lt-of-le-of-lt (mul-le-mul-left a (le-of-lt q)) (mul-lt-m
 
 -- a and b by their halves, and the crossed products' sum by its own
 multiplied : (ah al bh bl q r : ℕ) → ah * bl + al * bh ≡ q * 4294967296 + r
-    → (ah * 4294967296 + al) * (bh * 4294967296 + bl) ≡ 18446744073709551616 * (ah * bh + q) + (al * bl + r * 4294967296)
+    → (ah * 4294967296 + al) * (bh * 4294967296 + bl) ≡ 18446744073709551616 * (ah * bh + q) +
+    (al * bl + r * 4294967296)
 multiplied ah al bh bl q r h = omega arith
 
 cut-twice : (x : ℕ) → x % 18446744073709551616 % 4294967296 ≡ x % 4294967296

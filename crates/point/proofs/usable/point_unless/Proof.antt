@@ -8,7 +8,8 @@ use Rattle.point.proofs.usable.point_unless.Tie as tie
 returns : tie.Need-returns
 returns c =
     let a = c .before .before .before .args in
-    c .point .ensures ∙ rw (c .before .unless2 .ensures, c .before .before .unless .ensures) (by-number (a .none) (a .u) (a .v))
+    c .point .ensures ∙ rw (c .before .unless2 .ensures, c .before .before .unless .ensures)
+    (by-number (a .none) (a .u) (a .v))
 
 pub point-unless-spec : {M : Type 1} → statement M
 point-unless-spec = tie.close (tie.spec (λ c κs. search needs) (λ c κs. search needs) (λ c κs. search needs) returns)

@@ -21,7 +21,11 @@ sub-result : tie.Need-sub-result
 sub-result c = search needs
 
 sub-result-2 : tie.Need-sub-result-2
-sub-result-2 c = omega (arith, c .before .tile .ensures, tile-lt (signed (c .before .before .args .v)) (2 * c .before .before .args .n) (omega arith))
+sub-result-2 c = omega (
+  arith,
+  c .before .tile .ensures,
+  tile-lt (signed (c .before .before .args .v)) (2 * c .before .before .args .n) (omega arith),
+)
 
 returns : tie.Need-returns
 unfolding mirror

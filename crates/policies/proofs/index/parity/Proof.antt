@@ -1,4 +1,5 @@
--- `policies::index::parity` meets its contract, by the sign that the bits tell: one more turns a parity. Assumes nothing.
+-- `policies::index::parity` meets its contract, by the sign that the bits tell: one more turns a parity. Assumes
+-- nothing.
 use mathlib.Core.Path.{_≡_}
 use Prim.Native.Nat.{ℕ, _+_, _-_, _%_}
 use native.Mathlib.Omega.{arith}

@@ -18,10 +18,21 @@ tile-requires-2 : tie.Need-tile-requires-2
 tile-requires-2 c κs = search needs
 
 returns : tie.Need-returns
-returns c = rw (← c .before .before .before .before .parity .ensures, ← c .before .before .before .parity2 .ensures, same-parity _ _ (c .before .before .if1 .taken), c .before .tile .ensures, c .tile2 .ensures)
+returns c = rw (
+  ← c .before .before .before .before .parity .ensures,
+  ← c .before .before .before .parity2 .ensures,
+  same-parity _ _ (c .before .before .if1 .taken),
+  c .before .tile .ensures,
+  c .tile2 .ensures,
+)
 
 returns-2 : tie.Need-returns-2
-returns-2 c = rw (← c .before .before .parity .ensures, ← c .before .parity2 .ensures, other-parity _ _ (rw (c .before .before .parity .ensures) (parity-lt _ _)) (rw (c .before .parity2 .ensures) (parity-lt _ _)) (c .if1 .left))
+returns-2 c = rw (
+  ← c .before .before .parity .ensures,
+  ← c .before .parity2 .ensures,
+  other-parity _ _ (rw (c .before .before .parity .ensures) (parity-lt _ _))
+      (rw (c .before .parity2 .ensures) (parity-lt _ _)) (c .if1 .left),
+)
 
 pub checker-tile-spec : {M : Type 1} → statement M
 checker-tile-spec =

@@ -10,8 +10,11 @@ use Rattle.policies.proofs.named.named_outside.Statement.{statement}
 use Rattle.policies.proofs.named.named_outside.Tie as tie
 
 -- a code that is none of the thirteen of the arms
-from-13 : (n : ℕ) → ((((((((((((Unit {0} × (n ≡ 0 → ⊥)) × (n ≡ 1 → ⊥)) × (n ≡ 2 → ⊥)) × (n ≡ 3 → ⊥)) × (n ≡ 4 → ⊥)) × (n ≡ 5 → ⊥)) × (n ≡ 6 → ⊥)) × (n ≡ 7 → ⊥)) × (n ≡ 8 → ⊥)) × (n ≡ 9 → ⊥)) × (n ≡ 10 → ⊥)) × (n ≡ 11 → ⊥)) × (n ≡ 12 → ⊥) → 13 ≤ n
-from-13 n (((((((((((((u, a), b), c), d), e), f), g), h), i), j), k), l), m) = last n (six 6 n (six 0 n zero-le a b c d e f) g h i j k l) m
+from-13 : (n : ℕ) → ((((((((((((Unit {0} × (n ≡ 0 → ⊥)) × (n ≡ 1 → ⊥)) × (n ≡ 2 → ⊥)) × (n ≡ 3 → ⊥)) × (n ≡ 4 → ⊥))
+    × (n ≡ 5 → ⊥)) × (n ≡ 6 → ⊥)) × (n ≡ 7 → ⊥)) × (n ≡ 8 → ⊥)) × (n ≡ 9 → ⊥)) × (n ≡ 10 → ⊥)) × (n ≡ 11 → ⊥))
+    × (n ≡ 12 → ⊥) → 13 ≤ n
+from-13 n (((((((((((((u, a), b), c), d), e), f), g), h), i), j), k), l), m) =
+    last n (six 6 n (six 0 n zero-le a b c d e f) g h i j k l) m
   where
     last : (n : ℕ) → 12 ≤ n → (n ≡ 12 → ⊥) → 13 ≤ n
     last n h m = omega arith
@@ -96,7 +99,8 @@ unfolding policy
 returns-13 c = rw (c .before .match .keys13) (c .checker-tile .ensures)
 
 returns-14 : tie.Need-returns-14
-returns-14 c = rw (policy-last (c .before .before .args .policy) (from-13 _ (c .before .match .rest))) (c .random .ensures)
+returns-14 c = rw (policy-last (c .before .before .args .policy) (from-13 _ (c .before .match .rest)))
+    (c .random .ensures)
 
 pub named-outside-spec : {M : Type 1} → statement M
 named-outside-spec =

@@ -8,7 +8,11 @@ tile-requires : tie.Need-tile-requires
 tile-requires c κs = search needs
 
 returns : tie.Need-returns
-returns c = rw (within-yes _ _ (c .before .if1 .taken) (c .before .before .pre .width-most), signed-inside _ _ (c .before .if1 .taken) (c .before .before .pre .width-most), c .tile .ensures)
+returns c = rw (
+  within-yes _ _ (c .before .if1 .taken) (c .before .before .pre .width-most),
+  signed-inside _ _ (c .before .if1 .taken) (c .before .before .pre .width-most),
+  c .tile .ensures,
+)
 
 returns-2 : tie.Need-returns-2
 returns-2 c = rw (within-no _ _ (c .if1 .left))

@@ -1,11 +1,12 @@
--- `sampler::interpolate::interpolate_at` meets its contract: each way serves its own codes, and the background is left for the others. Assumes nothing.
+-- `sampler::interpolate::interpolate_at` meets its contract: each way serves its own codes, and the background is left
+-- for the others. Assumes nothing.
 use mathlib.Core.Path.{_≡_, sym, _∙_}
 use Prim.Native.Nat.{ℕ, _≤_, _<_}
 use native.Mathlib.Omega.{arith}
-use Rattle.cell.specs.Interpolation.{interpolation}
-use Rattle.cell.proofs.InterpolationCode.{background-code}
-use Rattle.blend.specs.Interpolate.{interpolate}
-use Rattle.blend.proofs.InterpolateCode.{single-code, several-code}
+use Rattle.taps.specs.Interpolation.{interpolation}
+use Rattle.taps.proofs.InterpolationCode.{background-code}
+use Rattle.sampler.specs.Interpolate.{interpolate}
+use Rattle.sampler.proofs.InterpolateCode.{single-code, several-code}
 use mathlib.Core.Path.{_≡_, refl, sym, ap, _∙_}
 use Prim.Native.Nat.{ℕ, _+_, _-_, _≤_, _<_}
 use native.Mathlib.Omega.{arith}
@@ -29,7 +30,10 @@ several-requires : tie.Need-several-requires
 several-requires c κs = search needs
 
 cubic-requires : tie.Need-cubic-requires
-cubic-requires c κs = (search needs, (search needs, (six _ (c .before .if2 .left) (c .before .before .before .match .rest .1), c .if3 .taken)))
+cubic-requires c κs = (
+  search needs,
+  (search needs, (six _ (c .before .if2 .left) (c .before .before .before .match .rest .1), c .if3 .taken)),
+)
 
 returns : tie.Need-returns
 unfolding interpolate interpolation
@@ -41,7 +45,8 @@ returns-2 c = c .single .ensures ∙ sym (single-code _ _ _ _ _ (c .before .if1 
 
 returns-3 : tie.Need-returns-3
 unfolding interpolate
-returns-3 c = c .apart2 .ensures ∙ c .before .several .ensures ∙ sym (several-code _ _ _ _ _ (c .before .before .before .if1 .left) (below _ (c .before .before .if2 .taken)))
+returns-3 c = c .apart2 .ensures ∙ c .before .several .ensures
+    ∙ sym (several-code _ _ _ _ _ (c .before .before .before .if1 .left) (below _ (c .before .before .if2 .taken)))
 
 returns-4 : tie.Need-returns-4
 returns-4 c = c .apart3 .ensures ∙ c .before .cubic .ensures

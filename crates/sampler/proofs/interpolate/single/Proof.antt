@@ -1,6 +1,6 @@
 -- `sampler::interpolate::single` meets its contract: the tap at the cell itself. Assumes nothing.
 use mathlib.Core.Path.{_∙_}
-use Rattle.cell.proofs.SignedCode.{again}
+use Rattle.taps.proofs.SignedCode.{again}
 use borrow.Author.Needs.{needs}
 use Rattle.sampler.proofs.interpolate.single.Statement.{statement}
 use Rattle.sampler.proofs.interpolate.single.Tie as tie
@@ -17,7 +17,10 @@ at-requires c κs = search needs
 returns : tie.Need-returns
 returns c =
     c .at .ensures
-    ∙ rw (again (c .before .before .first .result) (c .before .before .first .ok) (c .before .before .first .ensures), again (c .before .first2 .result) (c .before .first2 .ok) (c .before .first2 .ensures))
+    ∙ rw (
+      again (c .before .before .first .result) (c .before .before .first .ok) (c .before .before .first .ensures),
+      again (c .before .first2 .result) (c .before .first2 .ok) (c .before .first2 .ensures),
+    )
 
 pub single-spec : {M : Type 1} → statement M
 single-spec = tie.close (tie.spec first-requires first-requires-2 at-requires returns)

@@ -8,7 +8,7 @@ use mir.Syntax.{w64}
 use mir.Val.{SFits, ofZ, toZ}
 use mir.Facts.{toZ-ofZ}
 use borrow.Author.Needs.{needs}
-use Rattle.cell.proofs.CellLaws.{moved-small}
+use Rattle.taps.proofs.CellLaws.{moved-small}
 use Rattle.taps.proofs.taps.moved.Statement.{statement}
 use Rattle.taps.proofs.taps.moved.Tie as tie
 
@@ -23,7 +23,8 @@ sum : (v : ℤ) (k : ℕ) → SFits w64 v → k ≤ 4 → toZ w64 (ofZ w64 v) +�
 sum v k f g = λ i. toZ-ofZ {w = w64} f i +ℤ toZ-ofZ {w = w64} {z = pos k} (record { sfits = count k g }) i
 
 fit : (v : ℤ) (k : ℕ) → SFits w64 v → mag v ≤ 2147483649 → k ≤ 4 → SFits w64 (toZ w64 (ofZ w64 v) +ℤ toZ w64 k)
-fit v k f h g = subst (SFits w64) (sym (sum v k f g)) (record { sfits = less (mag (v +ℤ pos k)) k g (moved-small v k 2147483649 h) })
+fit v k f h g = subst (SFits w64) (sym (sum v k f g))
+    (record { sfits = less (mag (v +ℤ pos k)) k g (moved-small v k 2147483649 h) })
 
 cast-result : tie.Need-cast-result
 cast-result c = search needs

@@ -1,6 +1,6 @@
 -- `taps::taps::side` meets its contract: a number for each code. Assumes nothing.
-use Rattle.cell.specs.Interpolation.{interpolation}
-use Rattle.cell.proofs.InterpolationCode.{no-other}
+use Rattle.taps.specs.Interpolation.{interpolation}
+use Rattle.taps.proofs.InterpolationCode.{no-other}
 use Rattle.taps.proofs.taps.side.Statement.{statement}
 use Rattle.taps.proofs.taps.side.Tie as tie
 

@@ -1,6 +1,7 @@
--- `taps::weights::weights` meets its contract: an arm for each code whose taps differ, and the same weight for the others. Assumes nothing.
+-- `taps::weights::weights` meets its contract: an arm for each code whose taps differ, and the same weight for the
+-- others. Assumes nothing.
 use mathlib.Core.Path.{sym}
-use Rattle.cell.specs.Interpolation.{interpolation}
+use Rattle.taps.specs.Interpolation.{interpolation}
 use Rattle.taps.proofs.WeightsCode.{weights-alike}
 use borrow.Author.Needs.{needs}
 use Rattle.taps.proofs.weights.weights.Statement.{statement}
@@ -33,11 +34,21 @@ returns c = rw (c .before .match .keys1) (c .bilinear .ensures)
 
 returns-2 : tie.Need-returns-2
 unfolding interpolation
-returns-2 c = rw (c .before .before .before .match .keys2, c .products .ensures, c .before .catrom2 .ensures, c .before .before .catrom .ensures)
+returns-2 c = rw (
+  c .before .before .before .match .keys2,
+  c .products .ensures,
+  c .before .catrom2 .ensures,
+  c .before .before .catrom .ensures,
+)
 
 returns-3 : tie.Need-returns-3
 unfolding interpolation
-returns-3 c = rw (c .before .before .before .match .keys3, c .products2 .ensures, c .before .spline2 .ensures, c .before .before .spline .ensures)
+returns-3 c = rw (
+  c .before .before .before .match .keys3,
+  c .products2 .ensures,
+  c .before .spline2 .ensures,
+  c .before .before .spline .ensures,
+)
 
 returns-4 : tie.Need-returns-4
 returns-4 c = sym (weights-alike _ _ _ (c .match .rest))

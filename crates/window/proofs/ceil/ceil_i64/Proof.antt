@@ -1,5 +1,5 @@
--- `window::ceil::ceil_i64` meets its contract. The floor of -x is i64::MIN outside the domain and nowhere in it, where it has at most
--- 31 digits, so that its negation fits; and that is the ceiling. Assumes nothing.
+-- `window::ceil::ceil_i64` meets its contract. The floor of -x is i64::MIN outside the domain and nowhere in it, where
+-- it has at most 31 digits, so that its negation fits; and that is the ceiling. Assumes nothing.
 use mathlib.Core.Path.{_≡_, sym, ap, _∙_, subst}
 use Prim.Native.Nat.{_-_, _≤_}
 use native.Mathlib.Omega.{arith}
@@ -33,7 +33,8 @@ module _ (x : Float) (F : ℤ) (e : F ≡ floorI64 (neg x)) where
   least : ofZ w64 F ≡ 9223372036854775808 → negsuc 9223372036854775807 ≡ ceilI64 x
   least h =
       by-test (inDomain x)
-      (λ d. absurd (no-least (floorℤ (neg x)) (floor-size (neg x) (subst T (sym (domain-neg x)) d)) (ap (ofZ w64) (sym (inside d)) ∙ h)))
+      (λ d. absurd (no-least (floorℤ (neg x)) (floor-size (neg x) (subst T (sym (domain-neg x)) d))
+      (ap (ofZ w64) (sym (inside d)) ∙ h)))
       (λ d. sym (ceil-out x d))
 
   in-domain : (ofZ w64 F ≡ 9223372036854775808 → ⊥) → T (inDomain x)
@@ -43,7 +44,12 @@ module _ (x : Float) (F : ℤ) (e : F ≡ floorI64 (neg x)) where
   module _ (h : ofZ w64 F ≡ 9223372036854775808 → ⊥) where
     negated : pos 0 -ℤ toZ w64 (ofZ w64 F) ≡ ceilℤ x
     negated =
-        ap (λ (z : ℤ). pos 0 -ℤ z) (ap (λ (z : ℤ). toZ w64 (ofZ w64 z)) (inside (in-domain h)) ∙ toZ-ofZ w64 (floorℤ (neg x)) (record { sfits = small-fits (floorℤ (neg x)) (floor-size (neg x) (subst T (sym (domain-neg x)) (in-domain h))) }))
+        ap (λ (z : ℤ). pos 0 -ℤ z) (ap (λ (z : ℤ). toZ w64 (ofZ w64 z)) (inside (in-domain h))
+        ∙ toZ-ofZ w64 (floorℤ (neg x))
+        (record {
+          sfits = small-fits (floorℤ (neg x))
+              (floor-size (neg x) (subst T (sym (domain-neg x)) (in-domain h)));
+        }))
         ∙ +ℤ-idl (negℤ (floorℤ (neg x))) ∙ ceil-floor x
 
     fits : SFits w64 (ceilℤ x)
@@ -53,15 +59,18 @@ module _ (x : Float) (F : ℤ) (e : F ≡ floorI64 (neg x)) where
     answer = ap (λ (z : ℤ). toZ w64 (ofZ w64 z)) negated ∙ toZ-ofZ w64 (ceilℤ x) fits ∙ sym (ceil-in x (in-domain h))
 
 returns : tie.Need-returns
-returns c = least (c .before .before .args .x) (c .before .floor-i64 .result) (c .before .floor-i64 .ensures) (c .if1 .taken)
+returns c = least (c .before .before .args .x) (c .before .floor-i64 .result) (c .before .floor-i64 .ensures)
+    (c .if1 .taken)
 
 sub-result : tie.Need-sub-result
 sub-result c =
     let f = c .before .floor-i64 in
-    subst (SFits w64) (sym (negated (c .before .before .args .x) (f .result) (f .ensures) (c .if1 .left))) (fits (c .before .before .args .x) (f .result) (f .ensures) (c .if1 .left))
+    subst (SFits w64) (sym (negated (c .before .before .args .x) (f .result) (f .ensures) (c .if1 .left)))
+    (fits (c .before .before .args .x) (f .result) (f .ensures) (c .if1 .left))
 
 returns-2 : tie.Need-returns-2
-returns-2 c = answer (c .before .before .args .x) (c .before .floor-i64 .result) (c .before .floor-i64 .ensures) (c .if1 .left)
+returns-2 c = answer (c .before .before .args .x) (c .before .floor-i64 .result) (c .before .floor-i64 .ensures)
+    (c .if1 .left)
 
 pub ceil-i64-spec : {M : Type 1} → statement M
 ceil-i64-spec = tie.close (tie.spec (λ c κs. search needs) returns sub-result returns-2)

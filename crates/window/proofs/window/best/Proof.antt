@@ -4,12 +4,12 @@ use Prim.Native.Nat.{ℕ}
 use borrow.Author.Needs.{needs}
 use lib.IntN.{pos}
 use lib.Ieee.{Float, binary64, ofInt}
-use Rattle.matrix.specs.Matrix.{Vector}
-use Rattle.bestfit.specs.declared.edges.Edges.{Edges}
-use Rattle.bestfit.specs.declared.bestfit.Found.{Found}
-use Rattle.bestfit.specs.declared.bestfit.Found.the-variants.{Box, Nothing}
+use Rattle.exact.specs.Vector.{Vector}
+use Rattle.window.specs.declared.edges.Edges.{Edges}
+use Rattle.window.specs.declared.bestfit.Found.{Found}
+use Rattle.window.specs.declared.bestfit.Found.the-variants.{Box, Nothing}
 use Rattle.window.specs.declared.window.Placed.{Placed}
-use Rattle.bestfit.specs.Bestfit.{bestfit}
+use Rattle.window.specs.Bestfit.{bestfit}
 use Rattle.window.specs.Window.{given, around, judged, best}
 use Rattle.window.proofs.window.best.Statement.{statement}
 use Rattle.window.proofs.window.best.Tie as tie
@@ -31,13 +31,15 @@ module _ (kind : ℕ) (coef : Vector) (width height : ℕ) (w h : Float) (f : Fo
 returns : tie.Need-returns
 returns c =
     let b = c .before .before .before .before in
-    boxed _ _ _ _ _ _ (b .bestfit .result) (b .before .before .nearest-u64-to-f64 .ensures) (b .before .nearest-u64-to-f642 .ensures) (b .bestfit .ensures)
+    boxed _ _ _ _ _ _ (b .bestfit .result) (b .before .before .nearest-u64-to-f64 .ensures)
+    (b .before .nearest-u64-to-f642 .ensures) (b .bestfit .ensures)
     _ (c .around .result) (c .before .before .e .given .1) (c .around .ensures)
 
 returns-2 : tie.Need-returns-2
 returns-2 c =
     let b = c .before .before .before in
-    nothing _ _ _ _ _ _ (b .bestfit .result) (b .before .before .nearest-u64-to-f64 .ensures) (b .before .nearest-u64-to-f642 .ensures) (b .bestfit .ensures)
+    nothing _ _ _ _ _ _ (b .bestfit .result) (b .before .before .nearest-u64-to-f64 .ensures)
+    (b .before .nearest-u64-to-f642 .ensures) (b .bestfit .ensures)
     (c .given .result) (c .before .enum-told .given .1) (c .given .ensures)
 
 pub best-spec : {M : Type 1} → statement M

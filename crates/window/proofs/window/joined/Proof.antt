@@ -1,4 +1,5 @@
--- `window::window::joined` meets its contract: by the two variants, whose offsets are read back from their bits. Assumes nothing.
+-- `window::window::joined` meets its contract: by the two variants, whose offsets are read back from their bits.
+-- Assumes nothing.
 use mathlib.Core.Path.{_≡_}
 use borrow.Author.Needs.{needs}
 use mir.Syntax.{w64}
@@ -28,4 +29,5 @@ returns-3 c = rw (c .enum-told2 .given .1)
 pub joined-spec : {M : Type 1} → statement M
 joined-spec =
     tie.close
-    (tie.spec (λ c. search needs) (λ c. search needs) (λ c. search needs) (λ c. search needs) returns returns-2 returns-3)
+    (tie.spec (λ c. search needs) (λ c. search needs) (λ c. search needs) (λ c. search needs) returns returns-2
+    returns-3)

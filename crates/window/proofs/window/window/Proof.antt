@@ -1,17 +1,21 @@
--- `window::window::window` meets its contract: each way out is the case of the definition that the tests took. Assumes nothing.
-use mathlib.Core.Path.{_∙_}
+-- `window::window::window` meets its contract: each way out is the case of the definition that the tests took. Assumes
+-- nothing.
 use borrow.Author.Needs.{needs}
 use mir.Syntax.{w64}
 use mir.ValLaws.{toZ-ofZ}
-use Rattle.window.specs.Window.{given, window}
+use Rattle.window.specs.Window.{window}
 use Rattle.window.proofs.window.window.Statement.{statement}
 use Rattle.window.proofs.window.window.Tie as tie
 
 returns : tie.Need-returns
 unfolding window
 returns c =
-    let s = c .before .before in
-    rw (c .before .if1 .taken) (c .given .ensures ∙ (λ i. given (s .args .view-width) (s .args .view-height) (toZ-ofZ w64 (s .args .view-x) (s .fits .view-x) i) (toZ-ofZ w64 (s .args .view-y) (s .fits .view-y) i)))
+    let v = c .before .before .before .before .args .view in
+    rw (
+      c .before .before .before .if1 .taken,
+      ← toZ-ofZ w64 (v .x) (record { sfits = c .before .before .struct-told .given .1 .1 .1 .1 .0 .1 }),
+      ← toZ-ofZ w64 (v .y) (record { sfits = c .before .struct-told2 .given .1 .1 .1 .1 .1 .0 .1 }),
+    ) (c .given .ensures)
 
 returns-2 : tie.Need-returns-2
 unfolding window
@@ -22,4 +26,5 @@ unfolding window
 returns-3 c = rw (c .before .before .if1 .left, c .before .if2 .left) (c .given2 .ensures)
 
 pub window-spec : {M : Type 1} → statement M
-window-spec = tie.close (tie.spec (λ c κs. search needs) returns (λ c κs. search needs) returns-2 (λ c κs. search needs) returns-3)
+window-spec = tie.close (tie.spec (λ c κs. search needs) returns (λ c κs. search needs) returns-2
+    (λ c κs. search needs) returns-3)

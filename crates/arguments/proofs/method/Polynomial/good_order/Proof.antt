@@ -1,4 +1,5 @@
--- `Polynomial::good_order` is its definition: the first comparison decides, else the second is the answer. Assumes nothing.
+-- `Polynomial::good_order` is its definition: the first comparison decides, else the second is the answer. Assumes
+-- nothing.
 use Rattle.arguments.specs.Order.{goodOrder}
 use Rattle.arguments.proofs.method.Polynomial.good_order.Statement.{statement}
 use Rattle.arguments.proofs.method.Polynomial.good_order.Tie as tie

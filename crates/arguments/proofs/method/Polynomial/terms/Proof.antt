@@ -1,5 +1,5 @@
--- `Polynomial::terms` is its definition: four terms for the bilinear order, else the triangle number of a degree that is at
--- most 5, so that its product fits. Assumes nothing.
+-- `Polynomial::terms` is its definition: four terms for the bilinear order, else the triangle number of a degree that
+-- is at most 5, so that its product fits. Assumes nothing.
 use native.Mathlib.Omega.{arith}
 use borrow.Author.Needs.{needs}
 use Rattle.arguments.specs.Order.{termsOf}
@@ -26,4 +26,5 @@ unfolding termsOf
 returns-2 c = rw (← c .before .before .bilinear .ensures, c .before .if1 .left, c .degree .ensures)
 
 pub terms-spec : {M : Type 1} → statement M
-terms-spec = tie.close (tie.spec (λ c κs. search needs) returns (λ c κs. search needs) add-result add-result-2 mul-result returns-2)
+terms-spec = tie.close (tie.spec (λ c κs. search needs) returns (λ c κs. search needs) add-result add-result-2
+    mul-result returns-2)

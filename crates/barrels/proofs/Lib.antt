@@ -1,2 +1,0 @@
--- The laws of the barrels' arrays.
-pub mod BarrelLaws

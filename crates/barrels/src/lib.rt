@@ -1,2 +1,0 @@
-// The source points of Barrel and BarrelInverse for a stretch of a row.
-pub mod barrels;

@@ -1,2 +1,0 @@
-// `Bilinear` at a point: four taps of any picture under any policy.
-pub mod bilinear;

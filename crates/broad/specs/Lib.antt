@@ -1,2 +1,0 @@
--- The definitions of four samples at a time.
-pub mod Broad

@@ -1,2 +1,0 @@
--- The definition of `Mapping::build`.
-pub mod Build

@@ -1,3 +1,0 @@
--- The laws of four taps inside.
-pub mod CornerLaws
-pub mod MixedLaws

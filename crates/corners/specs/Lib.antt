@@ -1,2 +1,0 @@
--- The definition of the mean of four taps.
-pub mod Square

@@ -1,2 +1,0 @@
--- What the probe of the cubic weights answers.
-pub mod Weights

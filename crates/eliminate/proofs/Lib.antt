@@ -1,2 +1,0 @@
--- The laws of elimination.
-pub mod EliminateLaws

@@ -1,2 +1,0 @@
--- The definition of elimination.
-pub mod Eliminate

@@ -1,2 +1,0 @@
-// Elimination, in place.
-pub mod eliminate;

@@ -1,0 +1,126 @@
+-- What is known of y = u - 0.5 + 0.5 where u passes the test of `Nearest`: its floor, and that u is far below 2^30,
+-- since y would be 2^28 at least. Assumes nothing.
+use mathlib.Core.Path.{_≡_, refl, sym, ap, _∙_, subst}
+use mathlib.Core.Logic.{inl, inr}
+use mathlib.Core.Bool.{Bool, true, false, cond, _&&_}
+use Prim.Native.Nat.{ℕ, _+_, _*_, _≤_, _<_}
+use native.Mathlib.Nat.{mul-pos, one-mul, zero-lt-suc}
+use native.Mathlib.Omega.{arith}
+use lib.Dec.{T, lit≤}
+use lib.IntN.{ℤ}
+use lib.Ieee.{Float, nan, inf, fin, binary64, up, down, round, sum, add, sub, le, ofBits}
+use lib.Ieee.Bits.{ofBits-fits}
+use lib.Ieee.Exact.{HasValue}
+use lib.Ieee.Fits.{down-pos, and-l, and-r}
+use lib.Ieee.Order.{round-mono}
+use Rattle.exact.specs.Double.{_⊕_, _⊖_}
+use Rattle.exact.specs.Warp.{half}
+use Rattle.exact.proofs.Held.{round-held}
+use Rattle.exact.proofs.Naturals.{lt-or-le}
+use Rattle.exact.proofs.Operands.{add-values}
+use Rattle.exact.proofs.Value.{rescale}
+use Rattle.number.specs.Magnitude.{within}
+use Rattle.point.specs.Point.{limit}
+use Rattle.fast_cells.specs.Inner.{nought, under, nearby, Low}
+use Rattle.fast_cells.proofs.OrderLaws.{above, under-finite}
+use Rattle.fast_cells.proofs.HalfLaws.{twice, twice-pos, half-over, large, large-value, large-less, less-half}
+use Rattle.fast_cells.proofs.FlooredLaws.{
+  Floored,
+  floored-low,
+  floored-any,
+  not-far,
+  within-is,
+  zero-digits,
+  low-nought,
+}
+
+-- ---- x + 0.5
+more-half : (m : ℕ) (e : ℤ) → fin false m e ⊕ half ≡ round binary64 false (m * up e * 2 + down e) (down e * 2)
+unfolding sum
+more-half m e = add-values binary64 (fin false m e) half false false (m * up e * 2) (down e) (down e * 2) (twice-pos e)
+    (twice m e) (half-over (down e))
+
+abbrev wide : Float
+wide = ofBits binary64 0x41b0_0000_0000_0000  -- 2^28
+
+wide-value : HasValue wide false 268435456 1
+wide-value = unfold ofBits in (refl, refl)
+
+-- 2^29 at least, and 0.5
+wide-more : (a d : ℕ) → 0 < d → 536870912 * d ≤ a * 1 → T (le wide (round binary64 false (a * 2 + d) (d * 2)))
+wide-more a d D h =
+    subst (λ (y : Float). T (le y (round binary64 false (a * 2 + d) (d * 2))))
+    (round-held binary64 wide false 268435456 1 (zero-lt-suc 0) (ofBits-fits binary64 0x41b0_0000_0000_0000)
+    wide-value)
+    (round-mono binary64 268435456 1 (a * 2 + d) (d * 2) (zero-lt-suc 0) (mul-pos D (zero-lt-suc 1)) (far a d h))
+  where
+    far : (a d : ℕ) → 536870912 * d ≤ a * 1 → 268435456 * (d * 2) ≤ (a * 2 + d) * 1
+    far a d h = omega arith
+
+-- ---- u that passes the test
+module _ (reach : ℕ) (R : reach ≤ 65536) where
+  -- an infinity passes no test
+  endless : {x : Float} → x ≡ inf false → T (under reach (x ⊕ half)) → ⊥
+  endless e h = under-finite reach R
+      (subst (λ (y : Float). T (under reach y)) (ap (λ (x : Float). x ⊕ half) e ∙ stays) h)
+    where
+      stays : inf false ⊕ half ≡ inf false
+      stays = unfold add ofBits in refl
+
+  from-large : (x : Float) → T (le large x) → T (under reach (x ⊕ half)) → ⊥
+  from-large x l h = elim (above 536870912 1 large x (zero-lt-suc 536870911) (zero-lt-suc 0) large-value l) [
+    | inl e ↦ endless e h
+    | inr a ↦
+        not-far reach R 268435456 wide (lit≤ tt) wide-value (x ⊕ half)
+        (subst (λ (y : Float). T (le wide y))
+        (sym (ap (λ (x : Float). x ⊕ half) (a .is) ∙ more-half (a .digits) (a .place)))
+        (wide-more (a .digits * up (a .place)) (down (a .place)) (down-pos (a .place)) (a .least))) h
+  ]
+
+  near : (u : Float) → T (le nought u) → T (under reach (u ⊖ half ⊕ half)) → T (within limit u)
+  near nan l h = absurd (unfold le ofBits in l)
+  near (inf true) l h = absurd (unfold le ofBits in l)
+  near (inf false) l h = absurd (endless stays h)
+    where
+      stays : inf false ⊖ half ≡ inf false
+      stays = unfold sub ofBits in refl
+  near (fin true m e) l h = within-is true m e (none (m * up e) (1073741824 * down e) (zero-digits m e l))
+    where
+      none : (a b : ℕ) → a ≡ 0 → a ≤ b
+      none a b z = omega arith
+  near (fin false m e) l h = within-is false m e (elim (lt-or-le (1073741824 * down e) (m * up e)) [
+    | inl g ↦ absurd (from-large (fin false m e ⊖ half)
+        (subst (λ (x : Float). T (le large x)) (sym (less-half m e (half-below (m * up e) (down e) g)))
+        (large-less (m * up e) (down e) (down-pos e) g)) h)
+    | inr g ↦ g
+  ])
+    where
+      half-below : (a d : ℕ) → 1073741824 * d < a → d ≤ a * 2
+      half-below a d h = omega arith
+
+  module _ (u : Float) (h : T (nearby reach u)) where
+    tests : T (le nought u && le nought (u ⊖ half ⊕ half))
+    tests = and-l (le nought u && le nought (u ⊖ half ⊕ half)) (under reach (u ⊖ half ⊕ half)) h
+
+    below : T (under reach (u ⊖ half ⊕ half))
+    below = and-r (le nought u && le nought (u ⊖ half ⊕ half)) (under reach (u ⊖ half ⊕ half)) h
+
+    pub nearby-usable : T (within limit u)
+    nearby-usable = near u (and-l (le nought u) (le nought (u ⊖ half ⊕ half)) tests) below
+
+    pub nearby-floored : Floored reach (u ⊖ half ⊕ half)
+    nearby-floored = floored-any reach R (u ⊖ half ⊕ half) (and-r (le nought u) (le nought (u ⊖ half ⊕ half)) tests)
+        below
+
+  -- ---- what is worked with in any case
+  pub beside-in : (u : Float) {b : Bool} → b ≡ nearby reach u → b ≡ true
+      → (u ⊖ half ⊕ half ≡ cond (nearby reach u) (u ⊖ half ⊕ half) nought) × Low (u ⊖ half ⊕ half)
+  beside-in u i h =
+      let e = sym i ∙ h in (
+        sym (ap (λ (b : Bool). cond b (u ⊖ half ⊕ half) nought) e),
+        floored-low reach R (nearby-floored u (subst T (sym e) tt)),
+      )
+
+pub beside-out : (reach : ℕ) (u : Float) {b : Bool} → b ≡ nearby reach u → b ≡ false
+    → (nought ≡ cond (nearby reach u) (u ⊖ half ⊕ half) nought) × Low nought
+beside-out reach u i h = (sym (ap (λ (b : Bool). cond b (u ⊖ half ⊕ half) nought) (sym i ∙ h)), low-nought)

@@ -1,0 +1,51 @@
+-- What the parts of a cell ask of a number in index space, so that each is a few operations without a choice. Assumes
+-- nothing.
+use mathlib.Core.Path.{_≡_}
+use mathlib.Core.Logic.{_⊎_}
+use mathlib.Core.Bool.{Bool, _&&_}
+use mathlib.Core.List.{List}
+use Prim.Native.Nat.{ℕ, _<_}
+use lib.Dec.{T}
+use lib.IntN.{pos}
+use lib.ListN.{getD}
+use lib.Ieee.{Float, nan, binary64, ofBits, ofInt, le, lt, fits}
+use Rattle.exact.specs.Double.{_⊕_, _⊖_}
+use Rattle.exact.specs.Warp.{half}
+use Rattle.number.specs.Floor.{floorℤ, floorF64, inDomain}
+
+abbrev pub nought : Float
+nought = ofBits binary64 0  -- +0.0
+
+-- x is below the whole number `reach`
+abbrev pub under : ℕ → Float → Bool
+under reach x = lt x (ofInt binary64 (pos reach))
+
+-- u - 0.5 stands from 0 up to below `reach`
+abbrev pub inner : ℕ → Float → Bool
+inner reach u = le half u && under reach (u ⊖ half)
+
+-- u is not negative, and u - 0.5 + 0.5 stands from 0 up to below `reach`
+abbrev pub nearby : ℕ → Float → Bool
+nearby reach u = le nought u && le nought (u ⊖ half ⊕ half) && under reach (u ⊖ half ⊕ half)
+
+-- each of the first n of a list passes
+pub record Every (test : Float → Bool) (n : ℕ) (us : List Float) : Type 0 where
+  pub each : (k : ℕ) → k < n → T (test (getD us k nan))
+
+-- the whole number below z is a natural number of 16 bits
+pub record Low (z : Float) : Type 0 where
+  pub domain : T (inDomain z)
+  pub whole : ℕ
+  pub small : whole < 65536
+  pub floor : floorℤ z ≡ pos whole
+
+-- d is +0, or from 2^-126 up to 1: the f32 next to it has all its digits
+pub record Short (d : Float) : Type 0 where
+  pub held : T (fits binary64 d)
+  pub short : (d ≡ nought)
+      ⊎ (T (le (ofBits binary64 0x3810_0000_0000_0000) d) × T (le d (ofBits binary64 0x3ff0_0000_0000_0000)))
+
+-- z is no -0, and what it has beyond its floor is short
+pub record Parted (z : Float) : Type 0 where
+  pub same : floorF64 z ≡ ofInt binary64 (floorℤ z)
+  pub rest : Short (z ⊖ floorF64 z)

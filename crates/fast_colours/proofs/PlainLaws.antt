@@ -1,0 +1,272 @@
+-- A span inside: the mean in a point's own cell is what `interpolate` shows there. Provides: `are-sized`, `put`,
+-- `Weighing`, `weigh-none`, `weigh-more`, `weigh-last` (the loop over weights); `blend-all`, `mixable` (the colours of
+-- cells); `cells-inside`, `cells-units`, `cells-mattes`, `cells-colours`, `places-within`, `places-mattes`,
+-- `places-colours` (from cells and places to the band's definition), `marked`, `no-matte`, `no-mattes` (points that can
+-- be used). Assumes nothing.
+use mathlib.Core.Path.{_≡_, refl, sym, ap, _∙_}
+use mathlib.Core.Logic.{_≢_}
+use mathlib.Core.Bool.{Bool, true, false, cond, _&&_}
+use mathlib.Core.List.{List, [], _∷_}
+use Prim.Native.Nat.{ℕ, zero, suc, _+_, _-_, _*_, _≤_, _<_}
+use native.Mathlib.Nat.{not-suc-le-zero}
+use native.Mathlib.Omega.{arith}
+use borrow.Author.Count.{below-more}
+use lib.Dec.{T, lit≤}
+use lib.ListN.{length, getD, set, length-set}
+use lib.Seq.{getD-set-same, getD-set-other}
+use lib.Ieee.{Float, nan}
+use base.Fml.{Fml}
+use mir.Val.{Val}
+use denote.Array.{each, inArray}
+use denote.Shadow.{shadow}
+use Rattle.exact.specs.Double.{_⊖_}
+use Rattle.exact.specs.Warp.{half}
+use Rattle.exact.specs.Vector.{at}
+use Rattle.number.specs.Magnitude.{within}
+use Rattle.picture.specs.Pixel.{Picture, pixelAt}
+use Rattle.picture.specs.declared.colour.Rgba.{Rgba}
+use Rattle.point.specs.Point.{limit, usable}
+use Rattle.taps.specs.Interpolation.{interpolation}
+use Rattle.taps.proofs.CellFloor.{cell-law}
+use Rattle.fast_cells.specs.Cells.{Cell, Cells, Place, Places}
+use Rattle.sampler.specs.Corners.{Weighed, blend}
+use Rattle.sampler.proofs.MixedLaws.{mixed-blend}
+use Rattle.sampler.proofs.InsideLaws.{bilinear-inside, single-inside}
+use Rattle.band.specs.Band.{shown, keptColour, keptMatte, pixelBytes}
+use Rattle.band.specs.Joined.{joined, totalled}
+use Rattle.fast_colours.specs.Plain.{Within, Inside, Fractions, Sized, Weights, mixedAt, Mixable}
+use Rattle.band.proofs.JoinedLaws.{joined-same, totalled-same, totalled-most}
+use Rattle.fast_colours.proofs.NumberLaws.{blend-numbers}
+
+-- ---- the loop over weights
+-- what a function is told of an array of arrays that it takes by value
+pub are-sized : (f : Float → List Val → Fml) (w : List (List Float)) {m : ℕ} (us : List Val) → length w ≡ m
+    → shadow (each (List Float) (inArray Float f 64) w us) → Sized m w
+are-sized f w us e h = record { lists = e; places = λ i l. long w us h i (rw e l) }
+  where
+    long : (w : List (List Float)) (us : List Val) → shadow (each (List Float) (inArray Float f 64) w us) → (i : ℕ)
+        → i < length w → length (getD w i []) ≡ 64
+    long [] us h i l = absurd (not-suc-le-zero l)
+    long (v ∷ w) [] h i l = absurd h
+    long (v ∷ w) (u ∷ us) h zero l = h .0 .1 .0 .1
+    long (v ∷ w) (u ∷ us) h (suc i) l = long w us (h .1) i (omega arith)
+
+-- five lists of 64 places
+pub data Five : List (List Float) → Type 0 where
+  five : {v₀ v₁ v₂ v₃ v₄ : List Float} → length v₀ ≡ 64 → length v₁ ≡ 64 → length v₂ ≡ 64 → length v₃ ≡ 64
+      → length v₄ ≡ 64 → Five (v₀ ∷ v₁ ∷ v₂ ∷ v₃ ∷ v₄ ∷ [])
+
+are-five : (w : List (List Float)) → Sized 5 w → Five w
+are-five (v₀ ∷ v₁ ∷ v₂ ∷ v₃ ∷ v₄ ∷ []) S =
+    five (S .places 0 (lit≤ tt)) (S .places 1 (lit≤ tt)) (S .places 2 (lit≤ tt)) (S .places 3 (lit≤ tt))
+    (S .places 4 (lit≤ tt))
+are-five [] S = absurd (omega (arith, S .lists))
+are-five (v₀ ∷ []) S = absurd (omega (arith, S .lists))
+are-five (v₀ ∷ v₁ ∷ []) S = absurd (omega (arith, S .lists))
+are-five (v₀ ∷ v₁ ∷ v₂ ∷ []) S = absurd (omega (arith, S .lists))
+are-five (v₀ ∷ v₁ ∷ v₂ ∷ v₃ ∷ []) S = absurd (omega (arith, S .lists))
+are-five (v₀ ∷ v₁ ∷ v₂ ∷ v₃ ∷ v₄ ∷ v₅ ∷ w) S = absurd (omega (arith, S .lists))
+
+-- w[i][k] = x
+abbrev pub put : List (List Float) → ℕ → ℕ → Float → List (List Float)
+put w i k x = set w i (set (getD w i []) k x)
+
+-- what the loop knows after k turns: k points are weighed
+pub record Weighing (k : ℕ) (xs ys : List Float) (w : List (List Float)) : Type 0 where
+  pub done : Weights k xs ys w
+  pub long : Five w
+
+module _ {xs ys : List Float} where
+  pub weigh-none : {w : List (List Float)} → Sized 5 w → Weighing 0 xs ys w
+  weigh-none S = record { done = record { weighed = λ k h. absurd (not-suc-le-zero h) }; long = are-five _ S }
+
+  pub weigh-more : {w : List (List Float)} (k : ℕ) → k < 64 → {a b c d s : Float}
+      → Weighed (at xs k) (at ys k) a b c d s → Weighing k xs ys w
+      → Weighing (k + 1) xs ys (put (put (put (put (put w 0 k a) 1 k b) 2 k c) 3 k d) 4 k s)
+  weigh-more {w} k l {a} {b} {c} {d} {s} new old = go (old .long) (old .done)
+    where
+      below : (i : ℕ) → i < k → i ≢ k
+      below i h e = omega arith
+
+      go : {w : List (List Float)} → Five w → Weights k xs ys w
+          → Weighing (k + 1) xs ys (put (put (put (put (put w 0 k a) 1 k b) 2 k c) 3 k d) 4 k s)
+      go (five {v₀} {v₁} {v₂} {v₃} {v₄} l₀ l₁ l₂ l₃ l₄) W =
+          record {
+            done = record {
+              weighed =
+                  below-more (λ (i : ℕ). Weighed (at xs i) (at ys i) (at (set v₀ k a) i) (at (set v₁ k b) i)
+                  (at (set v₂ k c) i) (at (set v₃ k d) i) (at (set v₄ k s) i)) k
+                  (λ i h. rw (
+                    getD-set-other v₀ k i a nan (below i h),
+                    getD-set-other v₁ k i b nan (below i h),
+                    getD-set-other v₂ k i c nan (below i h),
+                    getD-set-other v₃ k i d nan (below i h),
+                    getD-set-other v₄ k i s nan (below i h),
+                  ) (W .weighed i h))
+                  (rw (
+                    getD-set-same v₀ k a nan (rw l₀ l),
+                    getD-set-same v₁ k b nan (rw l₁ l),
+                    getD-set-same v₂ k c nan (rw l₂ l),
+                    getD-set-same v₃ k d nan (rw l₃ l),
+                    getD-set-same v₄ k s nan (rw l₄ l),
+                  ) new);
+            };
+            long = five (length-set v₀ k a ∙ l₀) (length-set v₁ k b ∙ l₁) (length-set v₂ k c ∙ l₂)
+                (length-set v₃ k d ∙ l₃) (length-set v₄ k s ∙ l₄);
+          }
+
+  pub weigh-last : {w : List (List Float)} (k n : ℕ) → n ≤ k → Weighing k xs ys w → Weights n xs ys w
+  weigh-last k n a s = record { weighed = λ i h. s .done .weighed i (omega arith) }
+
+-- ---- a point's own cell
+both : (a b : Bool) → T a → T b → a && b ≡ true
+both true true s t = refl
+both true false s t = absurd t
+both false b s t = absurd s
+
+next : (i n : ℕ) → i < n - 1 → i + 1 < n
+next i n l = omega arith
+
+module _ (u v : Float) (a : T (within limit u)) (b : T (within limit v)) where
+  pub marked : usable u v ≡ true
+  unfolding usable
+  marked = both (within limit u) (within limit v) a b
+
+  pub no-matte : keptMatte u v ≡ 0
+  no-matte = ap (λ (t : Bool). cond t 0 1) marked
+
+pub no-mattes : (n : ℕ) (us vs : List Float) → ((k : ℕ) → k < n → keptMatte (at us k) (at vs k) ≡ 0)
+    → 0 ≡ totalled (λ (k : ℕ). keptMatte (at us k) (at vs k)) n
+no-mattes n us vs h =
+    sym (totalled-same (λ (k : ℕ). keptMatte (at us k) (at vs k)) (λ (k : ℕ). 0) n h
+    ∙ none n (totalled-most (λ (k : ℕ). 0) 0 (λ k. omega arith) n))
+  where
+    none : (n : ℕ) {r : ℕ} → r ≤ n * 0 → r ≡ 0
+    none n l = omega arith
+
+cell-colour : (bytes : List ℕ) (w h n policy : ℕ) (background matte : Rgba) {u v tx ty : Float} {i j : ℕ}
+    → Cell (w - 1) u i tx → Cell (h - 1) v j ty
+    → blend bytes w n i j tx ty
+    ≡ keptColour (record {
+      image = record { bytes = bytes; width = w; height = h; channels = n };
+      policy = policy;
+      interpolation = 5;
+      background = background;
+      matte = matte;
+    }) u v
+unfolding shown blend
+cell-colour bytes w h n policy background matte {u} {v} {tx} {ty} {i} {j} C D =
+    rw (marked u v (C .usable) (D .usable))
+    (bilinear-inside bytes w h n policy background (u ⊖ half) (v ⊖ half) i j (next i w (C .below))
+    (next j h (D .below)) (sym (C .floor)) (sym (D .floor)) (C .fraction) (D .fraction) refl)
+
+-- ---- a span of them
+module _ (bytes : List ℕ) (w channels : ℕ) (columns rows : List ℕ) {n : ℕ} {xs ys : List Float}
+    {ws : List (List Float)} where
+  pub blend-all : Fractions n xs → Fractions n ys → Weights n xs ys ws
+      → joined (λ (k : ℕ). pixelBytes channels (mixedAt bytes w channels columns rows ws k)) n
+      ≡ joined (λ (k : ℕ). pixelBytes channels
+      (blend bytes w channels (getD columns k 0) (getD rows k 0) (at xs k) (at ys k))) n
+  blend-all X Y W =
+      joined-same (λ (k : ℕ). pixelBytes channels (mixedAt bytes w channels columns rows ws k))
+      (λ (k : ℕ). pixelBytes channels (blend bytes w channels (getD columns k 0) (getD rows k 0) (at xs k) (at ys k))) n
+      (λ k l. ap (pixelBytes channels)
+      (mixed-blend bytes w channels (getD columns k 0) (getD rows k 0) (at xs k) (at ys k) (X .unit k l)
+      (Y .unit k l) (W .weighed k l)))
+
+  pub mixable : (h : ℕ) → Picture bytes w h channels → Inside w h n columns rows → Fractions n xs → Fractions n ys
+      → Weights n xs ys ws → Mixable bytes w channels n columns rows ws
+  mixable h P I X Y W =
+      record {
+        numbers = λ k l.
+            rw (mixed-blend bytes w channels (getD columns k 0) (getD rows k 0) (at xs k) (at ys k) (X .unit k l)
+            (Y .unit k l) (W .weighed k l))
+            (blend-numbers bytes w h channels (getD columns k 0) (getD rows k 0) P (I .column k l) (I .row k l)
+            (at xs k) (at ys k) (X .unit k l) (Y .unit k l));
+      }
+
+pub cells-units : {reach n : ℕ} {us : List Float} {cs : List ℕ} {ts : List Float} → Cells reach n us cs ts
+    → Fractions n ts
+cells-units {reach} {n} {us} {cs} {ts} C =
+    record { unit = λ k l. rw (C .cell k l .fraction) (cell-law (at us k ⊖ half) (C .cell k l .reached) .fraction) }
+
+module _ (w h : ℕ) {n : ℕ} {us vs : List Float} {columns rows : List ℕ} {xs ys : List Float}
+    (C : Cells (w - 1) n us columns xs) (D : Cells (h - 1) n vs rows ys) where
+  pub cells-inside : Inside w h n columns rows
+  cells-inside = record { column = λ k l. next _ w (C .cell k l .below); row = λ k l. next _ h (D .cell k l .below) }
+
+  pub cells-mattes : 0 ≡ totalled (λ (k : ℕ). keptMatte (at us k) (at vs k)) n
+  cells-mattes = no-mattes n us vs (λ k l. no-matte (at us k) (at vs k) (C .cell k l .usable) (D .cell k l .usable))
+
+  pub cells-colours : (bytes : List ℕ) (channels policy : ℕ) (background matte : Rgba)
+      → joined (λ (k : ℕ). pixelBytes channels
+      (blend bytes w channels (getD columns k 0) (getD rows k 0) (at xs k) (at ys k))) n
+      ≡ joined (λ (k : ℕ). pixelBytes channels
+      (keptColour (record {
+        image = record { bytes = bytes; width = w; height = h; channels = channels };
+        policy = policy;
+        interpolation = 5;
+        background = background;
+        matte = matte;
+      }) (at us k) (at vs k))) n
+  cells-colours bytes channels policy background matte =
+      joined-same (λ (k : ℕ). pixelBytes channels
+      (blend bytes w channels (getD columns k 0) (getD rows k 0) (at xs k) (at ys k)))
+      (λ (k : ℕ). pixelBytes channels
+      (keptColour (record {
+        image = record { bytes = bytes; width = w; height = h; channels = channels };
+        policy = policy;
+        interpolation = 5;
+        background = background;
+        matte = matte;
+      }) (at us k) (at vs k))) n
+      (λ k l. ap (pixelBytes channels)
+      (cell-colour bytes w h channels policy background matte (C .cell k l) (D .cell k l)))
+
+-- ---- one tap
+place-colour : (bytes : List ℕ) (w h channels policy : ℕ) (background matte : Rgba) (code : ℕ) → code < 2
+    → {u v : Float} {i j : ℕ} → Place (interpolation code) w u i → Place (interpolation code) h v j
+    → pixelAt bytes w channels i j
+    ≡ keptColour (record {
+      image = record { bytes = bytes; width = w; height = h; channels = channels };
+      policy = policy;
+      interpolation = code;
+      background = background;
+      matte = matte;
+    }) u v
+unfolding shown
+place-colour bytes w h channels policy background matte code small {u} {v} {i} {j} C D =
+    rw (marked u v (C .usable) (D .usable))
+    (single-inside bytes w h channels policy background (u ⊖ half) (v ⊖ half) code small i j (C .below) (D .below)
+    (sym (C .first)) (sym (D .first)) refl)
+
+module _ (code : ℕ) {w h n : ℕ} {us vs : List Float} {columns rows : List ℕ}
+    (C : Places (interpolation code) w n us columns) (D : Places (interpolation code) h n vs rows) where
+  pub places-within : Within w h n columns rows
+  places-within = record { column = λ k l. C .place k l .below; row = λ k l. D .place k l .below }
+
+  pub places-mattes : 0 ≡ totalled (λ (k : ℕ). keptMatte (at us k) (at vs k)) n
+  places-mattes = no-mattes n us vs (λ k l. no-matte (at us k) (at vs k) (C .place k l .usable) (D .place k l .usable))
+
+  pub places-colours : (bytes : List ℕ) (channels policy : ℕ) (background matte : Rgba) → code < 2
+      → joined (λ (k : ℕ). pixelBytes channels (pixelAt bytes w channels (getD columns k 0) (getD rows k 0))) n
+      ≡ joined (λ (k : ℕ). pixelBytes channels
+      (keptColour (record {
+        image = record { bytes = bytes; width = w; height = h; channels = channels };
+        policy = policy;
+        interpolation = code;
+        background = background;
+        matte = matte;
+      }) (at us k) (at vs k))) n
+  places-colours bytes channels policy background matte small =
+      joined-same (λ (k : ℕ). pixelBytes channels (pixelAt bytes w channels (getD columns k 0) (getD rows k 0)))
+      (λ (k : ℕ). pixelBytes channels
+      (keptColour (record {
+        image = record { bytes = bytes; width = w; height = h; channels = channels };
+        policy = policy;
+        interpolation = code;
+        background = background;
+        matte = matte;
+      }) (at us k) (at vs k))) n
+      (λ k l. ap (pixelBytes channels)
+      (place-colour bytes w h channels policy background matte code small (C .place k l) (D .place k l)))

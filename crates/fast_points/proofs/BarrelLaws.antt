@@ -1,0 +1,118 @@
+-- The laws of the barrels' lists: a store more makes each longer by one, and the three steps together are the points.
+-- Assumes nothing.
+use mathlib.Core.Path.{_≡_, ap, _∙_, refl}
+use mathlib.Core.List.{List}
+use Prim.Native.Nat.{ℕ, _+_, _≤_, _<_}
+use native.Mathlib.Nat.{not-suc-le-zero}
+use native.Mathlib.Omega.{arith}
+use lib.ListN.{length, set, length-set}
+use lib.Ieee.{Float}
+use Rattle.number.specs.Root.{root}
+use Rattle.exact.specs.Vector.{Vector, at}
+use Rattle.point.specs.declared.point.Point.{Point}
+use Rattle.point.specs.Point.{point, Whole}
+use Rattle.inverse.specs.Barrel.{across, down, square, barrelFrom, barrelInverseFrom, barrel, barrelInverse}
+use Rattle.fast_points.specs.Span.{middle, Span}
+use Rattle.fast_points.proofs.FillLaws.{both-more, read-back}
+use Rattle.fast_points.specs.Barrels.{RadiiSquared, Each, Moved}
+
+-- ---- the offsets and the squares
+pub record Squaring (c : Vector) (x dy : Float) (first k : ℕ) (ds ss : List Float) : Type 0 where
+  pub done : RadiiSquared c x dy first k ds ss
+  pub long-d : length ds ≡ 64
+  pub long-s : length ss ≡ 64
+
+module _ (c : Vector) (x dy : Float) (first : ℕ) where
+  pub square-none : {ds ss : List Float} → length ds ≡ 64 → length ss ≡ 64 → Squaring c x dy first 0 ds ss
+  square-none a b = record { done = record { each = λ k h. absurd (not-suc-le-zero h) }; long-d = a; long-s = b }
+
+  pub square-more : (k : ℕ) {ds ss : List Float} {a d s : Float} → a ≡ middle (first + k) x → d ≡ across c a
+      → s ≡ square d dy → k < 64
+      → Squaring c x dy first k ds ss → Squaring c x dy first (k + 1) (set ds k d) (set ss k s)
+  square-more k {ds} {ss} e g q h old =
+      record {
+        done = record {
+          each =
+              both-more (λ (i : ℕ) (d s : Float). (d ≡ across c (middle (first + i) x))
+              × (s ≡ square (across c (middle (first + i) x)) dy)) k ds ss
+              (old .long-d) (old .long-s) h (rw (← e) (g, q ∙ ap (λ (z : Float). square z dy) g)) (old .done .each);
+        };
+        long-d = length-set ds k _ ∙ old .long-d;
+        long-s = length-set ss k _ ∙ old .long-s;
+      }
+
+  pub square-last : (k n : ℕ) {ds ss : List Float} → n ≤ k → Squaring c x dy first k ds ss
+      → RadiiSquared c x dy first n ds ss
+  square-last k n a s = record { each = λ i h. s .done .each i (omega arith) }
+
+-- ---- a function of each: the guesses, and the roots
+pub record Mapping (f : Float → Float) (k : ℕ) (xs ys : List Float) : Type 0 where
+  pub done : Each f k xs ys
+  pub long : length ys ≡ 64
+
+module _ (f : Float → Float) (xs : List Float) where
+  pub each-none : {ys : List Float} → length ys ≡ 64 → Mapping f 0 xs ys
+  each-none a = record { done = record { each = λ k h. absurd (not-suc-le-zero h) }; long = a }
+
+  pub each-more : (k : ℕ) {ys : List Float} {y : Float} → y ≡ f (at xs k) → k < 64 → Mapping f k xs ys
+      → Mapping f (k + 1) xs (set ys k y)
+  each-more k {ys} {y} e h old =
+      record {
+        done = record {
+          each = both-more (λ (i : ℕ) (a b : Float). a ≡ f (at xs i)) k ys ys {y = y} (old .long)
+              (old .long) h e (old .done .each);
+        };
+        long = length-set ys k _ ∙ old .long;
+      }
+
+  pub each-last : (k n : ℕ) {ys : List Float} → n ≤ k → Mapping f k xs ys → Each f n xs ys
+  each-last k n a s = record { each = λ i h. s .done .each i (omega arith) }
+
+-- ---- the points
+pub record Moving (from : Float → Float → Point) (k : ℕ) (ds rs us vs : List Float) : Type 0 where
+  pub done : Moved from k ds rs us vs
+  pub long-u : length us ≡ 64
+  pub long-v : length vs ≡ 64
+
+module _ (from : Float → Float → Point) (ds rs : List Float) where
+  pub move-none : {us vs : List Float} → length us ≡ 64 → length vs ≡ 64 → Moving from 0 ds rs us vs
+  move-none a b = record { done = record { kept = λ k h. absurd (not-suc-le-zero h) }; long-u = a; long-v = b }
+
+  pub move-more : ((d r : Float) → Whole (from d r)) → (k : ℕ) {us vs : List Float} {p : Point}
+      → p ≡ from (at ds k) (at rs k) → k < 64
+      → Moving from k ds rs us vs → Moving from (k + 1) ds rs (set us k (p .u)) (set vs k (p .v))
+  move-more w k {us} {vs} e h old =
+      record {
+        done = record {
+          kept =
+              both-more (λ (i : ℕ) (u v : Float). from (at ds i) (at rs i) ≡ point u v) k us vs (old .long-u)
+              (old .long-v) h
+              (read-back e (w (at ds k) (at rs k))) (old .done .kept);
+        };
+        long-u = length-set us k _ ∙ old .long-u;
+        long-v = length-set vs k _ ∙ old .long-v;
+      }
+
+  pub move-last : (k n : ℕ) {us vs : List Float} → n ≤ k → Moving from k ds rs us vs → Moved from n ds rs us vs
+  move-last k n a s = record { kept = λ i h. s .done .kept i (omega arith) }
+
+-- ---- the three steps together
+radius : (c : Vector) (x dy : Float) (first n : ℕ) {ds ss rs : List Float} → RadiiSquared c x dy first n ds ss
+    → Each root n ss rs
+    → (k : ℕ) → k < n → at rs k ≡ root (square (across c (middle (first + k) x)) dy)
+radius c x dy first n S R k h = R .each k h ∙ ap root (S .each k h .1)
+
+module _ (c : Vector) (x y : Float) (first n : ℕ) {dy : Float} {ds ss rs us vs : List Float} where
+  pub barrel-span : dy ≡ down c y → RadiiSquared c x dy first n ds ss → Each root n ss rs
+      → Moved (barrelFrom c dy) n ds rs us vs
+      → Span (λ (a : Float). barrel c a y) x first n us vs
+  barrel-span e S R m = record {
+    kept = λ k h. rw (← e, ← radius c x dy first n S R k h, ← S .each k h .0)
+        (m .kept k h);
+  }
+
+  pub barrel-inverse-span : dy ≡ down c y → RadiiSquared c x dy first n ds ss → Each root n ss rs
+      → Moved (barrelInverseFrom c dy) n ds rs us vs
+      → Span (λ (a : Float). barrelInverse c a y) x first n us vs
+  barrel-inverse-span e S R m =
+      record { kept = λ k h. rw (← e, ← radius c x dy first n S R k h, ← S .each k h .0) (m .kept k h) }

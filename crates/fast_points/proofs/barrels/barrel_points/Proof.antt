@@ -1,0 +1,26 @@
+-- `fast_points::barrels::barrel_points` meets its contract: its steps are the points (`BarrelLaws.antt`). Assumes
+-- nothing.
+use borrow.Author.Needs.{needs}
+use Rattle.fast_points.proofs.BarrelLaws.{barrel-span}
+use Rattle.fast_points.proofs.barrels.barrel_points.Statement.{statement}
+use Rattle.fast_points.proofs.barrels.barrel_points.Tie as tie
+
+returns : tie.Need-returns
+returns c =
+    let r = c .before .before .before .before .before .before .before .before .before in
+    let s = r .before .before .before .before .before .before .before in
+    barrel-span _ _ _ _ _ (s .before .before .before .down .ensures) (s .radii-squared .ensures) (r .roots .ensures)
+    (c .barrel-moved .ensures)
+
+pub barrel-points-spec : {M : Type 1} → statement M
+barrel-points-spec =
+    tie.close
+    (tie.spec
+    (λ c κs. search needs)
+    (λ c κs. search needs)
+    (λ c κs. search needs)
+    (λ c κs. search needs)
+    (λ c κs. search needs)
+    (λ c κs. search needs)
+    (λ c κs. search needs)
+    returns)

@@ -1,0 +1,25 @@
+-- The steps to the points of Barrel and BarrelInverse, each for a whole span: the offsets across with the squared
+-- radii, the radii, the points from both. Assumes nothing.
+use mathlib.Core.Path.{_≡_}
+use mathlib.Core.List.{List}
+use Prim.Native.Nat.{ℕ, _+_, _<_}
+use lib.Ieee.{Float}
+use Rattle.exact.specs.Vector.{Vector, at}
+use Rattle.point.specs.declared.point.Point.{Point}
+use Rattle.point.specs.Point.{point}
+use Rattle.inverse.specs.Barrel.{across, square}
+use Rattle.fast_points.specs.Span.{middle}
+
+-- the first n of two lists: the offsets across and the squared radii of the pixels from column `first` on, of a
+-- window at x; dy is the offset down
+pub record RadiiSquared (c : Vector) (x dy : Float) (first n : ℕ) (ds ss : List Float) : Type 0 where
+  pub each : (k : ℕ) → k < n
+      → (at ds k ≡ across c (middle (first + k) x)) × (at ss k ≡ square (across c (middle (first + k) x)) dy)
+
+-- the first n of a list: f of another's
+pub record Each (f : Float → Float) (n : ℕ) (xs ys : List Float) : Type 0 where
+  pub each : (k : ℕ) → k < n → at ys k ≡ f (at xs k)
+
+-- the first n of two lists: the points that `from` gives by the offsets and the radii
+pub record Moved (from : Float → Float → Point) (n : ℕ) (ds rs us vs : List Float) : Type 0 where
+  pub kept : (k : ℕ) → k < n → from (at ds k) (at rs k) ≡ point (at us k) (at vs k)

@@ -1,0 +1,20 @@
+-- The source points of a span of a row, by their coordinates in two lists: each point is `point` of its own
+-- coordinates, so what is read back is that point. Assumes nothing.
+use mathlib.Core.Path.{_≡_}
+use mathlib.Core.List.{List}
+use Prim.Native.Nat.{ℕ, _+_, _<_}
+use lib.IntN.{pos}
+use lib.Ieee.{Float, binary64, ofBits, ofInt}
+use Rattle.exact.specs.Double.{_⊕_}
+use Rattle.exact.specs.Vector.{at}
+use Rattle.point.specs.declared.point.Point.{Point}
+use Rattle.point.specs.Point.{point}
+
+-- `asked` with the offset as a float
+abbrev pub middle : ℕ → Float → Float
+middle i x = ofInt binary64 (pos i) ⊕ x ⊕ ofBits binary64 0x3fe0_0000_0000_0000  -- 0.5
+
+-- the first n of two lists: the points that f gives at the middles of the pixels from column `first` on, of a window
+-- at x
+pub record Span (f : Float → Point) (x : Float) (first n : ℕ) (us vs : List Float) : Type 0 where
+  pub kept : (k : ℕ) → k < n → f (middle (first + k) x) ≡ point (at us k) (at vs k)

@@ -1,0 +1,6 @@
+// For speed alone: the source points of a span of a row, worked out at once by loops that call the mappings of
+// `inverse`. Read by `rows`.
+pub mod barrels;
+pub mod pixel;
+pub mod points;
+pub mod sized;

@@ -1,3 +1,0 @@
--- What the probe of the fit answers.
-pub mod Fitted
-pub mod Sized

@@ -1,4 +1,0 @@
-// A static library for tests alone: its export hands the fit to the host. Floats pass as their bits; a NaN comes out as
-// 0x7ff8000000000000. No product links it.
-pub mod fitted;
-pub mod sized;

@@ -1,2 +1,0 @@
--- The laws of the Newton steps.
-pub mod ForwardLaws

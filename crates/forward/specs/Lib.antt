@@ -1,2 +1,0 @@
--- The definition of the Newton steps.
-pub mod Forward

@@ -1,2 +1,0 @@
-// The source point of `BilinearForward`, by Newton steps.
-pub mod forward;

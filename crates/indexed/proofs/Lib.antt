@@ -1,2 +1,0 @@
--- The laws of the pixel at an index.
-pub mod AtLaws

@@ -1,2 +1,0 @@
-// The pixel at an integer index, virtual outside.
-pub mod at;

@@ -1,2 +1,0 @@
--- The definition of the weights of a stretch.
-pub mod Kernels

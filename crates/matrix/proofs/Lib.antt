@@ -1,2 +1,0 @@
--- The laws of the inverses.
-pub mod InvertLaws

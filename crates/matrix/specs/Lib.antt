@@ -1,3 +1,0 @@
--- Matrices as lists, and their inverses.
-pub mod Invert
-pub mod Matrix

@@ -1,2 +1,0 @@
-// The inverses of two matrices: of an affine mapping and of a homography.
-pub mod invert;

@@ -1,2 +1,0 @@
--- The definition of Perspective's source point.
-pub mod Perspective

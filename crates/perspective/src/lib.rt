@@ -1,2 +1,0 @@
-// The source point of Perspective.
-pub mod perspective;

@@ -1,0 +1,8 @@
+// A picture in bytes: pixels and colours read from it, the pixel at any index by a policy, and a colour stored in a
+// band. Pictures are lent bytes, little-endian f32 samples row by row; nothing is converted up front. Read by all that
+// touches samples.
+pub mod at;
+pub mod colour;
+pub mod pixel;
+pub mod shape;
+pub mod store;

@@ -1,3 +1,0 @@
--- The laws of pixels, a file for each subject.
-pub mod LimitedLaws
-pub mod PixelCode

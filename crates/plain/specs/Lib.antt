@@ -1,2 +1,0 @@
--- The definitions of a stretch inside.
-pub mod Plain

@@ -1,2 +1,0 @@
--- The laws of the probes.
-pub mod PointsLaws

@@ -1,3 +1,0 @@
--- What the probes answer.
-pub mod Pointed
-pub mod Points

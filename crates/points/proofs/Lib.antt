@@ -1,2 +1,0 @@
--- The laws of the source points of a stretch.
-pub mod PointsLaws

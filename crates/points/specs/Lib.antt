@@ -1,2 +1,0 @@
--- The definition of the points of a stretch.
-pub mod Points

@@ -1,0 +1,3 @@
+-- The laws of the probes.
+pub mod PointsLaws
+pub mod RowsLaws

@@ -1,0 +1,133 @@
+-- `probe_sampler::sampled::outside` meets its contract: each way out is the test that it found. Assumes nothing.
+use mathlib.Core.Path.{sym, _∙_}
+use native.Mathlib.Omega.{arith}
+use Rattle.probe_sampler.specs.Sampled.{outside}
+use Rattle.probe_sampler.proofs.SampledLaws.{Sized, shape-fit, area-small, samples-small}
+use borrow.Author.Needs.{needs}
+use Rattle.probe_sampler.proofs.sampled.outside.Statement.{statement}
+use Rattle.probe_sampler.proofs.sampled.outside.Tie as tie
+
+wrong-picture-requires : tie.Need-wrong-picture-requires
+wrong-picture-requires c κs = search needs
+
+returns : tie.Need-returns
+unfolding outside
+returns c = rw (← c .before .wrong-picture .ensures, c .if1 .taken)
+
+wrong-codes-requires : tie.Need-wrong-codes-requires
+wrong-codes-requires c κs = search needs
+
+returns-2 : tie.Need-returns-2
+unfolding outside
+returns-2 c = rw (
+  ← c .before .before .before .wrong-picture .ensures,
+  c .before .before .if1 .left,
+  ← c .before .wrong-codes .ensures,
+  c .if2 .taken,
+)
+
+-- the sizes of a picture whose shape and codes no test refused
+sized : (c : tie.Else2) → let a = c .before .before .before .before .before .args in
+    Sized (a .picture .now) (a .shape)
+sized c = shape-fit _ _ (sym (c .before .before .before .wrong-picture .ensures) ∙ c .before .before .if1 .left)
+
+mul-large : tie.Need-mul-large
+mul-large c = let p = sized (c .before) in
+    omega (arith, area-small _ _ (p .sizes .width-most) (p .sizes .height-most))
+
+mul-large-2 : tie.Need-mul-large-2
+mul-large-2 c = let p = sized (c .before .before) in
+    omega (arith, samples-small _ _ _ (p .sizes .width-most) (p .sizes .height-most) (p .channels-most))
+
+large-requires : tie.Need-large-requires
+large-requires c κs = let p = sized (c .before .before) in omega (arith, p .whole)
+
+returns-3 : tie.Need-returns-3
+unfolding outside
+returns-3 c =
+    let d = c .before .before .before .before in
+    rw (
+      ← d .before .before .before .wrong-picture .ensures,
+      d .before .before .if1 .left,
+      ← d .before .wrong-codes .ensures,
+      d .if2 .left,
+      ← c .before .large .ensures,
+      c .if3 .taken,
+    )
+
+large-requires-2 : tie.Need-large-requires-2
+large-requires-2 c κs = search needs
+
+returns-4 : tie.Need-returns-4
+unfolding outside
+returns-4 c =
+    let d = c .before .before .before .before .before .before .before in
+    rw (
+      ← d .before .before .before .wrong-picture .ensures,
+      d .before .before .if1 .left,
+      ← d .before .wrong-codes .ensures,
+      d .if2 .left,
+      ← c .before .before .before .before .large .ensures,
+      c .before .before .before .if3 .left,
+      ← c .before .large2 .ensures,
+      c .if4 .taken,
+    )
+
+beyond-requires : tie.Need-beyond-requires
+beyond-requires c κs = search needs
+
+returns-5 : tie.Need-returns-5
+unfolding outside
+returns-5 c =
+    let d = c .before .before .before .before .before .before .before .before .before in
+    rw (
+      ← d .before .before .before .wrong-picture .ensures,
+      d .before .before .if1 .left,
+      ← d .before .wrong-codes .ensures,
+      d .if2 .left,
+      ← c .before .before .before .before .before .before .large .ensures,
+      c .before .before .before .before .before .if3 .left,
+      ← c .before .before .before .large2 .ensures,
+      c .before .before .if4 .left,
+      ← c .before .beyond .ensures,
+      c .if5 .taken,
+    )
+
+beyond-requires-2 : tie.Need-beyond-requires-2
+beyond-requires-2 c κs = search needs
+
+returns-6 : tie.Need-returns-6
+unfolding outside
+returns-6 c =
+    let d = c .before .before .before .before .before .before .before .before .before .before in
+    rw (
+      ← d .before .before .before .wrong-picture .ensures,
+      d .before .before .if1 .left,
+      ← d .before .wrong-codes .ensures,
+      d .if2 .left,
+      ← c .before .before .before .before .before .before .before .large .ensures,
+      c .before .before .before .before .before .before .if3 .left,
+      ← c .before .before .before .before .large2 .ensures,
+      c .before .before .before .if4 .left,
+      ← c .before .before .beyond .ensures,
+      c .before .if5 .left,
+    ) (c .beyond2 .ensures)
+
+pub outside-spec : {M : Type 1} → statement M
+outside-spec =
+    tie.close
+    (tie.spec
+    wrong-picture-requires
+    returns
+    wrong-codes-requires
+    returns-2
+    mul-large
+    mul-large-2
+    large-requires
+    returns-3
+    large-requires-2
+    returns-4
+    beyond-requires
+    returns-5
+    beyond-requires-2
+    returns-6)

@@ -1,0 +1,59 @@
+-- The sampler handed out: 0 with the colour's bits in the bytes lent, or 1 outside the domain, where nothing is
+-- written. Assumes nothing.
+use Prim.Native.Nat.{ℕ, _*_}
+use mathlib.Core.Bool.{Bool, not, cond, _||_}
+use mathlib.Core.List.{List}
+use lib.Dec.{eqb, ltb}
+use lib.ListN.{length}
+use lib.Ieee.{binary64, ofBits}
+use Rattle.number.specs.Magnitude.{within}
+use Rattle.probe_number.specs.Size.{wrongSize}
+unfoldable pub use Rattle.sample_limit.specs.Samples.{large}
+use Rattle.taps.specs.Cell.{reach}
+use Rattle.sampler.specs.Interpolate.{interpolate}
+use Rattle.picture.specs.Pixel.{pixelAt}
+use Rattle.picture.specs.Store.{storePixel}
+use Rattle.picture.specs.declared.colour.Rgba.{Rgba}
+use Rattle.picture.specs.declared.shape.Shape.{Shape}
+
+-- ---- what is outside the domain
+-- neither 1, 3 nor 4
+unfoldable pub wrongChannels : ℕ → Bool
+wrongChannels n = not (eqb n 1 || (eqb n 3 || eqb n 4))
+
+-- how many samples a picture has
+abbrev pub samples : Shape → ℕ
+samples s = s .width * s .height * s .channels
+
+unfoldable pub wrongPicture : List ℕ → Shape → Bool
+wrongPicture bytes s =
+    wrongSize (s .width) || (wrongSize (s .height)
+    || (wrongChannels (s .channels) || not (eqb (length bytes) (samples s * 4))))
+
+unfoldable pub wrongCodes : ℕ → ℕ → Bool
+wrongCodes policy code = ltb 13 policy || ltb 8 code
+
+-- a coordinate, by its bits, that is not a number or above 2^30 + 1 in magnitude
+unfoldable pub beyond : ℕ → Bool
+beyond x = not (within reach (ofBits binary64 x))
+
+unfoldable pub outside : List ℕ → Shape → ℕ → ℕ → List ℕ → ℕ → ℕ → Bool
+outside bytes s policy code background x y =
+    wrongPicture bytes s
+    || (wrongCodes policy code
+    || (large bytes (samples s) || (large background 4 || (beyond x || beyond y))))
+
+-- ---- the answers
+-- the colour at a point, by the bits of its coordinates, as the pixel numbered k
+abbrev pub storeColour : List ℕ → ℕ → ℕ → ℕ → ℕ → ℕ → Rgba → ℕ → ℕ → List ℕ → ℕ → List ℕ
+storeColour bytes width height channels policy code background x y out k =
+    storePixel out 4 k (interpolate bytes width height channels policy code background (ofBits binary64 x)
+    (ofBits binary64 y))
+
+abbrev pub shapeOf : ℕ → ℕ → ℕ → Shape
+shapeOf width height channels = record { width = width; height = height; channels = channels }
+
+unfoldable pub probeInterpolate : List ℕ → ℕ → ℕ → ℕ → ℕ → ℕ → List ℕ → ℕ → ℕ → List ℕ → ℕ × List ℕ
+probeInterpolate bytes width height channels policy code background x y out =
+    cond (outside bytes (shapeOf width height channels) policy code background x y) (1, out)
+    (0, storeColour bytes width height channels policy code (pixelAt background 1 4 0 0) x y out 0)

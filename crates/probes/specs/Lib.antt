@@ -1,2 +1,0 @@
--- What the probes answer.
-pub mod Sampled

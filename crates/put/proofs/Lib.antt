@@ -1,5 +1,0 @@
--- The laws of pixels put one after another, a file for each subject.
-pub mod JoinedLaws
-pub mod LengthLaws
-pub mod PixelLaws
-pub mod RowLaws

@@ -1,2 +1,0 @@
--- The definition of the square root.
-pub mod Root

@@ -1,2 +1,0 @@
--- The laws of the probe.
-pub mod RowsLaws

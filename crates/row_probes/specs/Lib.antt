@@ -1,2 +1,0 @@
--- What the probe answers.
-pub mod Rows

@@ -1,0 +1,2 @@
+-- The laws of a row in spans.
+pub mod SpanLaws

@@ -1,0 +1,78 @@
+-- `rows::inside::store_bilinear` meets its contract: where every point of the span has its cell inside, none is matte,
+-- and each cell's colour is the point's. Assumes nothing.
+use mathlib.Core.Path.{ap, refl, _∙_}
+use mathlib.Core.Bool.{true≢false, false≢true}
+use mathlib.Core.List.{List, _++_}
+use Prim.Native.Nat.{ℕ, _+_, _*_}
+use lib.ListN.{take, drop}
+use denote.Ref.{now}
+use borrow.Author.Needs.{needs}
+use Rattle.fast_colours.proofs.PlainLaws.{cells-inside, cells-units, cells-mattes, cells-colours}
+use Rattle.rows.proofs.inside.store_bilinear.Statement.{statement}
+use Rattle.rows.proofs.inside.store_bilinear.Tie as tie
+
+cells-requires : tie.Need-cells-requires
+cells-requires c κs = search needs
+
+ahead-requires : tie.Need-ahead-requires
+ahead-requires c κs =
+    let a = c .before .before .before .before .before .before .before .before .before .before .before .before in
+    let C = c .before .before .before .cells .ensures .0 (c .before .before .if1 .taken) in
+    (a .pre .0, (a .pre .1 .1 .0, cells-inside _ _ (C .0) (C .1)))
+
+store-cells-requires : tie.Need-store-cells-requires
+store-cells-requires c κs =
+    let a = c .before .before .before .before .before .before .before .before .before .before .before .before .before
+    .before .before .before .before .before .before in
+    let C = c .before .before .before .before .before .before .before .before .before .before .cells .ensures .0 (c
+    .before .before .before .before .before .before .before .before .before .if1 .taken) in (
+      a .pre .0,
+      (
+        a .pre .1 .0,
+        (
+          a .pre .1 .1 .0,
+          (
+            cells-inside _ _ (C .0) (C .1),
+            ((cells-units (C .0), cells-units (C .1)), a .pre .1 .1 .1),
+          ),
+        ),
+      ),
+    )
+
+returns : tie.Need-returns
+returns c =
+    let a = c .before .before .before .before .before .before .before .before .before .before .before .before .before
+    .before .before .before .before .before .before .before .before .before .args in
+    let C = c .before .before .before .before .before .before .before .before .before .before .before .before .before
+    .cells .ensures .0 (c .before .before .before .before .before .before .before .before .before .before .before
+    .before .if1 .taken) in (
+      λ _ policy background matte. (
+        cells-mattes (a .shape .width) (a .shape .height) (C .0) (C .1),
+        c .before .before .store-cells .ensures
+            ∙ ap (λ (z : List ℕ). take (a .span .pixel * a .shape .channels * 4) (now (a .band)) ++ z
+            ++ drop ((a .span .pixel + a .span .n) * a .shape .channels * 4) (now (a .band)))
+            (cells-colours (a .shape .width) (a .shape .height) (C .0) (C .1) _ (a .shape .channels) policy background
+            matte),
+      ),
+      λ e. absurd (true≢false e),
+    )
+
+returns-2 : tie.Need-returns-2
+returns-2 c = (λ e. absurd (false≢true e), λ _. refl)
+
+returns-3 : tie.Need-returns-3
+returns-3 c = (λ e. absurd (false≢true e), λ _. refl)
+
+pub store-bilinear-spec : {M : Type 1} → statement M
+store-bilinear-spec =
+    tie.close
+    (tie.spec
+    (λ c. search needs)
+    (λ c. search needs)
+    cells-requires
+    ahead-requires
+    store-cells-requires
+    (λ c. search needs)
+    returns
+    returns-2
+    returns-3)

@@ -1,0 +1,77 @@
+// `Catrom` and `Spline`: where the four by four taps lie inside they are read straight from the bytes, row by row, and
+// no policy is asked. Assumes that the bytes are a picture's, and the point's coordinates at most 2^30 + 1 in
+// magnitude.
+ghost use mathlib.Core.Path.{_≡_};
+ghost use Prim.Native.Nat.{_-_};
+ghost use Rattle.picture.specs.Pixel.{Picture};
+ghost use Rattle.taps.specs.Cell.{Reached};
+ghost use Rattle.taps.specs.Interpolation.{Cubic};
+ghost use Rattle.sampler.specs.Interpolate as Interpolate;
+ghost use Rattle.sampler.specs.Sixteen.{kernel};
+use crate::fast_four_by_four::four_by_four;
+use crate::several::several;
+use cubic::cubic::catrom;
+use cubic::cubic::spline;
+use endian::pattern::bits_of_i64;
+use picture::colour::Rgba;
+use taps::cell::before;
+use taps::cell::below;
+use taps::cell::fraction;
+use taps::interpolation::CATROM;
+
+// The weights of a column or a row, by the interpolation's code.
+fn kernel(code: u64, t: f32) -> [f32; 4]
+    ensures { λ r. ⌜ r ≡ kernel code t ⌝ }
+{
+    if code == CATROM {
+        return catrom(t);
+    }
+    spline(t)
+}
+
+// A side less three, where a square of four starts last.
+fn starts(n: u64) -> u64
+    ensures { λ r. ⌜ r ≡ n - 3 ⌝ }
+{
+    if n < 3 {
+        return 0;
+    }
+    n - 3
+}
+
+pub fn cubic(
+    picture: &[u8],
+    width: u64,
+    height: u64,
+    channels: u64,
+    policy: u64,
+    code: u64,
+    background: Rgba,
+    x: f64,
+    y: f64,
+) -> Rgba
+    requires { ⌜ Picture (now picture) width height channels ⌝ }
+    requires { ⌜ Reached x × Reached y ⌝ }
+    requires { ⌜ Cubic code ⌝ }
+    ensures { λ r. ⌜ r ≡ Interpolate.interpolate (now (picture .entry)) width height channels policy code background x
+        y ⌝ }
+{
+    let i = bits_of_i64(before(below(x)));
+    let j = bits_of_i64(before(below(y)));
+    if i < starts(width) && j < starts(height) {
+        let wx = kernel(code, fraction(x));
+        let wy = kernel(code, fraction(y));
+        return four_by_four(picture, width, height, channels, i, j, &wx, &wy);
+    }
+    several(
+        picture,
+        width,
+        height,
+        channels,
+        policy,
+        code,
+        background,
+        x,
+        y,
+    )
+}

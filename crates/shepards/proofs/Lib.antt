@@ -1,2 +1,0 @@
--- The laws of Shepards' loop.
-pub mod ShepardsLaws

@@ -1,2 +1,0 @@
--- The definition of Shepards' source point.
-pub mod Shepards

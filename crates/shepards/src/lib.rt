@@ -1,2 +1,0 @@
-// The source point of Shepards.
-pub mod shepards;

@@ -1,2 +1,0 @@
--- The laws of `Catrom` and `Spline`.
-pub mod SixteenCode

@@ -1,2 +1,0 @@
--- The definitions of the sums over sixteen taps.
-pub mod Sixteen

@@ -1,2 +1,0 @@
--- The laws of the sums over sixteen taps.
-pub mod SquareCode

@@ -1,2 +1,0 @@
--- The definition of the sums over sixteen taps.
-pub mod Square

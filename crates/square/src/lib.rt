@@ -1,2 +1,0 @@
-// Sixteen taps inside a picture, of any number of channels.
-pub mod square;

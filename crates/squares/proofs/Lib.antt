@@ -1,2 +1,0 @@
--- The laws of the weights of a stretch.
-pub mod SquareLaws

@@ -1,2 +1,0 @@
--- The definitions of the squares of a stretch.
-pub mod Squares

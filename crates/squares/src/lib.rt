@@ -1,2 +1,0 @@
-// Stretches inside a picture, by `Catrom` and `Spline`.
-pub mod squares;

@@ -1,2 +1,0 @@
--- The laws of a stored colour.
-pub mod StoreLaws

@@ -1,2 +1,0 @@
--- The definition of a stored colour.
-pub mod Store

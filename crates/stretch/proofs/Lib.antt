@@ -1,2 +1,0 @@
--- The laws of lists that a loop fills.
-pub mod FillLaws

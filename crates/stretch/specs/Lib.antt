@@ -1,2 +1,0 @@
--- The definition of a stretch of source points.
-pub mod Stretch

@@ -1,2 +1,0 @@
--- The definition of the weighted mean.
-pub mod Weighted

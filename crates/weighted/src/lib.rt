@@ -1,2 +1,0 @@
-// The weighted mean of taps, colours weighted by alpha.
-pub mod weighted;

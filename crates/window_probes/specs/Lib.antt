@@ -1,2 +1,0 @@
--- What the probe of the window answers.
-pub mod Placed

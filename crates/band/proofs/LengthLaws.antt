@@ -5,13 +5,13 @@ use Prim.Native.Nat.{ℕ, _*_, _≤_}
 use native.Mathlib.Nat.{mul-one}
 use native.Mathlib.Omega.{arith}
 use lib.ListN.{length}
-use Rattle.band.specs.Band.{Frame, Source, pointAt, colourAt, matteAt, pixelBytes, rowBytes, rowMatte}
+use Rattle.band.specs.Band.{Mapped, Source, pointAt, colourAt, matteAt, pixelBytes, rowBytes, rowMatte}
 use Rattle.band.specs.Joined.{joined, totalled}
 use Rattle.band.proofs.JoinedLaws.{joined-length, totalled-most}
 use Rattle.band.proofs.PixelLaws.{pixel-length}
 use Rattle.band.proofs.RowLaws.{bit-most}
 
-pub row-length : (s : Source) (f : Frame) (channels width j : ℕ)
+pub row-length : (s : Source) (f : Mapped) (channels width j : ℕ)
     → length (rowBytes s f channels width j) ≡ width * channels * 4
 unfolding rowBytes
 row-length s f channels width j =
@@ -21,7 +21,7 @@ row-length s f channels width j =
     grouped : (w c : ℕ) → w * (c * 4) ≡ w * c * 4
     grouped w c = omega arith
 
-pub row-matte-most : (f : Frame) (width j : ℕ) → rowMatte f width j ≤ width
+pub row-matte-most : (f : Mapped) (width j : ℕ) → rowMatte f width j ≤ width
 unfolding rowMatte
 row-matte-most f width j =
     subst (λ (n : ℕ). totalled (λ (i : ℕ). matteAt f i j) width ≤ n) (mul-one width)

@@ -13,7 +13,7 @@ use Rattle.exact.specs.Sums.{asked}
 use Rattle.exact.specs.Warp.{half}
 use Rattle.exact.specs.Vector.{Vector, at}
 use Rattle.inverse.specs.Inverse.{inverse}
-use Rattle.inverse.specs.declared.frame.Frame as Code
+use Rattle.inverse.specs.declared.frame.Frame.{Frame}
 use Rattle.mappings.specs.declared.mapping.Mapping.{Mapping}
 use Rattle.point.specs.Point.{point, usable}
 use Rattle.point.specs.declared.point.Point.{Point}
@@ -27,7 +27,7 @@ use Rattle.band.specs.Joined.{joined, totalled}
 
 -- ---- what a pixel is worked from
 -- the mapping, and where the window lies
-pub record Frame : Type 0 where
+pub record Mapped : Type 0 where
   pub kind : ℕ
   pub order : ℕ
   pub count : ℕ
@@ -44,12 +44,12 @@ pub record Source : Type 0 where
   pub matte : Rgba
 
 -- both by the records that the code hands on, with the lists that it lends
-abbrev pub framed : Vector → Code.Frame → Frame
+abbrev pub framed : Vector → Frame → Mapped
 framed coef f =
     record { kind = f .kind; order = f .order; count = f .count; coef = coef; x = f .x; y = f .y }
 
 -- a mapping in a window at x, y
-abbrev pub mapped : Mapping → ℤ → ℤ → Frame
+abbrev pub mapped : Mapping → ℤ → ℤ → Mapped
 mapped m x y = record { kind = m .kind; order = m .order; count = m .count; coef = m .coef; x = x; y = y }
 
 abbrev pub sourced : List ℕ → Shape → Look → Source
@@ -62,7 +62,7 @@ sourced bytes s l = record {
 }
 
 -- ---- one pixel, at column i and row j of the window
-abbrev pub pointAt : Frame → ℕ → ℕ → Point
+abbrev pub pointAt : Mapped → ℕ → ℕ → Point
 pointAt f i j = inverse (f .kind) (f .order) (f .count) (f .coef) (asked i (f .x)) (asked j (f .y))
 
 unfoldable pub shown : Source → Point → Rgba
@@ -72,10 +72,10 @@ shown s p =
     (s .interpolation) (s .background) (p .u ⊖ half) (p .v ⊖ half))
     (s .matte)
 
-abbrev pub colourAt : Source → Frame → ℕ → ℕ → Rgba
+abbrev pub colourAt : Source → Mapped → ℕ → ℕ → Rgba
 colourAt s f i j = shown s (pointAt f i j)
 
-abbrev pub matteAt : Frame → ℕ → ℕ → ℕ
+abbrev pub matteAt : Mapped → ℕ → ℕ → ℕ
 matteAt f i j = cond (pointAt f i j .usable) 0 1
 
 -- both by the coordinates of its source point
@@ -110,14 +110,14 @@ Inner image interpolation channels us vs n pixel before after =
     }) channels us vs n pixel before)
 
 -- ---- row j, and then rows from `first` on, of a window of this width
-unfoldable pub rowBytes : Source → Frame → ℕ → ℕ → ℕ → List ℕ
+unfoldable pub rowBytes : Source → Mapped → ℕ → ℕ → ℕ → List ℕ
 rowBytes s f channels width j = joined (λ (i : ℕ). pixelBytes channels (colourAt s f i j)) width
 
-unfoldable pub rowsBytes : Source → Frame → ℕ → ℕ → ℕ → ℕ → List ℕ
+unfoldable pub rowsBytes : Source → Mapped → ℕ → ℕ → ℕ → ℕ → List ℕ
 rowsBytes s f channels width first rows = joined (λ (r : ℕ). rowBytes s f channels width (first + r)) rows
 
-unfoldable pub rowMatte : Frame → ℕ → ℕ → ℕ
+unfoldable pub rowMatte : Mapped → ℕ → ℕ → ℕ
 rowMatte f width j = totalled (λ (i : ℕ). matteAt f i j) width
 
-unfoldable pub rowsMatte : Frame → ℕ → ℕ → ℕ → ℕ
+unfoldable pub rowsMatte : Mapped → ℕ → ℕ → ℕ → ℕ
 rowsMatte f width first rows = totalled (λ (r : ℕ). rowMatte f width (first + r)) rows

@@ -36,7 +36,7 @@ use Rattle.picture.specs.declared.colour.Rgba.{Rgba}
 use Rattle.sampler.proofs.BilinearOpaque.{sampled-near}
 use Rattle.window.specs.Window.{xOf, yOf}
 use Rattle.band.specs.Band.{pointAt, shown, colourAt}
-use Rattle.distort.specs.Call.{outWidth, outHeight, frameOf, sourceOf}
+use Rattle.distort.specs.Call.{outWidth, outHeight, mappedOf, sourceOf}
 use Rattle.distort.specs.Job.{Image, Given, colourOf}
 use Rattle.distort.specs.Refusal.{transparent, fitOf, windowOf, widest, channelsOf}
 use Rattle.distort.proofs.SampleLaws.{part as component}
@@ -139,14 +139,14 @@ module _ (p : Image) (q : ExactImage) (n : ℕ) (F : Faithful p q n)
     module _ (I : g .interpolation ≡ bilinear) (hi : i ≤ 4096) (hj : j ≤ 4096) (hx : natAbs ox ≤ 1048576)
         (hy : natAbs oy ≤ 1048576)
         (M : Conditions.Meets (m .kind) (m .order) (m .coef) (askedF i ox) (askedF j oy)) where
-      point : Conditions.Faithful (pointAt (frameOf p g) i j) there
+      point : Conditions.Faithful (pointAt (mappedOf p g) i j) there
       point = asked-near i j ox oy hi hj hx hy (m .kind) (m .order) (m .count) (m .coef) M
 
       abbrev at-point : Point
-      at-point = pointAt (frameOf p g) i j
+      at-point = pointAt (mappedOf p g) i j
 
       abbrev it : Rgba
-      it = colourAt (sourceOf p g) (frameOf p g) i j
+      it = colourAt (sourceOf p g) (mappedOf p g) i j
 
       -- the picture's colour there, by an interpolation's code
       abbrev by : ℕ → Rgba

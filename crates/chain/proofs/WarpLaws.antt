@@ -17,7 +17,7 @@ use Rattle.picture.specs.Pixel.{Picture}
 use Rattle.picture.specs.declared.colour.Rgba.{Rgba}
 use Rattle.window.specs.Window.{xOf, yOf}
 use Rattle.band.specs.Band.{colourAt}
-use Rattle.distort.specs.Call.{outWidth, outHeight, frameOf, sourceOf, rowsOf}
+use Rattle.distort.specs.Call.{outWidth, outHeight, mappedOf, sourceOf, rowsOf}
 use Rattle.distort.specs.Job.{Image, Given}
 use Rattle.distort.specs.Refusal.{windowOf, channelsOf}
 use Rattle.distort.specs.declared.answer.Answer.{Answer}
@@ -77,7 +77,7 @@ module _ (p : Image) (g : Given) (count : ℕ) (J : AcceptedJob p g) (C : Condit
   -- ---- the pixel at column i and row j
   module _ (i j : ℕ) (hi : i < W) (hj : j < H) where
     abbrev it : Rgba
-    it = colourAt (sourceOf p g) (frameOf p g) i j
+    it = colourAt (sourceOf p g) (mappedOf p g) i j
 
     less : (i m : ℕ) → i < m → m ≤ 4096 → i ≤ 4096
     less i m a b = omega arith
@@ -96,7 +96,7 @@ module _ (p : Image) (g : Given) (count : ℕ) (J : AcceptedJob p g) (C : Condit
     -- it is what the bytes hold there
     read : (k : ℕ) → k < D → sampleAt bytes (place W D i j k) ≡ component it k
     read k hk = sample-at p g P 0 H i j hi hj colours k hk
-        ∙ ap (λ (r : ℕ). component (colourAt (sourceOf p g) (frameOf p g) i r) k) (zero-add j)
+        ∙ ap (λ (r : ℕ). component (colourAt (sourceOf p g) (mappedOf p g) i r) k) (zero-add j)
 
     near-sample : (k : ℕ) → k < D → NearSample (pictured A bytes) (exactWarp q g A) (n + 1) i j k
     near-sample k hk =

@@ -8,7 +8,7 @@ use native.Mathlib.Nat.{add-assoc, zero-add, mul-one}
 use native.Mathlib.Omega.{arith}
 use lib.ListN.{length, take, drop}
 use Rattle.band.specs.Band.{
-  Frame,
+  Mapped,
   Source,
   pointAt,
   colourAt,
@@ -19,7 +19,7 @@ use Rattle.band.specs.Band.{
   rowMatte,
   rowsMatte,
 }
-use Rattle.distort.specs.Call.{outWidth, frameOf, sourceOf, rowsOf, matteOf, left}
+use Rattle.distort.specs.Call.{outWidth, mappedOf, sourceOf, rowsOf, matteOf, left}
 use Rattle.distort.specs.Job.{Image, Given, Call}
 use Rattle.band.specs.Joined.{joined, totalled}
 use Rattle.distort.specs.Refusal.{channelsOf, refusal}
@@ -36,7 +36,7 @@ use Rattle.band.proofs.LengthLaws.{row-length, row-matte-most}
 use Rattle.distort.proofs.CallLaws.{left-accepted}
 
 -- ---- of a source and a frame
-module _ (s : Source) (f : Frame) (channels width : ℕ) where
+module _ (s : Source) (f : Mapped) (channels width : ℕ) where
   bytes-length : (first rows : ℕ) → length (rowsBytes s f channels width first rows) ≡ rows * width * channels * 4
   unfolding rowsBytes
   bytes-length first rows =
@@ -87,24 +87,24 @@ module _ (p : Image) (g : Given) where
 
   pub rows-length : (first rows : ℕ) → length (rowsOf p g first rows) ≡ rows * outWidth p g * channelsOf p g * 4
   unfolding rowsOf
-  rows-length first rows = bytes-length (sourceOf p g) (frameOf p g) (channelsOf p g) (outWidth p g) first rows
+  rows-length first rows = bytes-length (sourceOf p g) (mappedOf p g) (channelsOf p g) (outWidth p g) first rows
 
   -- rows r to r + k of the warp
   pub rows-part : (r k n : ℕ) → r + k ≤ n
       → take (k * rowLength) (drop (r * rowLength) (rowsOf p g 0 n)) ≡ rowsOf p g r k
   unfolding rowsOf
   rows-part r k n h =
-      bytes-part (sourceOf p g) (frameOf p g) (channelsOf p g) (outWidth p g) 0 r k n h
-      ∙ ap (λ (m : ℕ). rowsBytes (sourceOf p g) (frameOf p g) (channelsOf p g) (outWidth p g) m k) (zero-add r)
+      bytes-part (sourceOf p g) (mappedOf p g) (channelsOf p g) (outWidth p g) 0 r k n h
+      ∙ ap (λ (m : ℕ). rowsBytes (sourceOf p g) (mappedOf p g) (channelsOf p g) (outWidth p g) m k) (zero-add r)
 
   -- rows in two parts
   pub rows-join : (r k l : ℕ) → rowsOf p g r (k + l) ≡ rowsOf p g r k ++ rowsOf p g (r + k) l
   unfolding rowsOf
-  rows-join r k l = bytes-join (sourceOf p g) (frameOf p g) (channelsOf p g) (outWidth p g) r k l
+  rows-join r k l = bytes-join (sourceOf p g) (mappedOf p g) (channelsOf p g) (outWidth p g) r k l
 
   pub mattes-add : (r k l : ℕ) → matteOf p g r (k + l) ≡ matteOf p g r k + matteOf p g (r + k) l
   unfolding matteOf
-  mattes-add r k l = matte-join (sourceOf p g) (frameOf p g) (channelsOf p g) (outWidth p g) r k l
+  mattes-add r k l = matte-join (sourceOf p g) (mappedOf p g) (channelsOf p g) (outWidth p g) r k l
 
 -- ---- of calls: what an accepted call for some rows leaves are those rows of what the accepted call for all of them,
 -- from row 0 on, leaves

@@ -11,8 +11,8 @@ use Rattle.picture.specs.Colour.{one, luma}
 use Rattle.sampler.specs.Finite.{FitsBy}
 use Rattle.picture.specs.Pixel.{Picture, widened, pixelAt}
 use Rattle.picture.specs.declared.colour.Rgba.{Rgba}
-use Rattle.band.specs.Band.{Frame, Source, colourAt, pixelBytes, rowBytes, rowsBytes}
-use Rattle.distort.specs.Call.{outWidth, frameOf, sourceOf, rowsOf}
+use Rattle.band.specs.Band.{Mapped, Source, colourAt, pixelBytes, rowBytes, rowsBytes}
+use Rattle.distort.specs.Call.{outWidth, mappedOf, sourceOf, rowsOf}
 use Rattle.distort.specs.Job.{Image, Given}
 use Rattle.distort.specs.Refusal.{channelsOf}
 use Rattle.band.proofs.LengthLaws.{row-length}
@@ -26,7 +26,7 @@ within-row i k w c a b = le-trans (next i k c b) (mul-le-mul-right c a)
     next i k c b = omega arith
 
 -- ---- of a source and a frame
-module _ (s : Source) (f : Frame) (channels width first rows : ℕ) where
+module _ (s : Source) (f : Mapped) (channels width first rows : ℕ) where
   band-sample : (i j k : ℕ) → i < width → j < rows → k < channels
       → sampleAt (rowsBytes s f channels width first rows) ((j * width + i) * channels + k) ≡ sampleAt
       (pixelBytes channels (colourAt s f i (first + j))) k
@@ -95,7 +95,7 @@ module _ (s : Source) (f : Frame) (channels width first rows : ℕ) where
 
 -- ---- pixels read back
 -- four channels are the colour itself, and three are it where its alpha is 1
-module _ (s : Source) (f : Frame) (width first rows : ℕ) (F : (i j : ℕ) → FitsBy (colourAt s f i j)) (i j : ℕ)
+module _ (s : Source) (f : Mapped) (width first rows : ℕ) (F : (i j : ℕ) → FitsBy (colourAt s f i j)) (i j : ℕ)
     (a : i < width) (b : j < rows) where
   back-four : pixelAt (rowsBytes s f 4 width first rows) width 4 i j ≡ colourAt s f i (first + j)
   unfolding pixelAt widened
@@ -132,11 +132,11 @@ module _ (s : Source) (f : Frame) (width first rows : ℕ) (F : (i j : ℕ) → 
 module _ (p : Image) (g : Given) where
   -- the colour at column i and row j of its output
   abbrev pub colourOut : ℕ → ℕ → Rgba
-  colourOut i j = colourAt (sourceOf p g) (frameOf p g) i j
+  colourOut i j = colourAt (sourceOf p g) (mappedOf p g) i j
 
   module _ (P : Picture (p .bytes) (p .width) (p .height) (p .channels)) where
     pub out-fits : (i j : ℕ) → FitsBy (colourOut i j)
-    out-fits i j = colour-fits (sourceOf p g) (frameOf p g) P (colour-of-fits (g .background))
+    out-fits i j = colour-fits (sourceOf p g) (mappedOf p g) P (colour-of-fits (g .background))
         (colour-of-fits (g .matte)) i j
 
     module _ (first rows i j : ℕ) (a : i < outWidth p g) (b : j < rows) where
@@ -144,16 +144,16 @@ module _ (p : Image) (g : Given) where
           → sampleAt (rowsOf p g first rows) ((j * outWidth p g + i) * channelsOf p g + k) ≡ part
           (colourOut i (first + j)) k
       unfolding rowsOf
-      sample-at C k c = band-part (sourceOf p g) (frameOf p g) (channelsOf p g) (outWidth p g) first rows out-fits C i
+      sample-at C k c = band-part (sourceOf p g) (mappedOf p g) (channelsOf p g) (outWidth p g) first rows out-fits C i
           j k a b c
 
       pub grey-at : channelsOf p g ≡ 1
           → sampleAt (rowsOf p g first rows) (j * outWidth p g + i) ≡ luma (colourOut i (first + j))
       unfolding rowsOf
       grey-at e =
-          ap (sampleAt (rowsBytes (sourceOf p g) (frameOf p g) (channelsOf p g) (outWidth p g) first rows))
+          ap (sampleAt (rowsBytes (sourceOf p g) (mappedOf p g) (channelsOf p g) (outWidth p g) first rows))
           (alone (j * outWidth p g + i) (channelsOf p g) e)
-          ∙ band-sample (sourceOf p g) (frameOf p g) (channelsOf p g) (outWidth p g) first rows i j 0 a b
+          ∙ band-sample (sourceOf p g) (mappedOf p g) (channelsOf p g) (outWidth p g) first rows i j 0 a b
           (subst (λ (n : ℕ). 0 < n) (sym e) (omega arith))
           ∙ ap (λ (n : ℕ). sampleAt (pixelBytes n (colourOut i (first + j))) 0) e
           ∙ pixel-grey (colourOut i (first + j))
@@ -166,7 +166,7 @@ module _ (p : Image) (g : Given) where
           → (channelsOf p g ≡ 3 → colourOut i (first + j) .a ≡ one)
           → pixelAt (rowsOf p g first rows) (outWidth p g) (channelsOf p g) i j ≡ colourOut i (first + j)
       unfolding rowsOf
-      pixel-back C o = band-back (sourceOf p g) (frameOf p g) (outWidth p g) first rows out-fits i j a b
+      pixel-back C o = band-back (sourceOf p g) (mappedOf p g) (outWidth p g) first rows out-fits i j a b
           (channelsOf p g) C o
 
     -- whatever holds of every component of every pixel's colour holds of every sample
@@ -175,4 +175,4 @@ module _ (p : Image) (g : Given) where
         → (n : ℕ) → n < rows * outWidth p g * channelsOf p g → Q (sampleAt (rowsOf p g first rows) n)
     unfolding rowsOf
     samples-all first rows C Q h n l =
-        band-all (sourceOf p g) (frameOf p g) (channelsOf p g) (outWidth p g) first rows out-fits C Q h n l
+        band-all (sourceOf p g) (mappedOf p g) (channelsOf p g) (outWidth p g) first rows out-fits C Q h n l

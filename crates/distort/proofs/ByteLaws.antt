@@ -11,7 +11,7 @@ use Rattle.picture.specs.Colour.{luma}
 use Rattle.picture.specs.declared.colour.Rgba.{Rgba}
 use Rattle.exact.proofs.Loop.{upTo-keep}
 use Rattle.band.specs.Band.{colourAt, pixelBytes, rowBytes, rowsBytes}
-use Rattle.distort.specs.Call.{outWidth, frameOf, sourceOf, rowsOf}
+use Rattle.distort.specs.Call.{outWidth, mappedOf, sourceOf, rowsOf}
 use Rattle.distort.specs.Job.{Image, Given}
 use Rattle.band.specs.Joined.{joined}
 use Rattle.distort.specs.Refusal.{channelsOf}
@@ -62,6 +62,6 @@ pixel-bytes channels (inr (inr e)) c =
 pub rows-bytes : (p : Image) (g : Given) → Channels (channelsOf p g) → (first rows : ℕ) → Bytes (rowsOf p g first rows)
 unfolding rowsOf rowsBytes rowBytes
 rows-bytes p g C first rows =
-    joined-bytes (λ (r : ℕ). rowBytes (sourceOf p g) (frameOf p g) (channelsOf p g) (outWidth p g) (first + r))
-    (λ r. joined-bytes (λ (i : ℕ). pixelBytes (channelsOf p g) (colourAt (sourceOf p g) (frameOf p g) i (first + r)))
-    (λ i. pixel-bytes (channelsOf p g) C (colourAt (sourceOf p g) (frameOf p g) i (first + r))) (outWidth p g)) rows
+    joined-bytes (λ (r : ℕ). rowBytes (sourceOf p g) (mappedOf p g) (channelsOf p g) (outWidth p g) (first + r))
+    (λ r. joined-bytes (λ (i : ℕ). pixelBytes (channelsOf p g) (colourAt (sourceOf p g) (mappedOf p g) i (first + r)))
+    (λ i. pixel-bytes (channelsOf p g) C (colourAt (sourceOf p g) (mappedOf p g) i (first + r))) (outWidth p g)) rows

@@ -16,7 +16,7 @@ use Rattle.distort.specs.declared.answer.Answer.the-variants.{Accepted, 
 use Rattle.band.specs.Band.{rowsBytes, rowsMatte}
 use Rattle.band.specs.declared.rows.Rows.{Rows}
 use Rattle.picture.specs.declared.shape.Shape.{Shape}
-use Rattle.distort.specs.Call.{outWidth, outHeight, frameOf, sourceOf, rowsOf, matteOf, answer, left, numberOf}
+use Rattle.distort.specs.Call.{outWidth, outHeight, mappedOf, sourceOf, rowsOf, matteOf, answer, left, numberOf}
 use Rattle.distort.specs.Job.{Image, Given, Call}
 use Rattle.distort.specs.Placed.{inWindow}
 use Rattle.distort.specs.Refusal.{windowOf, channelsOf, badRows, badTray, jobRefusal, refusal}
@@ -73,7 +73,7 @@ module _ (c : Call) where
 
   -- once no row of the job holds
   pub placed-answer : jobRefusal (c .image) (c .given) ≡ 0
-      → inWindow (sourceOf (c .image) (c .given)) (frameOf (c .image) (c .given))
+      → inWindow (sourceOf (c .image) (c .given)) (mappedOf (c .image) (c .given))
       (record {
         width = outWidth (c .image) (c .given);
         height = outHeight (c .image) (c .given);

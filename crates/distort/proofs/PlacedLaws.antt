@@ -16,7 +16,7 @@ use Rattle.window.specs.declared.window.Placed.the-variants as Placed
 use Rattle.window.proofs.WindowLaws.{Side, Limits, window-limits}
 use Rattle.distort.specs.declared.answer.Answer.{Answer}
 use Rattle.distort.specs.declared.answer.Answer.the-variants.{Accepted, Refused}
-use Rattle.band.specs.Band.{Frame, Source, mapped, rowsBytes, rowsMatte}
+use Rattle.band.specs.Band.{Mapped, Source, mapped, rowsBytes, rowsMatte}
 use Rattle.band.specs.declared.rows.Rows.{Rows}
 use Rattle.mappings.specs.declared.mapping.Mapping.{Mapping}
 use Rattle.picture.specs.declared.shape.Shape.{Shape}
@@ -30,7 +30,7 @@ rows-fit height first rows e h = ltb-false height (first + rows) (sym e ∙ h)
 pub band-fit : (n k : ℕ) {t : Bool} → t ≡ not (eqb n k) → t ≡ false → n ≡ k
 band-fit n k e h = eqb-true n k (not-false (eqb n k) (sym e ∙ h))
 
-module _ (s : Source) (f : Frame) (out : Shape) (rows : Rows) (band : List ℕ) where
+module _ (s : Source) (f : Mapped) (out : Shape) (rows : Rows) (band : List ℕ) where
   -- the two tests
   abbrev rowsOut : Bool
   rowsOut = ltb (out .height) (rows .first + rows .count)

@@ -22,7 +22,7 @@ use Rattle.picture.specs.Store.{storeSample, storeRgb, narrowed, storePixel}
 use Rattle.picture.specs.declared.colour.Rgba.{Rgba}
 use Rattle.sampler.proofs.InterpolateFinite.{interpolate-fits}
 use Rattle.point.specs.declared.point.Point.{Point}
-use Rattle.band.specs.Band.{Frame, Source, pointAt, shown, colourAt, pixelBytes}
+use Rattle.band.specs.Band.{Mapped, Source, pointAt, shown, colourAt, pixelBytes}
 use Rattle.distort.specs.Job.{colourOf}
 use Rattle.band.specs.Joined.{joined}
 use Rattle.band.proofs.JoinedLaws.{joined-at}
@@ -134,7 +134,7 @@ colour-of-fits bytes = record {
   alpha = ofBits-fits binary32 _;
 }
 
-pub colour-fits : (s : Source) (f : Frame)
+pub colour-fits : (s : Source) (f : Mapped)
     → Picture (s .image .bytes) (s .image .width) (s .image .height) (s .image .channels) → FitsBy (s .background)
     → FitsBy (s .matte)
     → (i j : ℕ) → FitsBy (colourAt s f i j)

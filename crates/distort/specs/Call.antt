@@ -11,7 +11,7 @@ use Rattle.mappings.specs.declared.mapping.Mapping.{Mapping}
 use Rattle.window.specs.Window.{widthOf, heightOf, xOf, yOf}
 use Rattle.distort.specs.declared.answer.Answer.{Answer}
 use Rattle.distort.specs.declared.answer.Answer.the-variants.{Accepted, Refused}
-use Rattle.band.specs.Band.{Frame, Source, mapped, rowsBytes, rowsMatte}
+use Rattle.band.specs.Band.{Mapped, Source, mapped, rowsBytes, rowsMatte}
 use Rattle.distort.specs.Job.{Image, Given, Call, colourOf}
 use Rattle.distort.specs.Refusal.{fitOf, windowOf, channelsOf, refusal}
 
@@ -22,8 +22,8 @@ outWidth p g = widthOf (windowOf p g)
 abbrev pub outHeight : Image → Given → ℕ
 outHeight p g = heightOf (windowOf p g)
 
-abbrev pub frameOf : Image → Given → Frame
-frameOf p g = mapped (fitOf p g .mapping) (xOf (windowOf p g)) (yOf (windowOf p g))
+abbrev pub mappedOf : Image → Given → Mapped
+mappedOf p g = mapped (fitOf p g .mapping) (xOf (windowOf p g)) (yOf (windowOf p g))
 
 abbrev pub sourceOf : Image → Given → Source
 sourceOf p g = record {
@@ -36,10 +36,10 @@ sourceOf p g = record {
 
 -- the bytes of its rows from `first` on
 unfoldable pub rowsOf : Image → Given → ℕ → ℕ → List ℕ
-rowsOf p g first rows = rowsBytes (sourceOf p g) (frameOf p g) (channelsOf p g) (outWidth p g) first rows
+rowsOf p g first rows = rowsBytes (sourceOf p g) (mappedOf p g) (channelsOf p g) (outWidth p g) first rows
 
 unfoldable pub matteOf : Image → Given → ℕ → ℕ → ℕ
-matteOf p g first rows = rowsMatte (frameOf p g) (outWidth p g) first rows
+matteOf p g first rows = rowsMatte (mappedOf p g) (outWidth p g) first rows
 
 -- ---- the call
 unfoldable pub answer : Call → Answer

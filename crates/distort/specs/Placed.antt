@@ -10,13 +10,13 @@ use Rattle.window.specs.declared.window.Placed.the-variants.{Window}
 use Rattle.window.specs.declared.window.Placed.the-variants as Placed
 use Rattle.distort.specs.declared.answer.Answer.{Answer}
 use Rattle.distort.specs.declared.answer.Answer.the-variants.{Accepted, Refused}
-use Rattle.band.specs.Band.{Frame, Source, mapped, rowsBytes, rowsMatte}
+use Rattle.band.specs.Band.{Mapped, Source, mapped, rowsBytes, rowsMatte}
 use Rattle.band.specs.declared.rows.Rows.{Rows}
 use Rattle.mappings.specs.declared.mapping.Mapping.{Mapping}
 use Rattle.picture.specs.declared.shape.Shape.{Shape}
 
 -- in a window of the output's shape
-unfoldable pub inWindow : Source → Frame → Shape → Rows → List ℕ → Answer × List ℕ
+unfoldable pub inWindow : Source → Mapped → Shape → Rows → List ℕ → Answer × List ℕ
 inWindow s f out rows band =
     cond (ltb (out .height) (rows .first + rows .count)) (Refused 10, band)
     (cond (not (eqb (length band) (rows .count * out .width * out .channels * 4))) (Refused 11, band) (

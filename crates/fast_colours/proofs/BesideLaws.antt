@@ -10,7 +10,7 @@ use Rattle.picture.specs.Pixel.{Picture}
 use Rattle.picture.specs.Store.{Numbers}
 use Rattle.fast_colours.specs.Plain.{Inside, Fractions, Weights}
 use Rattle.fast_colours.proofs.NumberLaws.{blend-numbers}
-use Rattle.sampler.specs.Corners.{Weighed, mixed}
+use Rattle.sampler.specs.TwoByTwo.{Weighed, mixed}
 use Rattle.sampler.proofs.MixedLaws.{mixed-blend}
 use Rattle.fast_colours.specs.Broad.{broad, Beside}
 

@@ -11,7 +11,7 @@ use Rattle.picture.specs.Colour.{zero, one}
 use Rattle.picture.specs.Pixel.{widened, pixelAt}
 use Rattle.picture.specs.declared.colour.Rgba.{Rgba}
 use Rattle.taps.specs.Weighted.{added}
-use Rattle.sampler.specs.Corners.{cornerSums, mixed}
+use Rattle.sampler.specs.TwoByTwo.{twoByTwoSums, mixed}
 use Rattle.fast_colours.specs.Broad.{fourSums, broad}
 
 -- the quotients
@@ -42,7 +42,7 @@ module _ (bytes : List ℕ) (w i j : ℕ) (a b c d s : Float) where
       ⊕ d ⊗ sampleAt bytes v ⊗ one) ⊘ s
 
   pub four-broad : quotients (fourSums bytes ((j * w + i) * 3) (w * 3) a b c d) s ≡ broad bytes w i j a b c d s
-  unfolding mixed cornerSums added pixelAt widened
+  unfolding mixed twoByTwoSums added pixelAt widened
   four-broad =
       λ t. record {
         r = of ((j * w + i) * 3) (along w i j t) (below w i j t) (across w i j t);

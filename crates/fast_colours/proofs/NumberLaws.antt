@@ -21,13 +21,13 @@ use Rattle.picture.specs.Colour.{luma}
 use Rattle.picture.specs.Pixel.{Limited, Picture, pixelAt}
 use Rattle.picture.specs.declared.colour.Rgba.{Rgba}
 use Rattle.taps.specs.Weighted.{Bounded, BoundedBy, tapAt, weightAt, weighted}
-use Rattle.taps.specs.Weights.{corners}
+use Rattle.taps.specs.Weights.{fourWeights}
 use Rattle.taps.proofs.WeightedFinite.{most, weighted-bounded}
 use Rattle.taps.proofs.WeightedWeights.{bilinear-bounded}
 use Rattle.sampler.specs.Finite.{BoundedPicture}
 use Rattle.sampler.proofs.AtFinite.{within-bounded, bounded-more, pixel-bounded}
 use Rattle.picture.specs.Store.{Numbers}
-use Rattle.sampler.specs.Corners.{blend}
+use Rattle.sampler.specs.TwoByTwo.{blend}
 
 -- ---- samples
 limited-bounded : (bytes : List ℕ) → Limited bytes → (k : ℕ) → (k + 1) * 4 ≤ length bytes
@@ -99,7 +99,7 @@ module _ (bytes : List ℕ) (w h n i j : ℕ) (P : Picture bytes w h n) (hi : i 
   tap-bounded (suc (suc (suc (suc k)))) l = absurd (omega arith)
 
   module _ (tx ty : Float) (x : Unit32 tx) (y : Unit32 ty) where
-    weight-bounded : (k : ℕ) → k < 4 → Bounded (frac 1 1) (weightAt (corners tx ty) k)
+    weight-bounded : (k : ℕ) → k < 4 → Bounded (frac 1 1) (weightAt (fourWeights tx ty) k)
     weight-bounded zero l = bilinear-bounded tx ty x y .0
     weight-bounded (suc zero) l = bilinear-bounded tx ty x y .1 .0
     weight-bounded (suc (suc zero)) l = bilinear-bounded tx ty x y .1 .1 .0
@@ -108,4 +108,4 @@ module _ (bytes : List ℕ) (w h n i j : ℕ) (P : Picture bytes w h n) (hi : i 
 
     pub blend-numbers : Numbers (blend bytes w n i j tx ty)
     unfolding blend
-    blend-numbers = bounded-numbers (weighted-bounded square (corners tx ty) 4 (lit≤ tt) tap-bounded weight-bounded)
+    blend-numbers = bounded-numbers (weighted-bounded square (fourWeights tx ty) 4 (lit≤ tt) tap-bounded weight-bounded)

@@ -29,7 +29,7 @@ use Rattle.point.specs.Point.{limit, usable}
 use Rattle.taps.specs.Interpolation.{interpolation}
 use Rattle.taps.proofs.CellFloor.{cell-law}
 use Rattle.fast_cells.specs.Cells.{Cell, Cells, Place, Places}
-use Rattle.sampler.specs.Corners.{Weighed, blend}
+use Rattle.sampler.specs.TwoByTwo.{Weighed, blend}
 use Rattle.sampler.proofs.MixedLaws.{mixed-blend}
 use Rattle.sampler.proofs.InsideLaws.{bilinear-inside, single-inside}
 use Rattle.band.specs.Band.{shown, keptColour, keptMatte, pixelBytes}

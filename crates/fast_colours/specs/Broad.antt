@@ -9,7 +9,7 @@ use Rattle.picture.specs.Colour.{zero, one, grey}
 use Rattle.picture.specs.Pixel.{widened}
 use Rattle.picture.specs.declared.colour.Rgba.{Rgba}
 use Rattle.picture.specs.Store.{storeSample, Numbers}
-use Rattle.sampler.specs.Corners.{mixed}
+use Rattle.sampler.specs.TwoByTwo.{mixed}
 use Rattle.fast_colours.specs.Plain.{weight}
 
 -- `added` of opaque taps, sample by sample

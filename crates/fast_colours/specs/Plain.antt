@@ -9,7 +9,7 @@ use Rattle.exact.specs.Weighted.{Unit32}
 use Rattle.exact.specs.Vector.{at}
 use Rattle.picture.specs.Store.{Numbers}
 use Rattle.picture.specs.declared.colour.Rgba.{Rgba}
-use Rattle.sampler.specs.Corners.{Weighed, mixed}
+use Rattle.sampler.specs.TwoByTwo.{Weighed, mixed}
 
 -- the first n places lie inside: their columns and rows
 pub record Within (width height n : ℕ) (columns rows : List ℕ) : Type 0 where

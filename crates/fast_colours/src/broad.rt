@@ -11,7 +11,7 @@ ghost use Rattle.exact.specs.Vector as Vectors;
 ghost use Rattle.picture.specs.Pixel.{Picture, Shaped, Channels};
 ghost use Rattle.band.specs.Band.{pixelBytes};
 ghost use Rattle.band.specs.Joined.{joined};
-ghost use Rattle.sampler.specs.Corners.{blend};
+ghost use Rattle.sampler.specs.TwoByTwo.{blend};
 ghost use Rattle.fast_colours.specs.Plain.{Inside, Fractions, mixedAt, Mixable};
 ghost use Rattle.fast_colours.specs.Broad as Broad;
 ghost use Rattle.fast_colours.specs.Broad.{fourSums, Covered, Beside};
@@ -24,7 +24,7 @@ use picture::pixel::widened;
 use picture::shape::Shape;
 use picture::store::store_four;
 use picture::store::store_number_pixel;
-use sampler::fast_corners::mixed;
+use sampler::fast_two_by_two::mixed;
 
 // Four samples with one weight more.
 fn grown(p: Rgba, w: f32, s: Rgba) -> Rgba

@@ -6,7 +6,7 @@ ghost use mathlib.Core.List.{_++_};
 ghost use Prim.Native.Nat.{ℕ, _+_, _*_, _≤_, _<_};
 ghost use lib.ListN.{length, take, drop, getD};
 ghost use Rattle.exact.specs.Vector as Vectors;
-ghost use Rattle.sampler.specs.Corners.{blend, mixed};
+ghost use Rattle.sampler.specs.TwoByTwo.{blend, mixed};
 ghost use Rattle.picture.specs.Pixel.{Picture, Shaped, Channels, pixelAt};
 ghost use Rattle.band.specs.Band.{pixelBytes};
 ghost use Rattle.band.specs.Joined.{joined};
@@ -16,7 +16,7 @@ use picture::colour::Rgba;
 use picture::pixel::pixel_at;
 use picture::shape::Shape;
 use picture::store::store_number_pixel;
-use sampler::fast_corners::mixed;
+use sampler::fast_two_by_two::mixed;
 use taps::weights::bilinear_weights;
 
 // An array has as many elements as its type says: a function is told so of one that it takes by value.

@@ -12,7 +12,7 @@ use Rattle.exact.specs.Vector.{Vector, at}
 use Rattle.point.specs.declared.point.Point.{Point}
 use Rattle.point.specs.Point.{point, Whole}
 use Rattle.inverse.specs.Barrel.{across, down, square, barrelFrom, barrelInverseFrom, barrel, barrelInverse}
-use Rattle.fast_points.specs.Span.{middle, Span}
+use Rattle.fast_points.specs.Points.{middle, PointsOf}
 use Rattle.fast_points.proofs.FillLaws.{both-more, read-back}
 use Rattle.fast_points.specs.Barrels.{RadiiSquared, Each, Moved}
 
@@ -105,7 +105,7 @@ radius c x dy first n S R k h = R .each k h ∙ ap root (S .each k h .1)
 module _ (c : Vector) (x y : Float) (first n : ℕ) {dy : Float} {ds ss rs us vs : List Float} where
   pub barrel-span : dy ≡ down c y → RadiiSquared c x dy first n ds ss → Each root n ss rs
       → Moved (barrelFrom c dy) n ds rs us vs
-      → Span (λ (a : Float). barrel c a y) x first n us vs
+      → PointsOf (λ (a : Float). barrel c a y) x first n us vs
   barrel-span e S R m = record {
     kept = λ k h. rw (← e, ← radius c x dy first n S R k h, ← S .each k h .0)
         (m .kept k h);
@@ -113,6 +113,6 @@ module _ (c : Vector) (x y : Float) (first n : ℕ) {dy : Float} {ds ss rs us vs
 
   pub barrel-inverse-span : dy ≡ down c y → RadiiSquared c x dy first n ds ss → Each root n ss rs
       → Moved (barrelInverseFrom c dy) n ds rs us vs
-      → Span (λ (a : Float). barrelInverse c a y) x first n us vs
+      → PointsOf (λ (a : Float). barrelInverse c a y) x first n us vs
   barrel-inverse-span e S R m =
       record { kept = λ k h. rw (← e, ← radius c x dy first n S R k h, ← S .each k h .0) (m .kept k h) }

@@ -13,7 +13,7 @@ use lib.Ieee.{Float, nan}
 use Rattle.exact.specs.Vector.{at}
 use Rattle.point.specs.declared.point.Point.{Point}
 use Rattle.point.specs.Point.{point, Whole}
-use Rattle.fast_points.specs.Span.{middle, Span}
+use Rattle.fast_points.specs.Points.{middle, PointsOf}
 
 others : {i k : ℕ} → i < k → i ≢ k
 others h e = omega arith
@@ -34,7 +34,7 @@ read-back e w = rw e (w .whole)
 -- ---- a span
 -- what a loop knows after k turns: k points are there, in lists of 64 places
 pub record Filling (f : Float → Point) (x : Float) (first k : ℕ) (us vs : List Float) : Type 0 where
-  pub done : Span f x first k us vs
+  pub done : PointsOf f x first k us vs
   pub long-u : length us ≡ 64
   pub long-v : length vs ≡ 64
 
@@ -57,5 +57,5 @@ module _ (f : Float → Point) (x : Float) (first : ℕ) where
         long-v = length-set vs k _ ∙ old .long-v;
       }
 
-  pub fill-last : (k n : ℕ) {us vs : List Float} → n ≤ k → Filling f x first k us vs → Span f x first n us vs
+  pub fill-last : (k n : ℕ) {us vs : List Float} → n ≤ k → Filling f x first k us vs → PointsOf f x first n us vs
   fill-last k n a s = record { kept = λ i h. s .done .kept i (omega arith) }

@@ -13,37 +13,38 @@ use Rattle.inverse.specs.Affine.{affine}
 use Rattle.inverse.specs.Barrel.{barrel, barrelInverse}
 use Rattle.inverse.specs.Inverse.{inverse}
 use Rattle.inverse.specs.declared.frame.Frame.{Frame}
-use Rattle.fast_points.specs.Span.{middle, Span}
-use Rattle.fast_points.specs.Points.{Points}
+use Rattle.fast_points.specs.Points.{middle, PointsOf, Points}
 
 module _ (f : Frame) (coef : Vector) (first j n : ℕ) {a b : Float} {us vs : List Float}
     (e : a ≡ ofInt binary64 (f .x)) (g : b ≡ asked j (f .y)) where
   pub points-by : (h : Float → Point) → ((c : Float) → h c ≡ inverse (f .kind) (f .order) (f .count) coef c b)
-      → Span h a first n us vs
+      → PointsOf h a first n us vs
       → Points f coef first j n us vs
   points-by h same s = record { kept = λ k l. rw (← e, ← g, ← same (middle (first + k) a)) (s .kept k l) }
 
-  pub points-affine : f .kind ≡ affineKind → Span (λ (c : Float). affine coef c b) a first n us vs
+  pub points-affine : f .kind ≡ affineKind → PointsOf (λ (c : Float). affine coef c b) a first n us vs
       → Points f coef first j n us vs
   unfolding inverse
   points-affine h = points-by (λ (c : Float). affine coef c b) (λ c. rw h)
 
-  pub points-perspective : f .kind ≡ perspectiveKind → Span (λ (c : Float). perspective coef c b) a first n us vs
+  pub points-perspective : f .kind ≡ perspectiveKind → PointsOf (λ (c : Float). perspective coef c b) a first n us vs
       → Points f coef first j n us vs
   unfolding inverse
   points-perspective h = points-by (λ (c : Float). perspective coef c b) (λ c. rw h)
 
-  pub points-forward : f .kind ≡ bilinearForwardKind → Span (λ (c : Float). bilinearForward coef c b) a first n us vs
+  pub points-forward : f .kind ≡ bilinearForwardKind
+      → PointsOf (λ (c : Float). bilinearForward coef c b) a first n us vs
       → Points f coef first j n us vs
   unfolding inverse
   points-forward h = points-by (λ (c : Float). bilinearForward coef c b) (λ c. rw h)
 
-  pub points-barrel : f .kind ≡ barrelKind → Span (λ (c : Float). barrel coef c b) a first n us vs
+  pub points-barrel : f .kind ≡ barrelKind → PointsOf (λ (c : Float). barrel coef c b) a first n us vs
       → Points f coef first j n us vs
   unfolding inverse
   points-barrel h = points-by (λ (c : Float). barrel coef c b) (λ c. rw h)
 
-  pub points-barrel-inverse : f .kind ≡ barrelInverseKind → Span (λ (c : Float). barrelInverse coef c b) a first n us vs
+  pub points-barrel-inverse : f .kind ≡ barrelInverseKind
+      → PointsOf (λ (c : Float). barrelInverse coef c b) a first n us vs
       → Points f coef first j n us vs
   unfolding inverse
   points-barrel-inverse h = points-by (λ (c : Float). barrelInverse coef c b) (λ c. rw h)

@@ -8,7 +8,7 @@ use Rattle.exact.specs.Vector.{Vector, at}
 use Rattle.point.specs.declared.point.Point.{Point}
 use Rattle.point.specs.Point.{point}
 use Rattle.inverse.specs.Barrel.{across, square}
-use Rattle.fast_points.specs.Span.{middle}
+use Rattle.fast_points.specs.Points.{middle}
 
 -- the first n of two lists: the offsets across and the squared radii of the pixels from column `first` on, of a
 -- window at x; dy is the offset down

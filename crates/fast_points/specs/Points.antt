@@ -1,16 +1,28 @@
--- The source points of a span of a row, by the mapping and the window. Assumes nothing.
+-- The source points of a span of a row, by their coordinates in two lists: each point is `point` of its own
+-- coordinates, so what is read back is that point. Assumes nothing.
 use mathlib.Core.Path.{_≡_}
 use mathlib.Core.List.{List}
 use Prim.Native.Nat.{ℕ, _+_, _<_}
-use lib.Ieee.{Float}
+use lib.IntN.{pos}
+use lib.Ieee.{Float, binary64, ofBits, ofInt}
+use Rattle.exact.specs.Double.{_⊕_}
 use Rattle.exact.specs.Sums.{asked}
 use Rattle.exact.specs.Vector.{Vector, at}
+use Rattle.point.specs.declared.point.Point.{Point}
 use Rattle.point.specs.Point.{point}
 use Rattle.inverse.specs.Inverse.{inverse}
 use Rattle.inverse.specs.declared.frame.Frame.{Frame}
 
--- the first n of two lists: the coordinates of the source points of the pixels from column `first` of row j on, of the
--- frame's window
+-- `asked` with the offset as a float
+abbrev pub middle : ℕ → Float → Float
+middle i x = ofInt binary64 (pos i) ⊕ x ⊕ ofBits binary64 0x3fe0_0000_0000_0000  -- 0.5
+
+-- the first n of two lists: the points that f gives at the middles of the pixels from column `first` on, of a window
+-- at x
+pub record PointsOf (f : Float → Point) (x : Float) (first n : ℕ) (us vs : List Float) : Type 0 where
+  pub kept : (k : ℕ) → k < n → f (middle (first + k) x) ≡ point (at us k) (at vs k)
+
+-- and those of the pixels from column `first` of row j on, of the frame's window
 pub record Points (f : Frame) (coef : Vector) (first j n : ℕ) (us vs : List Float) : Type 0 where
   pub kept : (k : ℕ) → k < n
       → inverse (f .kind) (f .order) (f .count) coef (asked (first + k) (f .x)) (asked j (f .y))

@@ -8,7 +8,7 @@ ghost use lib.ListN.{length};
 ghost use lib.Ieee.{Float};
 ghost use Rattle.number.specs.Root.{root, guess};
 ghost use Rattle.inverse.specs.Barrel.{barrelFrom, barrelInverseFrom, barrel, barrelInverse};
-ghost use Rattle.fast_points.specs.Span.{Span};
+ghost use Rattle.fast_points.specs.Points.{PointsOf};
 ghost use Rattle.fast_points.specs.Barrels.{RadiiSquared, Each, Moved};
 use crate::pixel::middle;
 use crate::sized::sized;
@@ -115,7 +115,7 @@ pub fn barrel_points(
 )
     requires { ⌜ (n ≤ 64) × ((first + n ≤ 4096) × ((length (now us) ≡ 64) × (length (now vs) ≡ 64))) ⌝ }
     ensures { λ _.
-        ⌜ Span (λ (a : Float). barrel (now (coef .entry)) a y) x first n (now (us .exit)) (now (vs .exit)) ⌝ }
+        ⌜ PointsOf (λ (a : Float). barrel (now (coef .entry)) a y) x first n (now (us .exit)) (now (vs .exit)) ⌝ }
 {
     let dy = down(coef, y);
     let mut ds = [0.0; 64];
@@ -139,7 +139,8 @@ pub fn barrel_inverse_points(
 )
     requires { ⌜ (n ≤ 64) × ((first + n ≤ 4096) × ((length (now us) ≡ 64) × (length (now vs) ≡ 64))) ⌝ }
     ensures { λ _.
-        ⌜ Span (λ (a : Float). barrelInverse (now (coef .entry)) a y) x first n (now (us .exit)) (now (vs .exit)) ⌝ }
+        ⌜ PointsOf (λ (a : Float). barrelInverse (now (coef .entry)) a y) x first n (now (us .exit))
+        (now (vs .exit)) ⌝ }
 {
     let dy = down(coef, y);
     let mut ds = [0.0; 64];

@@ -4,7 +4,7 @@ ghost use Prim.Native.Nat.{_≤_};
 ghost use lib.IntN.{natAbs};
 ghost use lib.Ieee.{binary64, ofInt};
 ghost use Rattle.exact.specs.Sums.{asked};
-ghost use Rattle.fast_points.specs.Span as Span;
+ghost use Rattle.fast_points.specs.Points as Points;
 
 // A window's offset as a float.
 pub fn offset(x: i64) -> f64
@@ -18,7 +18,7 @@ pub fn offset(x: i64) -> f64
 // at a time.
 pub fn middle(i: u32, x: f64) -> f64
     requires { ⌜ i ≤ 4096 ⌝ }
-    ensures { λ r. ⌜ r ≡ Span.middle i x ⌝ }
+    ensures { λ r. ⌜ r ≡ Points.middle i x ⌝ }
 {
     ((i as i32) as f64) + x + 0.5
 }

@@ -11,8 +11,7 @@ ghost use Rattle.inverse.specs.Forward.{bilinearForward};
 ghost use Rattle.inverse.specs.Affine.{affine};
 ghost use Rattle.inverse.specs.Perspective.{perspective};
 ghost use Rattle.inverse.specs.Inverse.{inverse};
-ghost use Rattle.fast_points.specs.Span.{Span};
-ghost use Rattle.fast_points.specs.Points.{Points};
+ghost use Rattle.fast_points.specs.Points.{PointsOf, Points};
 use crate::barrels::barrel_inverse_points;
 use crate::barrels::barrel_points;
 use crate::pixel::asked;
@@ -41,7 +40,7 @@ fn affine_points(
 )
     requires { ⌜ (n ≤ 64) × ((first + n ≤ 4096) × ((length (now us) ≡ 64) × (length (now vs) ≡ 64))) ⌝ }
     ensures { λ _.
-        ⌜ Span (λ (a : Float). affine (now (coef .entry)) a y) x first n (now (us .exit)) (now (vs .exit)) ⌝ }
+        ⌜ PointsOf (λ (a : Float). affine (now (coef .entry)) a y) x first n (now (us .exit)) (now (vs .exit)) ⌝ }
 {
     for k in 0..n {
         let p = affine(coef, middle(first + (k as u32), x), y);
@@ -60,7 +59,7 @@ fn perspective_points(
     vs: &mut [f64; 64],
 )
     requires { ⌜ (n ≤ 64) × ((first + n ≤ 4096) × ((length (now us) ≡ 64) × (length (now vs) ≡ 64))) ⌝ }
-    ensures { λ _. ⌜ Span (λ (a : Float). perspective (now (coef .entry)) a y) x first n (now (us .exit))
+    ensures { λ _. ⌜ PointsOf (λ (a : Float). perspective (now (coef .entry)) a y) x first n (now (us .exit))
         (now (vs .exit)) ⌝ }
 {
     for k in 0..n {
@@ -80,7 +79,7 @@ fn forward_points(
     vs: &mut [f64; 64],
 )
     requires { ⌜ (n ≤ 64) × ((first + n ≤ 4096) × ((length (now us) ≡ 64) × (length (now vs) ≡ 64))) ⌝ }
-    ensures { λ _. ⌜ Span (λ (a : Float). bilinearForward (now (coef .entry)) a y) x first n (now (us .exit))
+    ensures { λ _. ⌜ PointsOf (λ (a : Float). bilinearForward (now (coef .entry)) a y) x first n (now (us .exit))
         (now (vs .exit)) ⌝ }
 {
     for k in 0..n {
@@ -101,8 +100,9 @@ fn other_points(
     vs: &mut [f64; 64],
 )
     requires { ⌜ (n ≤ 64) × ((first + n ≤ 4096) × ((length (now us) ≡ 64) × (length (now vs) ≡ 64))) ⌝ }
-    ensures { λ _. ⌜ Span (λ (a : Float). inverse (frame .kind) (frame .order) (frame .count) (now (coef .entry)) a y) x
-        first n (now (us .exit)) (now (vs .exit)) ⌝ }
+    ensures { λ _.
+        ⌜ PointsOf (λ (a : Float). inverse (frame .kind) (frame .order) (frame .count) (now (coef .entry)) a y) x first n
+        (now (us .exit)) (now (vs .exit)) ⌝ }
 {
     let kind = frame.kind;
     let order = frame.order;

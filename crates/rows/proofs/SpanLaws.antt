@@ -15,8 +15,18 @@ use Rattle.inverse.specs.declared.frame.Frame.{Frame}
 use Rattle.point.specs.declared.point.Point.{Point}
 use Rattle.picture.specs.declared.colour.Rgba.{Rgba}
 use Rattle.fast_points.specs.Points.{Points}
-use Rattle.band.specs.Band as Band
-use Rattle.band.specs.Band.{Source, framed, shown, pointAt, colourAt, matteAt, keptColour, keptMatte, pixelBytes}
+use Rattle.band.specs.Band.{
+  Mapped,
+  Source,
+  framed,
+  shown,
+  pointAt,
+  colourAt,
+  matteAt,
+  keptColour,
+  keptMatte,
+  pixelBytes,
+}
 use Rattle.band.specs.Joined.{joined, totalled}
 use Rattle.band.proofs.JoinedLaws.{joined-same, joined-cut, joined-length, totalled-same, totalled-cut, totalled-most}
 use Rattle.band.proofs.PixelLaws.{Channels, SoFar, so-far-next, pixel-length}
@@ -25,7 +35,7 @@ use Rattle.band.proofs.RowLaws.{RowHolds}
 -- ---- the points read back
 module _ (s : Source) (frame : Frame) (coef : Vector) (first j n : ℕ) (us vs : List Float)
     (P : Points frame coef first j n us vs) where
-  abbrev f : Band.Frame
+  abbrev f : Mapped
   f = framed coef frame
 
   pub span-mattes : totalled (λ (k : ℕ). keptMatte (at us k) (at vs k)) n ≡ totalled

@@ -23,11 +23,11 @@ use Rattle.taps.specs.Interpolation.{Bilinear, interpolation}
 use Rattle.sampler.specs.Opaque.{OpaquePlace, Exact, UnitExact, NearExact, NearSample}
 use Rattle.taps.specs.Taps.{Plane, tap, taps}
 use Rattle.taps.specs.Weighted.{mean, weighted, Opaque}
-use Rattle.taps.specs.Weights.{corners, weights}
+use Rattle.taps.specs.Weights.{fourWeights, weights}
 use Rattle.picture.specs.declared.colour.Rgba.{Rgba}
 use Rattle.sampler.proofs.AtOpaque.{at-opaque}
 use Rattle.taps.proofs.CellFloor.{cell-law, less-half-reached}
-use Rattle.taps.proofs.TapsLaws.{four-corners}
+use Rattle.taps.proofs.TapsLaws.{four-taps}
 use Rattle.taps.proofs.WeightedOpaque.{four, summed-four, opaque-four}
 
 -- ---- the four taps by name
@@ -49,11 +49,11 @@ module _ (plane : Plane) (x y : Float) where
       (w01 tx ty) (w11 tx ty))
   unfolding weighted
   bilinear-is =
-      sym (four-corners plane (cell Bilinear x y) tx ty)
+      sym (four-taps plane (cell Bilinear x y) tx ty)
       ∙ (λ i. weighted (plane (+ℤ-idr k i) (+ℤ-idr l i) ∷ plane (+ℤ-one k i) (+ℤ-idr l i)
-      ∷ plane (+ℤ-idr k i) (+ℤ-one l i) ∷ plane (+ℤ-one k i) (+ℤ-one l i) ∷ []) (corners tx ty) 4)
+      ∷ plane (+ℤ-idr k i) (+ℤ-one l i) ∷ plane (+ℤ-one k i) (+ℤ-one l i) ∷ []) (fourWeights tx ty) 4)
       ∙ ap mean (summed-four (plane k l ∷ plane (sucℤ k) l ∷ plane k (sucℤ l) ∷ plane (sucℤ k) (sucℤ l) ∷ [])
-      (corners tx ty))
+      (fourWeights tx ty))
 
   -- their colours, where all are opaque
   pub bilinear-opaque : Unit32 tx → Unit32 ty → ((i j : ℤ) → Opaque (plane i j))

@@ -14,8 +14,8 @@ use Rattle.taps.specs.Cell.{cell, first, fraction}
 use Rattle.taps.specs.Interpolation.{interpolation, Bilinear}
 use Rattle.taps.specs.Taps.{taps}
 use Rattle.taps.specs.Weighted.{weighted}
-use Rattle.taps.specs.Weights.{corners, weights}
-use Rattle.taps.proofs.TapsLaws.{inside-corners}
+use Rattle.taps.specs.Weights.{fourWeights, weights}
+use Rattle.taps.proofs.TapsLaws.{inside-taps}
 use Rattle.sampler.specs.Interpolate.{interpolate}
 use Rattle.sampler.proofs.InterpolateCode.{single-code}
 
@@ -47,7 +47,7 @@ module _ (bytes : List ℕ) (w h channels policy : ℕ) (background : Rgba) (x y
   pub bilinear-inside : {r : Rgba} {tx ty : Float} (i j : ℕ) → i + 1 < w → j + 1 < h → pos i ≡ floorI64 x
       → pos j ≡ floorI64 y → tx ≡ fraction x → ty ≡ fraction y
       → r ≡ weighted (pixelAt bytes w channels i j ∷ pixelAt bytes w channels (i + 1) j
-      ∷ pixelAt bytes w channels i (j + 1) ∷ pixelAt bytes w channels (i + 1) (j + 1) ∷ []) (corners tx ty) 4
+      ∷ pixelAt bytes w channels i (j + 1) ∷ pixelAt bytes w channels (i + 1) (j + 1) ∷ []) (fourWeights tx ty) 4
       → r ≡ interpolate bytes w h channels policy 5 background x y
   bilinear-inside {r} {tx} {ty} i j hi hj ex ey fx fy e =
-      bilinear-anywhere ex ey fx fy (e ∙ inside-corners bytes w h channels policy background i j hi hj tx ty)
+      bilinear-anywhere ex ey fx fy (e ∙ inside-taps bytes w h channels policy background i j hi hj tx ty)

@@ -40,7 +40,7 @@ use Rattle.taps.specs.Interpolation.{
 use Rattle.picture.specs.Pixel.{Picture}
 use Rattle.taps.specs.Taps.{Plane, side, count, sixteen, tap, taps}
 use Rattle.taps.specs.Weighted.{least, quotient, mean, tapAt, weightAt, summed, weighted, Bounded, BoundedBy}
-use Rattle.taps.specs.Weights.{corners, products, alike, weights}
+use Rattle.taps.specs.Weights.{fourWeights, products, alike, weights}
 use Rattle.picture.specs.declared.colour.Rgba.{Rgba}
 use Rattle.taps.specs.declared.weighted.Sums.{Sums}
 use Rattle.sampler.proofs.AtFinite.{bounded-more, at-bounded, at-fits}
@@ -76,12 +76,13 @@ products-small wx wy p q =
     (λ k l. product-bounded (weightAt wx (k % 4)) (weightAt wy (k / 4)) (p (k % 4) (mod-lt k (lit≤ tt)))
     (q (k / 4) (div-lt-iff-lt-mul (lit≤ tt) .1 l)))
 
-corners-small : (tx ty : Float) → Unit32 tx → Unit32 ty → (k : ℕ) → k < 4 → Small (getD (corners tx ty) k Colour.zero)
-corners-small tx ty u v zero l = bilinear-bounded tx ty u v .0
-corners-small tx ty u v (suc zero) l = bilinear-bounded tx ty u v .1 .0
-corners-small tx ty u v (suc (suc zero)) l = bilinear-bounded tx ty u v .1 .1 .0
-corners-small tx ty u v (suc (suc (suc zero))) l = bilinear-bounded tx ty u v .1 .1 .1
-corners-small tx ty u v (suc (suc (suc (suc k)))) l = absurd (omega arith)
+four-weights-small : (tx ty : Float) → Unit32 tx → Unit32 ty → (k : ℕ) → k < 4
+    → Small (getD (fourWeights tx ty) k Colour.zero)
+four-weights-small tx ty u v zero l = bilinear-bounded tx ty u v .0
+four-weights-small tx ty u v (suc zero) l = bilinear-bounded tx ty u v .1 .0
+four-weights-small tx ty u v (suc (suc zero)) l = bilinear-bounded tx ty u v .1 .1 .0
+four-weights-small tx ty u v (suc (suc (suc zero))) l = bilinear-bounded tx ty u v .1 .1 .1
+four-weights-small tx ty u v (suc (suc (suc (suc k)))) l = absurd (omega arith)
 
 count-small : (i : Interpolation) → count i ≤ 16
 count-small i = square-small (side i) (side-small i)
@@ -100,8 +101,8 @@ weights-each i tx ty u v k l = go i (lt-of-lt-of-le l (count-small i)) l
     go Average m l = alike-small k m
     go Average9 m l = alike-small k m
     go Average16 m l = alike-small k m
-    go Bilinear m l = subst Small (sym (sixteen-at (λ (j : ℕ). getD (corners tx ty) j Colour.zero) nan k m))
-        (corners-small tx ty u v k l)
+    go Bilinear m l = subst Small (sym (sixteen-at (λ (j : ℕ). getD (fourWeights tx ty) j Colour.zero) nan k m))
+        (four-weights-small tx ty u v k l)
     go Catrom m l = each catrom (λ t w j. each-at _ _ _ _ (catrom-bounded t w) j) m
     go Spline m l = each spline (λ t w j. each-at _ _ _ _ (spline-bounded t w) j) m
     go Background m l = alike-small k m

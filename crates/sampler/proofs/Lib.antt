@@ -2,7 +2,7 @@
 pub mod AtFinite
 pub mod AtOpaque
 pub mod BilinearOpaque
-pub mod CornerLaws
+pub mod TwoByTwoLaws
 pub mod FourByFourCode
 pub mod InsideLaws
 pub mod InterpolateCode

@@ -1,5 +1,6 @@
 -- The colour by weights and their sum is the weighted mean. With f32 fractions from 0 to 1 the weights' sum is a number
--- to divide by, and where the taps' alphas are 1 it is the sum of alphas. Provides: `mixed-blend`, `weighed-by`. Assumes nothing.
+-- to divide by, and where the taps' alphas are 1 it is the sum of alphas. Provides: `mixed-blend`, `weighed-by`.
+-- Assumes nothing.
 use mathlib.Core.Path.{_≡_, refl, sym, ap, _∙_}
 use mathlib.Core.Bool.{Bool, true, false, cond, false≢true}
 use mathlib.Core.List.{List, [], _∷_}
@@ -13,22 +14,22 @@ use Rattle.picture.specs.Colour.{one}
 use Rattle.picture.specs.Pixel.{pixelAt}
 use Rattle.picture.proofs.PixelCode.{widened-opaque}
 use Rattle.picture.specs.declared.colour.Rgba.{Rgba}
-use Rattle.taps.specs.Weights.{corners, atCorners}
-use Rattle.taps.specs.declared.weights.Corners.{Corners}
+use Rattle.taps.specs.Weights.{fourWeights, bilinearWeights}
+use Rattle.taps.specs.declared.weights.BilinearWeights.{BilinearWeights}
 use Rattle.taps.specs.Weighted.{added, weighted, mean}
 use Rattle.taps.specs.declared.weighted.Sums.{Sums}
 use Rattle.taps.proofs.WeightedOpaque.{summed-four, opaque-four}
-use Rattle.sampler.specs.Corners.{Weighed, blend, cornerSums, over, mixed}
+use Rattle.sampler.specs.TwoByTwo.{Weighed, blend, twoByTwoSums, over, mixed}
 
 -- the code's weights, and their sum
-pub weighed-by : {tx ty : Float} {c : Corners} → c ≡ atCorners tx ty
+pub weighed-by : {tx ty : Float} {c : BilinearWeights} → c ≡ bilinearWeights tx ty
     → Weighed tx ty (c .w00) (c .w10) (c .w01) (c .w11) (fourSum (c .w00) (c .w10) (c .w01) (c .w11))
 weighed-by e = record {
-  at-00 = ap (λ (z : Corners). z .w00) e;
-  at-10 = ap (λ (z : Corners). z .w10) e;
-  at-01 = ap (λ (z : Corners). z .w01) e;
-  at-11 = ap (λ (z : Corners). z .w11) e;
-  total = ap (λ (z : Corners). fourSum (z .w00) (z .w10) (z .w01) (z .w11)) e;
+  at-00 = ap (λ (z : BilinearWeights). z .w00) e;
+  at-10 = ap (λ (z : BilinearWeights). z .w10) e;
+  at-01 = ap (λ (z : BilinearWeights). z .w01) e;
+  at-11 = ap (λ (z : BilinearWeights). z .w11) e;
+  total = ap (λ (z : BilinearWeights). fourSum (z .w00) (z .w10) (z .w01) (z .w11)) e;
 }
 
 module _ (bytes : List ℕ) (w n i j : ℕ) (tx ty : Float) where
@@ -45,15 +46,15 @@ module _ (bytes : List ℕ) (w n i j : ℕ) (tx ty : Float) where
   s = pixelAt bytes w n (i + 1) (j + 1)
 
   abbrev sums : Sums
-  sums = cornerSums bytes w n i j (w00 tx ty) (w10 tx ty) (w01 tx ty) (w11 tx ty) (weightSum tx ty)
+  sums = twoByTwoSums bytes w n i j (w00 tx ty) (w10 tx ty) (w01 tx ty) (w11 tx ty) (weightSum tx ty)
 
   own-mean : mean sums ≡ blend bytes w n i j tx ty
-  unfolding blend weighted cornerSums added
-  own-mean = sym (ap mean (summed-four (p ∷ q ∷ r ∷ s ∷ []) (corners tx ty)))
+  unfolding blend weighted twoByTwoSums added
+  own-mean = sym (ap mean (summed-four (p ∷ q ∷ r ∷ s ∷ []) (fourWeights tx ty)))
 
   -- with every alpha 1, the sum of alphas is that of the weights
   own-over : (n ≡ 4 → ⊥) → Unit32 tx → Unit32 ty → over sums ≡ mean sums
-  unfolding cornerSums added pixelAt
+  unfolding twoByTwoSums added pixelAt
   own-over fewer x y =
       let P : p .a ≡ one = widened-opaque bytes n _ fewer in
       let Q : q .a ≡ one = widened-opaque bytes n _ fewer in

@@ -1,5 +1,5 @@
 -- The definitions of an interpolation, and of the ways for speed; what is said of the sampler's colours.
-pub mod Corners
+pub mod TwoByTwo
 pub mod Finite
 pub mod FourByFour
 pub mod Interpolate

@@ -8,13 +8,13 @@ ghost use Rattle.picture.specs.At.{at};
 ghost use Rattle.taps.specs.Cell.{Reached};
 ghost use Rattle.sampler.specs.Interpolate as Interpolate;
 ghost use Rattle.taps.specs.Interpolation.{Bilinear};
-ghost use Rattle.sampler.specs.Corners.{blend};
+ghost use Rattle.sampler.specs.TwoByTwo.{blend};
 ghost use Rattle.exact.specs.Weighted.{Unit32};
 ghost use Rattle.picture.specs.Pixel.{Picture};
 ghost use Rattle.taps.specs.Taps.{taps};
 ghost use Rattle.taps.specs.Weighted.{weighted};
-ghost use Rattle.taps.specs.Weights.{corners, weights};
-use crate::fast_corners::mixed;
+ghost use Rattle.taps.specs.Weights.{fourWeights, weights};
+use crate::fast_two_by_two::mixed;
 use endian::pattern::bits_of_i64;
 use picture::colour::Rgba;
 use taps::cell::below;
@@ -27,7 +27,7 @@ use taps::weights::bilinear_weights;
 
 // The weighted mean of the four taps of `Bilinear`.
 fn blended(a: Rgba, b: Rgba, c: Rgba, d: Rgba, tx: f32, ty: f32) -> Rgba
-    ensures { λ r. ⌜ r ≡ weighted (a ∷ b ∷ c ∷ d ∷ []) (corners tx ty) 4 ⌝ }
+    ensures { λ r. ⌜ r ≡ weighted (a ∷ b ∷ c ∷ d ∷ []) (fourWeights tx ty) 4 ⌝ }
 {
     let w = bilinear_weights(tx, ty);
     let s = added(b, w.w10, added(a, w.w00, nothing()));

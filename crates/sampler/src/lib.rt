@@ -1,10 +1,10 @@
 // From a source point to a colour: the nine interpolations' definition (specs/Interpolate), the plain way over any
-// square of taps (`several`), and the ways for speed alone, for taps that lie inside (`fast_corners`, `fast_bilinear`,
-// `fast_four_by_four`, `fast_sixteen`). Read by `band`, `fast_colours` and `fast_cubic`.
+// square of taps (`several`), and the ways for speed alone, for taps that lie inside (`fast_bilinear`,
+// `fast_two_by_two`, `fast_four_by_four`, `fast_sixteen`). Read by `band`, `fast_colours` and `fast_cubic`.
 mod apart;
 pub mod fast_bilinear;
-pub mod fast_corners;
 pub mod fast_four_by_four;
 pub mod fast_sixteen;
+pub mod fast_two_by_two;
 pub mod interpolate;
 pub mod several;

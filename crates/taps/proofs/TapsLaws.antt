@@ -1,7 +1,7 @@
 -- A list of sixteen has its function's value at each number below sixteen, so the sums over the list are those over the
 -- square of taps, row by row. Provides: `sixteen-at`, `tap-at`; `square-small`, `side-small`, `number-small`; of the
 -- sums: `started`, `grown` (one tap more), `row-done`, `none-lined`, `lined-next` (one row more), `finished`;
--- `four-corners`, `inside-corners` (four taps by name). Assumes nothing.
+-- `four-taps`, `inside-taps` (four taps by name). Assumes nothing.
 use mathlib.Core.Path.{_≡_, refl, sym, ap, _∙_}
 use mathlib.Core.List.{List, [], _∷_}
 use Prim.Native.Nat.{ℕ, zero, suc, _+_, _*_, _≤_, _<_, zero-le}
@@ -32,7 +32,7 @@ use Rattle.taps.specs.Interpolation.{
 use Rattle.picture.specs.Pixel.{pixelAt}
 use Rattle.taps.specs.Taps.{Plane, side, sixteen, tap, taps}
 use Rattle.taps.specs.Weighted.{nothing, added, mean, tapAt, weightAt, summed, lined, weighted}
-use Rattle.taps.specs.Weights.{corners, weights}
+use Rattle.taps.specs.Weights.{fourWeights, weights}
 use Rattle.picture.specs.declared.colour.Rgba.{Rgba}
 use Rattle.taps.specs.declared.weighted.Sums.{Sums}
 use Rattle.picture.proofs.AtLaws.{at-inside}
@@ -118,12 +118,13 @@ module _ (plane : Plane) (c : Cell) (n : ℕ) (w : List Float) where
   finished j s r a b inv g = g ∙ ap mean (inv ∙ ap (λ (i : ℕ). summed (taps plane c n) w (i * n)) (le-antisymm a b))
 
 -- ---- two by two: the list's four taps, in order
-pub four-corners : (plane : Plane) (c : Cell) (tx ty : Float)
-    → weighted (tap plane c 2 0 ∷ tap plane c 2 1 ∷ tap plane c 2 2 ∷ tap plane c 2 3 ∷ []) (corners tx ty) 4 ≡
+pub four-taps : (plane : Plane) (c : Cell) (tx ty : Float)
+    → weighted (tap plane c 2 0 ∷ tap plane c 2 1 ∷ tap plane c 2 2 ∷ tap plane c 2 3 ∷ []) (fourWeights tx ty) 4 ≡
     weighted (taps plane c 2) (weights Bilinear tx ty) 4
 unfolding weighted taps
-four-corners plane c tx ty =
-    ap mean (summed-four (tap plane c 2 0 ∷ tap plane c 2 1 ∷ tap plane c 2 2 ∷ tap plane c 2 3 ∷ []) (corners tx ty)
+four-taps plane c tx ty =
+    ap mean (summed-four (tap plane c 2 0 ∷ tap plane c 2 1 ∷ tap plane c 2 2 ∷ tap plane c 2 3 ∷ [])
+    (fourWeights tx ty)
     ∙ sym (summed-four (taps plane c 2) (weights Bilinear tx ty)))
 
 -- inside, they are the picture's own pixels
@@ -137,19 +138,19 @@ module _ (bytes : List ℕ) (w h channels policy : ℕ) (background : Rgba) (x y
         (y + j)
     own i j p q = at-inside bytes w h channels policy background (x + i) (y + j) p q
 
-    pub inside-corners : (tx ty : Float)
+    pub inside-taps : (tx ty : Float)
         → weighted (pixelAt bytes w channels x y ∷ pixelAt bytes w channels (x + 1) y
-        ∷ pixelAt bytes w channels x (y + 1) ∷ pixelAt bytes w channels (x + 1) (y + 1) ∷ []) (corners tx ty) 4
+        ∷ pixelAt bytes w channels x (y + 1) ∷ pixelAt bytes w channels (x + 1) (y + 1) ∷ []) (fourWeights tx ty) 4
         ≡ weighted (taps (at bytes w h channels policy background) (record { column = pos x; row = pos y }) 2)
         (weights Bilinear tx ty) 4
-    inside-corners tx ty =
+    inside-taps tx ty =
         let P : ℕ → ℕ → Rgba = pixelAt bytes w channels in
         let zero-x : x + 0 ≡ x = add-zero x in
         let zero-y : y + 0 ≡ y = add-zero y in
         sym (λ i. weighted ((own 0 0 (here x w hx) (here y h hy) ∙ λ j. P (zero-x j) (zero-y j)) i
         ∷ (own 1 0 hx (here y h hy) ∙ λ j. P (x + 1) (zero-y j)) i
-        ∷ (own 0 1 (here x w hx) hy ∙ λ j. P (zero-x j) (y + 1)) i ∷ own 1 1 hx hy i ∷ []) (corners tx ty) 4)
-        ∙ four-corners (at bytes w h channels policy background) (record { column = pos x; row = pos y }) tx ty
+        ∷ (own 0 1 (here x w hx) hy ∙ λ j. P (zero-x j) (y + 1)) i ∷ own 1 1 hx hy i ∷ []) (fourWeights tx ty) 4)
+        ∙ four-taps (at bytes w h channels policy background) (record { column = pos x; row = pos y }) tx ty
 
 pub side-small : (i : Interpolation) → side i ≤ 4
 side-small Integer = lit≤ tt

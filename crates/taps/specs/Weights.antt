@@ -20,16 +20,16 @@ use Rattle.taps.specs.Interpolation.{
   Spline,
   Background,
 }
-use Rattle.taps.specs.declared.weights.Corners.{Corners}
+use Rattle.taps.specs.declared.weights.BilinearWeights.{BilinearWeights}
 use Rattle.taps.specs.Taps.{sixteen}
 use Rattle.taps.specs.Weighted.{weightAt}
 
 -- of the four taps of `Bilinear`
-abbrev pub corners : Float → Float → List Float
-corners tx ty = w00 tx ty ∷ w10 tx ty ∷ w01 tx ty ∷ w11 tx ty ∷ []
+abbrev pub fourWeights : Float → Float → List Float
+fourWeights tx ty = w00 tx ty ∷ w10 tx ty ∷ w01 tx ty ∷ w11 tx ty ∷ []
 
-abbrev pub atCorners : Float → Float → Corners
-atCorners tx ty = record { w00 = w00 tx ty; w10 = w10 tx ty; w01 = w01 tx ty; w11 = w11 tx ty }
+abbrev pub bilinearWeights : Float → Float → BilinearWeights
+bilinearWeights tx ty = record { w00 = w00 tx ty; w10 = w10 tx ty; w01 = w01 tx ty; w11 = w11 tx ty }
 
 -- wx[n] * wy[m], rows outer
 abbrev pub products : List Float → List Float → List Float
@@ -44,7 +44,7 @@ weights Nearest tx ty = alike
 weights Average tx ty = alike
 weights Average9 tx ty = alike
 weights Average16 tx ty = alike
-weights Bilinear tx ty = sixteen (λ (k : ℕ). getD (corners tx ty) k zero)
+weights Bilinear tx ty = sixteen (λ (k : ℕ). getD (fourWeights tx ty) k zero)
 weights Catrom tx ty = products (catrom tx) (catrom ty)
 weights Spline tx ty = products (spline tx) (spline ty)
 weights Background tx ty = alike

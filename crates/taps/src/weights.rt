@@ -1,7 +1,7 @@
 // The weights of an interpolation's taps, in the taps' order. Assumes nothing.
 ghost use mathlib.Core.Path.{_≡_};
 ghost use Rattle.taps.specs.Interpolation.{Bilinear, interpolation};
-ghost use Rattle.taps.specs.Weights.{atCorners, products, weights};
+ghost use Rattle.taps.specs.Weights.{bilinearWeights, products, weights};
 use crate::interpolation::BILINEAR;
 use crate::interpolation::CATROM;
 use crate::interpolation::SPLINE;
@@ -41,19 +41,19 @@ fn products(wx: [f32; 4], wy: [f32; 4]) -> [f32; 16]
 }
 
 // The weights of the four taps of `Bilinear`: the cell's own pixel, the next, and both in the row after.
-pub struct Corners {
+pub struct BilinearWeights {
     pub w00: f32,
     pub w10: f32,
     pub w01: f32,
     pub w11: f32,
 }
 
-pub fn bilinear_weights(tx: f32, ty: f32) -> Corners
-    ensures { λ r. ⌜ r ≡ atCorners tx ty ⌝ }
+pub fn bilinear_weights(tx: f32, ty: f32) -> BilinearWeights
+    ensures { λ r. ⌜ r ≡ bilinearWeights tx ty ⌝ }
 {
     let sx = 1.0 - tx;
     let sy = 1.0 - ty;
-    Corners {
+    BilinearWeights {
         w00: sx * sy,
         w10: tx * sy,
         w01: sx * ty,

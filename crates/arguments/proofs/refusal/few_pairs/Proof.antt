@@ -15,4 +15,11 @@ returns c =
     )
 
 pub few-pairs-spec : {M : Type 1} → statement M
-few-pairs-spec = tie.close (tie.spec (λ c κs. search needs) (λ c κs. search needs) (λ c κs. search needs) (λ c κs. search needs) returns)
+few-pairs-spec =
+    tie.close
+    (tie.spec
+    (λ c κs. search needs)
+    (λ c κs. search needs)
+    (λ c κs. search needs)
+    (λ c κs. search needs)
+    returns)

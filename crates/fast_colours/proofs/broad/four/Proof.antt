@@ -5,16 +5,16 @@ use native.Mathlib.Omega.{arith}
 use borrow.Author.Needs.{needs}
 use lib.ListN.{length}
 use denote.Ref.{now}
-use Rattle.sampler.proofs.CornerLaws as Laws
+use Rattle.sampler.proofs.TwoByTwoLaws as Laws
 use Rattle.fast_colours.proofs.broad.four.Statement.{statement}
 use Rattle.fast_colours.proofs.broad.four.Tie as tie
 
 room : (q : tie.Start) → (((q .args .j + 1) * q .args .width + (q .args .i + 1 + 1)) * 3 + 3) * 4 ≤ length
     (now (q .args .picture))
-room q = Laws.corner-room (q .args .i + 1) _ (q .pre .0) (omega (arith, q .pre .1 .0)) (q .pre .1 .1)
+room q = Laws.last-room (q .args .i + 1) _ (q .pre .0) (omega (arith, q .pre .1 .0)) (q .pre .1 .1)
 
 small : (q : tie.Start) → (q .args .j + 1) * q .args .width + (q .args .i + 1 + 1) ≤ 0x100_0000
-small q = Laws.corner-small (q .args .i + 1) _ (q .pre .0) (omega (arith, q .pre .1 .0)) (q .pre .1 .1)
+small q = Laws.last-small (q .args .i + 1) _ (q .pre .0) (omega (arith, q .pre .1 .0)) (q .pre .1 .1)
 
 mul-k : tie.Need-mul-k
 mul-k c = let q = c .before in omega (arith, room q, small q)

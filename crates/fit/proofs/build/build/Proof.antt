@@ -13,7 +13,8 @@ made-requires : tie.Need-made-requires
 made-requires c κs =
     let told = c .before .before .before .before .before .before .before .refusal .ensures in
     let z = c .before .before .before .before .before .before .if1 .left in
-    few-pairs _ _ told z (pairs-held _ _ told z (c .before .before .before .before .before .fill .ensures .1) (c .before .before .before .pairs-in .ensures))
+    few-pairs _ _ told z (pairs-held _ _ told z (c .before .before .before .before .before .fill .ensures .1)
+    (c .before .before .before .pairs-in .ensures))
 
 returns-2 : tie.Need-returns-2
 returns-2 c =

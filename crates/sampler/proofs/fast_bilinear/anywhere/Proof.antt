@@ -1,7 +1,7 @@
 -- `sampler::fast_bilinear::anywhere` meets its contract: the four taps are those of the list. Assumes nothing.
 use mir.Facts.{toZ-ofZ}
 use Rattle.taps.proofs.SignedCode.{small}
-use Rattle.taps.proofs.TapsLaws.{four-corners}
+use Rattle.taps.proofs.TapsLaws.{four-taps}
 use borrow.Author.Needs.{needs}
 use Rattle.sampler.proofs.fast_bilinear.anywhere.Statement.{statement}
 use Rattle.sampler.proofs.fast_bilinear.anywhere.Tie as tie
@@ -69,7 +69,7 @@ returns c =
       toZ-ofZ (a .fits .column),
       toZ-ofZ (a .fits .row),
     )
-    (four-corners _ _ _ _)
+    (four-taps _ _ _ _)
 
 pub anywhere-spec : {M : Type 1} → statement M
 anywhere-spec =

@@ -7,8 +7,8 @@ use borrow.Author.Tests.{ltb-true}
 use Prim.Native.Nat.{ℕ, _+_, _-_, _<_}
 use Rattle.policies.proofs.IndexCode.{argument, bits-before}
 use Rattle.taps.proofs.SignedCode.{small}
-use Rattle.sampler.specs.Corners.{blend}
-use Rattle.taps.proofs.TapsLaws.{inside-corners}
+use Rattle.sampler.specs.TwoByTwo.{blend}
+use Rattle.taps.proofs.TapsLaws.{inside-taps}
 use borrow.Author.Needs.{needs}
 use Rattle.sampler.proofs.fast_bilinear.around.Statement.{statement}
 use Rattle.sampler.proofs.fast_bilinear.around.Tie as tie
@@ -46,7 +46,7 @@ returns c =
       bits-before (argument (a .fits .column) (i .ensures)) hx (a .pre .0 .sizes .width-most),
       bits-before (argument (a .fits .row) (j .ensures)) hy (a .pre .0 .sizes .height-most),
     )
-    (c .inside .ensures ∙ inside-corners _ _ _ _ (a .args .policy) (a .args .background) _ _ (next _ _ hx)
+    (c .inside .ensures ∙ inside-taps _ _ _ _ (a .args .policy) (a .args .background) _ _ (next _ _ hx)
     (next _ _ hy) _ _)
 
 anywhere-requires : tie.Need-anywhere-requires

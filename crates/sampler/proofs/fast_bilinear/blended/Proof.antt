@@ -2,7 +2,7 @@
 use mathlib.Core.Path.{sym, ap, _∙_}
 use mathlib.Core.List.{[], _∷_}
 use Rattle.taps.specs.Weighted.{mean, weighted}
-use Rattle.taps.specs.Weights.{corners}
+use Rattle.taps.specs.Weights.{fourWeights}
 use Rattle.taps.proofs.WeightedOpaque.{summed-four}
 use borrow.Author.Needs.{needs}
 use Rattle.sampler.proofs.fast_bilinear.blended.Statement.{statement}
@@ -39,7 +39,7 @@ returns c =
       c .before .before .before .before .before .nothing .ensures,
       c .before .before .before .before .before .before .bilinear-weights .ensures,
     )
-    (sym (ap mean (summed-four (a .a ∷ a .b ∷ a .c ∷ a .d ∷ []) (corners (a .tx) (a .ty)))))
+    (sym (ap mean (summed-four (a .a ∷ a .b ∷ a .c ∷ a .d ∷ []) (fourWeights (a .tx) (a .ty)))))
 
 pub blended-spec : {M : Type 1} → statement M
 blended-spec =

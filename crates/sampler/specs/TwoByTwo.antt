@@ -11,7 +11,7 @@ use Rattle.exact.specs.Single.{_⊘_}
 use Rattle.exact.specs.Weighted.{w00, w10, w01, w11, weightSum}
 use Rattle.picture.specs.Pixel.{pixelAt}
 use Rattle.picture.specs.declared.colour.Rgba.{Rgba}
-use Rattle.taps.specs.Weights.{corners}
+use Rattle.taps.specs.Weights.{fourWeights}
 use Rattle.taps.specs.Weighted.{nothing, added, mean, weighted}
 use Rattle.taps.specs.declared.weighted.Sums.{Sums}
 
@@ -19,7 +19,7 @@ use Rattle.taps.specs.declared.weighted.Sums.{Sums}
 unfoldable pub blend : List ℕ → ℕ → ℕ → ℕ → ℕ → Float → Float → Rgba
 blend bytes width channels i j tx ty =
     weighted (pixelAt bytes width channels i j ∷ pixelAt bytes width channels (i + 1) j
-    ∷ pixelAt bytes width channels i (j + 1) ∷ pixelAt bytes width channels (i + 1) (j + 1) ∷ []) (corners tx ty) 4
+    ∷ pixelAt bytes width channels i (j + 1) ∷ pixelAt bytes width channels (i + 1) (j + 1) ∷ []) (fourWeights tx ty) 4
 
 -- ---- how it is worked out
 -- the weights of the four taps at the fractions tx and ty, and their sum
@@ -35,8 +35,8 @@ abbrev pub weighing : Float → Sums → Sums
 weighing t s = record { r = s .r; g = s .g; b = s .b; a = s .a; weight = t }
 
 -- the sums over the taps at the weights a, b, c and d
-unfoldable pub cornerSums : List ℕ → ℕ → ℕ → ℕ → ℕ → Float → Float → Float → Float → Float → Sums
-cornerSums bytes width channels i j a b c d t =
+unfoldable pub twoByTwoSums : List ℕ → ℕ → ℕ → ℕ → ℕ → Float → Float → Float → Float → Float → Sums
+twoByTwoSums bytes width channels i j a b c d t =
     weighing t
     (added (pixelAt bytes width channels (i + 1) (j + 1)) d
     (added (pixelAt bytes width channels i (j + 1)) c
@@ -50,5 +50,5 @@ over s = record { r = s .r ⊘ s .weight; g = s .g ⊘ s .weight; b = s .b ⊘ s
 -- the cell's colour by given weights and their sum, which is that of the alphas where each is 1
 unfoldable pub mixed : List ℕ → ℕ → ℕ → ℕ → ℕ → Float → Float → Float → Float → Float → Rgba
 mixed bytes width channels i j a b c d t =
-    cond (eqb channels 4) (mean (cornerSums bytes width channels i j a b c d t))
-    (over (cornerSums bytes width channels i j a b c d t))
+    cond (eqb channels 4) (mean (twoByTwoSums bytes width channels i j a b c d t))
+    (over (twoByTwoSums bytes width channels i j a b c d t))

@@ -3,8 +3,8 @@
 ghost use mathlib.Core.Path.{_≡_};
 ghost use Prim.Native.Nat.{_+_, _<_};
 ghost use Rattle.picture.specs.Pixel.{Picture};
-ghost use Rattle.sampler.specs.Corners as Square;
-ghost use Rattle.sampler.specs.Corners.{cornerSums};
+ghost use Rattle.sampler.specs.TwoByTwo as TwoByTwo;
+ghost use Rattle.sampler.specs.TwoByTwo.{twoByTwoSums};
 use picture::colour::Rgba;
 use picture::pixel::widened;
 use taps::weighted::Sums;
@@ -30,7 +30,7 @@ fn sums(
 ) -> Sums
     requires { ⌜ Picture (now picture) width height channels ⌝ }
     requires { ⌜ (i + 1 < width) × (j + 1 < height) ⌝ }
-    ensures { λ r. ⌜ r ≡ cornerSums (now (picture .entry)) width channels i j a b c d t ⌝ }
+    ensures { λ r. ⌜ r ≡ twoByTwoSums (now (picture .entry)) width channels i j a b c d t ⌝ }
 {
     let k = (j * width + i) * channels;
     let n = k + width * channels;
@@ -55,7 +55,7 @@ fn sums(
 
 // The quotients of sums by the sum of weights.
 fn over(s: Sums) -> Rgba
-    ensures { λ r. ⌜ r ≡ Square.over s ⌝ }
+    ensures { λ r. ⌜ r ≡ TwoByTwo.over s ⌝ }
 {
     Rgba {
         r: s.r / s.weight,
@@ -82,7 +82,7 @@ pub fn mixed(
 ) -> Rgba
     requires { ⌜ Picture (now picture) width height channels ⌝ }
     requires { ⌜ (i + 1 < width) × (j + 1 < height) ⌝ }
-    ensures { λ r. ⌜ r ≡ Square.mixed (now (picture .entry)) width channels i j a b c d t ⌝ }
+    ensures { λ r. ⌜ r ≡ TwoByTwo.mixed (now (picture .entry)) width channels i j a b c d t ⌝ }
 {
     if channels == 4 {
         return mean(sums(picture, width, height, 4, i, j, a, b, c, d, t));

@@ -1,10 +1,10 @@
--- `sampler::fast_corners::mixed` meets its contract: by the test of the channels. Assumes nothing.
+-- `sampler::fast_two_by_two::mixed` meets its contract: by the test of the channels. Assumes nothing.
 use mathlib.Core.Path.{_≡_}
 use borrow.Author.Tests.{ne-eqb}
 use borrow.Author.Needs.{needs}
-use Rattle.sampler.specs.Corners.{mixed}
-use Rattle.sampler.proofs.fast_corners.mixed.Statement.{statement}
-use Rattle.sampler.proofs.fast_corners.mixed.Tie as tie
+use Rattle.sampler.specs.TwoByTwo.{mixed}
+use Rattle.sampler.proofs.fast_two_by_two.mixed.Statement.{statement}
+use Rattle.sampler.proofs.fast_two_by_two.mixed.Tie as tie
 
 sums-requires : tie.Need-sums-requires
 sums-requires c κs = let a = c .before .before in (rw (c .if1 .taken) at (a .pre .0), a .pre .1)

@@ -1,6 +1,6 @@
 -- The four pixels of a cell inside, by the number of the first one's first sample: the last lies inside, and the others
--- before it. Provides: `corner-room`, `corner-small`, `corner-fits` (their samples); `own-pixel`, `next-pixel`,
--- `under-pixel`, `corner-pixel` (the pixels). Assumes nothing.
+-- before it. Provides: `last-room`, `last-small`, `last-fits` (their samples); `own-pixel`, `next-pixel`,
+-- `under-pixel`, `last-pixel` (the pixels). Assumes nothing.
 use mathlib.Core.Path.{_≡_, refl, ap}
 use mathlib.Core.List.{List}
 use Prim.Native.Nat.{ℕ, _+_, _*_, _≤_, _<_}
@@ -10,17 +10,17 @@ use Rattle.picture.specs.Pixel.{Inside, Picture, widened, pixelAt}
 use Rattle.picture.proofs.PixelCode.{room, number-small, sample-small}
 
 module _ {bytes : List ℕ} {w h n : ℕ} (x y : ℕ) (P : Picture bytes w h n) (hx : x + 1 < w) (hy : y + 1 < h) where
-  corner : Inside bytes w n (x + 1) (y + 1)
-  corner = record { height = h; picture = P; column = hx; row = hy }
+  last : Inside bytes w n (x + 1) (y + 1)
+  last = record { height = h; picture = P; column = hx; row = hy }
 
-  pub corner-room : (((y + 1) * w + (x + 1)) * n + n) * 4 ≤ length bytes
-  corner-room = room bytes w n (x + 1) (y + 1) corner
+  pub last-room : (((y + 1) * w + (x + 1)) * n + n) * 4 ≤ length bytes
+  last-room = room bytes w n (x + 1) (y + 1) last
 
-  pub corner-small : (y + 1) * w + (x + 1) ≤ 0x100_0000
-  corner-small = number-small bytes w n (x + 1) (y + 1) corner
+  pub last-small : (y + 1) * w + (x + 1) ≤ 0x100_0000
+  last-small = number-small bytes w n (x + 1) (y + 1) last
 
-  pub corner-fits : ((y + 1) * w + (x + 1)) * n ≤ 0x400_0000
-  corner-fits = sample-small bytes w n (x + 1) (y + 1) corner
+  pub last-fits : ((y + 1) * w + (x + 1)) * n ≤ 0x400_0000
+  last-fits = sample-small bytes w n (x + 1) (y + 1) last
 
 module _ (bytes : List ℕ) (w n x y : ℕ) where
   pub own-pixel : widened bytes n ((y * w + x) * n) ≡ pixelAt bytes w n x y
@@ -35,6 +35,6 @@ module _ (bytes : List ℕ) (w n x y : ℕ) where
   unfolding pixelAt
   under-pixel = ap (widened bytes n) (omega arith)
 
-  pub corner-pixel : widened bytes n ((y * w + x) * n + w * n + n) ≡ pixelAt bytes w n (x + 1) (y + 1)
+  pub last-pixel : widened bytes n ((y * w + x) * n + w * n + n) ≡ pixelAt bytes w n (x + 1) (y + 1)
   unfolding pixelAt
-  corner-pixel = ap (widened bytes n) (omega arith)
+  last-pixel = ap (widened bytes n) (omega arith)

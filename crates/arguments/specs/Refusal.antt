@@ -21,7 +21,7 @@ use Rattle.arguments.specs.Method.{
   leastPairs,
 }
 use Rattle.arguments.specs.Order.{goodOrder}
-use Rattle.arguments.specs.Store.{countOf, orderOf}
+use Rattle.arguments.specs.Store.{countOf, mostArguments, orderOf}
 
 -- ---- 4, count
 -- n values of a pair method, after the order: under 4, not in fours, or over 64 pairs
@@ -39,7 +39,7 @@ badFor m n =
 
 -- bytes that end inside an argument, more than 257 arguments, or the wrong number for the method
 unfoldable pub badCount : ℕ → List ℕ → Bool
-badCount m bytes = not (eqb (length bytes % 8) 0) || ltb 257 (countOf bytes) || badFor m (countOf bytes)
+badCount m bytes = not (eqb (length bytes % 8) 0) || ltb mostArguments (countOf bytes) || badFor m (countOf bytes)
 
 -- ---- 5, number
 -- finite and at most 1,048,576 in magnitude

@@ -13,20 +13,24 @@ use Rattle.endian.specs.Bytes.{argumentAt}
 abbrev pub countOf : List ℕ → ℕ
 countOf bytes = length bytes / 8
 
--- how many of them the store has room for: all, where no refusal applies
-unfoldable pub heldOf : List ℕ → ℕ
-heldOf bytes = min (countOf bytes) 257
+-- what the store has room for
+abbrev pub mostArguments : ℕ
+mostArguments = 257
 
--- 257 numbers, zero at first
+-- how many of them it holds: all, where no refusal applies
+unfoldable pub heldOf : List ℕ → ℕ
+heldOf bytes = min (countOf bytes) mostArguments
+
+-- its numbers, zero at first
 unfoldable pub zeros : List Float
-zeros = replicate 257 (ofBits binary64 0)  -- 0.0
+zeros = replicate mostArguments (ofBits binary64 0)  -- 0.0
 
 unfoldable pub keep : List ℕ → ℕ → List Float → List Float
 keep bytes k values = set values k (argumentAt bytes k)
 
 -- the store's numbers
 unfoldable pub valuesOf : List ℕ → List Float
-valuesOf bytes = upTo (keep bytes) 0 (heldOf bytes) (replicate 257 (ofBits binary64 0))  -- 0.0
+valuesOf bytes = upTo (keep bytes) 0 (heldOf bytes) (replicate mostArguments (ofBits binary64 0))  -- 0.0
 
 -- the first argument, which is a polynomial's order; 0.0 where there is none
 unfoldable pub orderOf : List ℕ → Float

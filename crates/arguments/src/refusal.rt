@@ -7,11 +7,10 @@ use crate::method::BarrelInverse;
 use crate::method::PerspectiveProjection;
 use crate::method::Polynomial;
 use crate::store;
+use crate::store::MOST_ARGUMENTS;
 ghost use mathlib.Core.Path.{_≡_};
 ghost use Rattle.arguments.specs.Refusal.{badValues, badFor, badCount, badNumber, badOrder, pairsIn, fewPairs};
 ghost use Rattle.arguments.specs.Refusal as Refusal;
-
-const MOST_ARGUMENTS: usize = 257;
 
 const MOST_PAIRS: u64 = 64;
 

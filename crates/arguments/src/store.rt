@@ -3,6 +3,9 @@
 ghost use mathlib.Core.Path.{_≡_};
 ghost use Rattle.arguments.specs.Store.{countOf, heldOf, valuesOf, orderOf};
 
+// What the store has room for.
+pub const MOST_ARGUMENTS: usize = 257;
+
 pub struct Store {
     pub values: [f64; 257],
     pub count: usize,
@@ -19,8 +22,8 @@ pub fn count_of(arguments: &[u8]) -> usize
 fn held_of(arguments: &[u8]) -> usize
     ensures { λ r. ⌜ r ≡ heldOf (now (arguments .entry)) ⌝ }
 {
-    let n = arguments.len() / 8;
-    if n < 257 { n } else { 257 }
+    let n = count_of(arguments);
+    if n < MOST_ARGUMENTS { n } else { MOST_ARGUMENTS }
 }
 
 // The store of the arguments in these bytes.

@@ -8,11 +8,13 @@ ghost use lib.IntN.{pos};
 ghost use Rattle.distort.specs.Call.{answer, numberOf, storeAnswer};
 ghost use Rattle.distort.specs.Job.{callOf};
 ghost use Rattle.cards.specs.Cards.{opaqueBlack};
+use arguments::method::AffineProjection;
+use arguments::method::Polynomial;
+use arguments::method::Shepards;
 use band::rows::Rows;
 use distort::answer::store_answer;
 use distort::call::distort;
 use distort::job::Job;
-use distort::job::yes;
 use endian::bytes::store_u64;
 use endian::bytes::u64_at;
 use libc::STDOUT_FILENO;
@@ -20,12 +22,7 @@ use picture::shape::Shape;
 use policies::policy::EDGE;
 use taps::interpolation::NEAREST;
 use window::view::View;
-
-const AFFINE_PROJECTION: u64 = 1;
-
-const POLYNOMIAL: u64 = 7;
-
-const SHEPARDS: u64 = 13;
+use window::view::yes;
 
 const ONE: u64 = 0x3ff0_0000_0000_0000;
 
@@ -100,7 +97,7 @@ fn size_card(width: u64, number: u64) -> bool {
         &picture[..4 * width as usize],
         width,
         1,
-        AFFINE_PROJECTION,
+        AffineProjection::CODE,
         &arguments,
         0,
         &mut out,
@@ -113,7 +110,7 @@ fn number_card(bits: u64, number: u64) -> bool {
     let picture = [0u8; 4];
     let mut out = [0u8; 48];
     let arguments = projection(bits);
-    ask(&picture, 1, 1, AFFINE_PROJECTION, &arguments, 0, &mut out) == number
+    ask(&picture, 1, 1, AffineProjection::CODE, &arguments, 0, &mut out) == number
 }
 
 // 4: 64 pairs pass, 65 do not.
@@ -128,7 +125,7 @@ fn pairs_card(pairs: usize, number: u64) -> bool {
         &picture,
         1,
         1,
-        SHEPARDS,
+        Shepards::CODE,
         &arguments[..32 * pairs],
         0,
         &mut out,
@@ -145,7 +142,7 @@ fn singular_card() -> bool {
     store_u64(&mut arguments, 8, 0x4000_0000_0000_0000);
     store_u64(&mut arguments, 16, 0x4000_0000_0000_0000);
     store_u64(&mut arguments, 24, 0x4010_0000_0000_0000);
-    ask(&picture, 1, 1, AFFINE_PROJECTION, &arguments, 0, &mut out) == 8
+    ask(&picture, 1, 1, AffineProjection::CODE, &arguments, 0, &mut out) == 8
 }
 
 // 7: order 2.5 with nine pairs.
@@ -154,7 +151,7 @@ fn order_card() -> bool {
     let mut out = [0u8; 48];
     let mut arguments = [0u8; 296];
     store_u64(&mut arguments, 0, 0x4004_0000_0000_0000);
-    ask(&picture, 1, 1, POLYNOMIAL, &arguments, 0, &mut out) == 7
+    ask(&picture, 1, 1, Polynomial::CODE, &arguments, 0, &mut out) == 7
 }
 
 // Whether the answer is 6 by 5 at -1, -1.
@@ -176,7 +173,7 @@ fn bestfit_card() -> bool {
     let picture = [0u8; 48];
     let mut out = [0u8; 48];
     let arguments = projection(0);
-    if ask(&picture, 4, 3, AFFINE_PROJECTION, &arguments, 1, &mut out) != 0 {
+    if ask(&picture, 4, 3, AffineProjection::CODE, &arguments, 1, &mut out) != 0 {
         return false;
     }
     grown(&out)

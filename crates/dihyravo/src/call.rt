@@ -8,9 +8,9 @@ use band::rows::Rows;
 use distort::answer::store_answer;
 use distort::call::distort;
 use distort::job::Job;
-use distort::job::yes;
 use picture::shape::Shape;
 use window::view::View;
+use window::view::yes;
 
 // 0 where the call is accepted, else the refusal's number. Of bestfit and viewport 0 is no, anything else yes. On 0 the
 // answer holds width and height, x and y, the output's channels and the band's matte pixels; a refusal changes no byte

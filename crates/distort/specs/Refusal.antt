@@ -18,7 +18,8 @@ use Rattle.picture.specs.declared.colour.Rgba.{Rgba}
 use Rattle.window.specs.Window.{window, refusalOf, widthOf, heightOf}
 use Rattle.window.specs.declared.view.View.{View}
 use Rattle.window.specs.declared.window.Placed.{Placed}
-use Rattle.distort.specs.Job.{Image, Given, Call, yes, colourOf}
+use Rattle.distort.specs.Job.{Image, Given, Call, colourOf}
+use Rattle.window.specs.View.{yes}
 
 -- ---- the fit, the window and the channels of the output
 unfoldable pub fitOf : Image → Given → Fitted

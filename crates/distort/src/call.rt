@@ -19,6 +19,7 @@ use band::look::Look;
 use band::rows::Rows;
 use fit::build::build;
 use inverse::frame::Frame;
+use inverse::frame::frame_of;
 use mappings::mapping::Mapping;
 use picture::pixel::pixel_at;
 use picture::shape::Shape;
@@ -90,13 +91,7 @@ fn windowed(
             x,
             y,
         } => {
-            let frame = Frame {
-                kind: mapping.kind,
-                order: mapping.order,
-                count: mapping.count,
-                x,
-                y,
-            };
+            let frame = frame_of(mapping, x, y);
             let out = Shape {
                 width,
                 height,

@@ -1,7 +1,5 @@
 // What a distort call is given in numbers. The picture, the arguments, the two colours and the band are lent beside it.
 // Assumes nothing.
-ghost use mathlib.Core.Path.{_≡_};
-ghost use Rattle.distort.specs.Job as Jobs;
 use band::rows::Rows;
 use picture::shape::Shape;
 use window::view::View;
@@ -13,11 +11,4 @@ pub struct Job {
     pub interpolation: u64,
     pub view: View,
     pub rows: Rows,
-}
-
-// Of bestfit and viewport: 0 is no, anything else yes.
-pub fn yes(n: u64) -> bool
-    ensures { λ r. ⌜ r ≡ Jobs.yes n ⌝ }
-{
-    n != 0
 }

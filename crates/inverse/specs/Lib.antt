@@ -2,6 +2,7 @@
 pub mod Affine
 pub mod Barrel
 pub mod Forward
+pub mod Frame
 pub mod Inverse
 pub mod Perspective
 pub mod Polynomial

@@ -6,6 +6,7 @@ use mathlib.Core.List.{List}
 use lib.Dec.{eqb}
 use lib.ListN.{take, replicate}
 use Rattle.mappings.specs.declared.mapping.Fitted.{Fitted}
+use Rattle.arguments.specs.Method.{affine}
 use Rattle.fit.specs.Build.{build}
 use Rattle.listing.specs.declared.reader.Reader.{Reader}
 use Rattle.listing.specs.declared.reader.Outcome.{Outcome}
@@ -18,7 +19,7 @@ fittedText f = cond (eqb (f .refusal) 0) (listingText (f .mapping .coef)) (refus
 
 -- the fit of method 0, whatever the picture's size
 unfoldable pub fitText : List ℕ → List ℕ
-fitText arguments = fittedText (build 0 arguments 1 1)
+fitText arguments = fittedText (build affine arguments 1 1)
 
 unfoldable pub outcomeText : Outcome → List ℕ → List ℕ
 outcomeText (Arguments n) bytes = fitText (take n bytes)

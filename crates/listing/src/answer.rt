@@ -15,7 +15,7 @@ fn fit_pairs(arguments: &[u8], out: &mut [u8; 124]) -> usize
     ensures { λ r. ⌜ (r ≡ length (fitText (now (arguments .entry))))
         × (now (out .exit) ≡ put (now (out .entry)) 0 (fitText (now (arguments .entry)))) ⌝ }
 {
-    let f = fit::build::build(0, arguments, 1, 1);
+    let f = fit::build::build(Affine::CODE, arguments, 1, 1);
     let refusal = f.refusal;
     if refusal != 0 {
         return print::refused(out, refusal);

@@ -1,22 +1,19 @@
 -- A window handed out: the refusal's number, or 0 with width, height, x and y in the bytes lent. A refusal writes
 -- nothing. Assumes nothing.
 use Prim.Native.Nat.{ℕ}
-use mathlib.Core.Bool.{Bool, cond, not}
+use mathlib.Core.Bool.{cond}
 use mathlib.Core.List.{List}
 use lib.Dec.{eqb}
 use lib.IntN.{ℤ}
 use Rattle.endian.specs.Bytes.{storeU64, storeI64}
 use Rattle.mappings.specs.declared.mapping.Fitted.{Fitted}
 use Rattle.mappings.specs.declared.mapping.Mapping.{Mapping}
+use Rattle.window.specs.View.{yes}
 use Rattle.window.specs.Window.{window}
 use Rattle.window.specs.declared.view.View.{View}
 use Rattle.window.specs.declared.window.Placed.{Placed}
 use Rattle.window.specs.declared.window.Placed.the-variants.{Window, Refused}
 use Rattle.probe_fit.specs.Sized.{sizedFit}
-
--- 0 is no, anything else yes
-abbrev pub yes : ℕ → Bool
-yes n = not (eqb n 0)
 
 unfoldable pub storePlaced : Placed → List ℕ → ℕ × List ℕ
 storePlaced (Window width height x y) out =

@@ -2,19 +2,14 @@
 ghost use mathlib.Core.Path.{_≡_};
 ghost use Prim.Native.Nat.{_≤_};
 ghost use lib.ListN.{length};
-ghost use Rattle.probe_fit.specs.Placed.{yes, storePlaced, probeWindow};
+ghost use Rattle.probe_fit.specs.Placed.{storePlaced, probeWindow};
 use crate::sized::sized_fit;
 use endian::bytes::store_i64;
 use endian::bytes::store_u64;
 use window::view::View;
+use window::view::yes;
 use window::window::Placed;
 use window::window::window;
-
-fn yes(n: u64) -> bool
-    ensures { λ r. ⌜ r ≡ yes n ⌝ }
-{
-    n != 0
-}
 
 fn store_placed(out: &mut [u8], placed: Placed) -> u64
     requires { ⌜ 32 ≤ length (now out) ⌝ }

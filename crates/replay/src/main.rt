@@ -16,12 +16,12 @@ use distort::answer::Answer;
 use distort::answer::store_answer;
 use distort::call::distort;
 use distort::job::Job;
-use distort::job::yes;
 use endian::bytes::u64_at;
 use libc::STDIN_FILENO;
 use libc::STDOUT_FILENO;
 use picture::shape::Shape;
 use window::view::View;
+use window::view::yes;
 
 // How a job ended; Broken is a file that ends too early or has another form.
 enum Outcome {

@@ -4,4 +4,5 @@ pub mod Ceil
 pub mod Corners
 pub mod Edges
 pub mod Extent
+pub mod View
 pub mod Window

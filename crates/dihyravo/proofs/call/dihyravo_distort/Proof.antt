@@ -9,7 +9,8 @@ use mir.Syntax.{w64}
 use mir.Val.{ofZ, toZ}
 use mir.ValLaws.{toZ-ofZ}
 use Rattle.band.specs.declared.rows.Rows.{Rows}
-use Rattle.distort.specs.Job.{Call, callBy, yes}
+use Rattle.distort.specs.Job.{Call, callBy}
+use Rattle.window.specs.View.{yes}
 use Rattle.distort.specs.declared.job.Job.{Job}
 use Rattle.picture.specs.declared.shape.Shape.{Shape}
 use Rattle.window.specs.declared.view.View.{View}

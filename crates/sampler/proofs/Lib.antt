@@ -2,7 +2,6 @@
 pub mod AtFinite
 pub mod AtOpaque
 pub mod BilinearOpaque
-pub mod TwoByTwoLaws
 pub mod FourByFourCode
 pub mod InsideLaws
 pub mod InterpolateCode
@@ -10,3 +9,4 @@ pub mod InterpolateFinite
 pub mod MixedLaws
 pub mod ReachLaws
 pub mod SixteenCode
+pub mod TwoByTwoLaws

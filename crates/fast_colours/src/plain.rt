@@ -44,7 +44,7 @@ pub fn weigh(xs: &[f32; 64], ys: &[f32; 64], n: usize, w: &mut [[f32; 64]; 5])
         w[1][k] = c.w10;
         w[2][k] = c.w01;
         w[3][k] = c.w11;
-        w[4][k] = 0.0 + c.w00 + c.w10 + c.w01 + c.w11;
+        w[4][k] = c.sum;
     }
 }
 

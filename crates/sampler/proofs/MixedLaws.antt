@@ -23,13 +23,13 @@ use Rattle.sampler.specs.TwoByTwo.{Weighed, blend, twoByTwoSums, over, m
 
 -- the code's weights, and their sum
 pub weighed-by : {tx ty : Float} {c : BilinearWeights} → c ≡ bilinearWeights tx ty
-    → Weighed tx ty (c .w00) (c .w10) (c .w01) (c .w11) (fourSum (c .w00) (c .w10) (c .w01) (c .w11))
+    → Weighed tx ty (c .w00) (c .w10) (c .w01) (c .w11) (c .sum)
 weighed-by e = record {
   at-00 = ap (λ (z : BilinearWeights). z .w00) e;
   at-10 = ap (λ (z : BilinearWeights). z .w10) e;
   at-01 = ap (λ (z : BilinearWeights). z .w01) e;
   at-11 = ap (λ (z : BilinearWeights). z .w11) e;
-  total = ap (λ (z : BilinearWeights). fourSum (z .w00) (z .w10) (z .w01) (z .w11)) e;
+  total = ap (λ (z : BilinearWeights). z .sum) e;
 }
 
 module _ (bytes : List ℕ) (w n i j : ℕ) (tx ty : Float) where

@@ -62,7 +62,7 @@ fn inside(
         w.w10,
         w.w01,
         w.w11,
-        0.0 + w.w00 + w.w10 + w.w01 + w.w11,
+        w.sum,
     )
 }
 

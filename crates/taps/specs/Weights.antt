@@ -5,7 +5,7 @@ use mathlib.Core.List.{List, [], _∷_}
 use lib.ListN.{getD}
 use lib.Ieee.{Float}
 use Rattle.exact.specs.Single.{_⊗_}
-use Rattle.exact.specs.Weighted.{w00, w10, w01, w11}
+use Rattle.exact.specs.Weighted.{w00, w10, w01, w11, weightSum}
 use Rattle.picture.specs.Colour.{zero, one}
 use Rattle.cubic.specs.Cubic.{catrom, spline}
 use Rattle.taps.specs.Interpolation.{
@@ -28,8 +28,15 @@ use Rattle.taps.specs.Weighted.{weightAt}
 abbrev pub fourWeights : Float → Float → List Float
 fourWeights tx ty = w00 tx ty ∷ w10 tx ty ∷ w01 tx ty ∷ w11 tx ty ∷ []
 
+-- and their sum
 abbrev pub bilinearWeights : Float → Float → BilinearWeights
-bilinearWeights tx ty = record { w00 = w00 tx ty; w10 = w10 tx ty; w01 = w01 tx ty; w11 = w11 tx ty }
+bilinearWeights tx ty = record {
+  w00 = w00 tx ty;
+  w10 = w10 tx ty;
+  w01 = w01 tx ty;
+  w11 = w11 tx ty;
+  sum = weightSum tx ty;
+}
 
 -- wx[n] * wy[m], rows outer
 abbrev pub products : List Float → List Float → List Float

@@ -40,12 +40,13 @@ fn products(wx: [f32; 4], wy: [f32; 4]) -> [f32; 16]
     ]
 }
 
-// The weights of the four taps of `Bilinear`: the cell's own pixel, the next, and both in the row after.
+// The weights of the four taps of `Bilinear`: the cell's own pixel, the next, and both in the row after; and their sum.
 pub struct BilinearWeights {
     pub w00: f32,
     pub w10: f32,
     pub w01: f32,
     pub w11: f32,
+    pub sum: f32,
 }
 
 pub fn bilinear_weights(tx: f32, ty: f32) -> BilinearWeights
@@ -53,11 +54,16 @@ pub fn bilinear_weights(tx: f32, ty: f32) -> BilinearWeights
 {
     let sx = 1.0 - tx;
     let sy = 1.0 - ty;
+    let w00 = sx * sy;
+    let w10 = tx * sy;
+    let w01 = sx * ty;
+    let w11 = tx * ty;
     BilinearWeights {
-        w00: sx * sy,
-        w10: tx * sy,
-        w01: sx * ty,
-        w11: tx * ty,
+        w00,
+        w10,
+        w01,
+        w11,
+        sum: 0.0 + w00 + w10 + w01 + w11,
     }
 }
 

@@ -18,9 +18,8 @@ loop-holds c = (weigh-none (c .sized .ensures), search needs)
 
 loop-again : tie.Need-loop-again Inv-loop μ-loop
 loop-again c =
-    let head = c .before .before .before .before .before .before .before .before in (
-      weigh-more (head .loop .k) (search needs)
-          (weighed-by (c .before .before .before .before .bilinear-weights .ensures)) (head .loop .inv .0),
+    let head = c .before .before .before .before in (
+      weigh-more (head .loop .k) (search needs) (weighed-by (c .bilinear-weights .ensures)) (head .loop .inv .0),
       search needs,
     )
 

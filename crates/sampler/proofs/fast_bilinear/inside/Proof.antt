@@ -7,9 +7,9 @@ use Rattle.sampler.proofs.fast_bilinear.inside.Tie as tie
 
 returns : tie.Need-returns
 returns c =
-    let a = c .before .before .before .before .before .before .before in
+    let a = c .before .before .before in
     c .mixed .ensures ∙ mixed-blend _ _ _ _ _ _ _ (a .pre .1 .1 .0) (a .pre .1 .1 .1)
-    (weighed-by (c .before .before .before .before .before .bilinear-weights .ensures))
+    (weighed-by (c .before .bilinear-weights .ensures))
 
 pub inside-spec : {M : Type 1} → statement M
 inside-spec = tie.close (tie.spec (λ c κs. search needs) (λ c κs. search needs) returns)

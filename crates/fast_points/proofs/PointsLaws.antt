@@ -6,9 +6,17 @@ use lib.Ieee.{Float, binary64, ofInt}
 use Rattle.exact.specs.Sums.{asked}
 use Rattle.exact.specs.Vector.{Vector}
 use Rattle.point.specs.declared.point.Point.{Point}
-use Rattle.mappings.specs.Mapping.{affineKind, perspectiveKind, bilinearForwardKind, barrelKind, barrelInverseKind}
+use Rattle.mappings.specs.Mapping.{
+  affineKind,
+  perspectiveKind,
+  polyKind,
+  bilinearForwardKind,
+  barrelKind,
+  barrelInverseKind,
+}
 use Rattle.inverse.specs.Forward.{bilinearForward}
 use Rattle.inverse.specs.Perspective.{perspective}
+use Rattle.inverse.specs.Polynomial.{polynomial}
 use Rattle.inverse.specs.Affine.{affine}
 use Rattle.inverse.specs.Barrel.{barrel, barrelInverse}
 use Rattle.inverse.specs.Inverse.{inverse}
@@ -31,6 +39,12 @@ module _ (f : Frame) (coef : Vector) (first j n : ℕ) {a b : Float} {us vs : Li
       → Points f coef first j n us vs
   unfolding inverse
   points-perspective h = points-by (λ (c : Float). perspective coef c b) (λ c. rw h)
+
+  pub points-polynomial : f .kind ≡ polyKind
+      → PointsOf (λ (c : Float). polynomial (f .order) coef c b) a first n us vs
+      → Points f coef first j n us vs
+  unfolding inverse
+  points-polynomial h = points-by (λ (c : Float). polynomial (f .order) coef c b) (λ c. rw h)
 
   pub points-forward : f .kind ≡ bilinearForwardKind
       → PointsOf (λ (c : Float). bilinearForward coef c b) a first n us vs

@@ -10,6 +10,7 @@ ghost use lib.Ieee.{Float};
 ghost use Rattle.inverse.specs.Forward.{bilinearForward};
 ghost use Rattle.inverse.specs.Affine.{affine};
 ghost use Rattle.inverse.specs.Perspective.{perspective};
+ghost use Rattle.inverse.specs.Polynomial.{polynomial};
 ghost use Rattle.inverse.specs.Inverse.{inverse};
 ghost use Rattle.fast_points.specs.Points.{PointsOf, Points};
 use crate::barrels::barrel_inverse_points;
@@ -22,12 +23,14 @@ use inverse::affine::affine;
 use inverse::forward::bilinear_forward;
 use inverse::frame::Frame;
 use inverse::perspective::perspective;
+use inverse::polynomial::polynomial;
 use inverse::source::inverse;
 use mappings::mapping::AFFINE;
 use mappings::mapping::BARREL;
 use mappings::mapping::BARREL_INVERSE;
 use mappings::mapping::BILINEAR_FORWARD;
 use mappings::mapping::PERSPECTIVE;
+use mappings::mapping::POLY;
 
 fn affine_points(
     coef: &[f64; 256],
@@ -64,6 +67,27 @@ fn perspective_points(
 {
     for k in 0..n {
         let p = perspective(coef, middle(first + (k as u32), x), y);
+        us[k] = p.u;
+        vs[k] = p.v;
+    }
+}
+
+fn polynomial_points(
+    order: u64,
+    coef: &[f64; 256],
+    x: f64,
+    y: f64,
+    first: u32,
+    n: usize,
+    us: &mut [f64; 64],
+    vs: &mut [f64; 64],
+)
+    requires { ⌜ (n ≤ 64) × ((first + n ≤ 4096) × ((length (now us) ≡ 64) × (length (now vs) ≡ 64))) ⌝ }
+    ensures { λ _. ⌜ PointsOf (λ (a : Float). polynomial order (now (coef .entry)) a y) x first n (now (us .exit))
+        (now (vs .exit)) ⌝ }
+{
+    for k in 0..n {
+        let p = polynomial(order, coef, middle(first + (k as u32), x), y);
         us[k] = p.u;
         vs[k] = p.v;
     }
@@ -140,6 +164,10 @@ pub fn points(
     }
     if kind == PERSPECTIVE {
         perspective_points(coef, a, b, start, n, us, vs);
+        return;
+    }
+    if kind == POLY {
+        polynomial_points(frame.order, coef, a, b, start, n, us, vs);
         return;
     }
     if kind == BILINEAR_FORWARD {

@@ -82,7 +82,7 @@ perspective-whole m x y =
     (linear (at m 0) (at m 1) (at m 2) x y ⊘ wq m x y)
     (linear (at m 3) (at m 4) (at m 5) x y ⊘ wq m x y)
 
-polynomial-whole : (order : ℕ) (m : Vector) (x y : Float) → Whole (polynomial order m x y)
+pub polynomial-whole : (order : ℕ) (m : Vector) (x y : Float) → Whole (polynomial order m x y)
 unfolding polynomial
 polynomial-whole order m x y = point-whole _ _
 

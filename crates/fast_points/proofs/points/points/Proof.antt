@@ -10,6 +10,7 @@ use Rattle.fast_points.proofs.PointsLaws.{
   points-by,
   points-affine,
   points-perspective,
+  points-polynomial,
   points-forward,
   points-barrel,
   points-barrel-inverse,
@@ -54,24 +55,30 @@ returns-2 c =
 returns-3 : tie.Need-returns-3
 returns-3 c =
     let e = c .before .before .before .before .before .before in
-    points-forward (frame-of e) _ _ _ _ (across e) (down e)
-    (c .before .before .before .if3 .taken) (c .forward-points .ensures)
+    points-polynomial (frame-of e) _ _ _ _ (across e) (down e)
+    (c .before .before .before .if3 .taken) (c .polynomial-points .ensures)
 
 returns-4 : tie.Need-returns-4
 returns-4 c =
     let e = c .before .before .before .before .before .before .before in
-    points-barrel (frame-of e) _ _ _ _ (across e) (down e)
-    (c .before .before .before .if4 .taken) (c .barrel-points .ensures)
+    points-forward (frame-of e) _ _ _ _ (across e) (down e)
+    (c .before .before .before .if4 .taken) (c .forward-points .ensures)
 
 returns-5 : tie.Need-returns-5
 returns-5 c =
     let e = c .before .before .before .before .before .before .before .before in
-    points-barrel-inverse (frame-of e) _ _ _ _ (across e) (down e)
-    (c .before .before .before .if5 .taken) (c .barrel-inverse-points .ensures)
+    points-barrel (frame-of e) _ _ _ _ (across e) (down e)
+    (c .before .before .before .if5 .taken) (c .barrel-points .ensures)
 
 returns-6 : tie.Need-returns-6
 returns-6 c =
-    let e = c .before .before .before .before .before .before .before .before in
+    let e = c .before .before .before .before .before .before .before .before .before in
+    points-barrel-inverse (frame-of e) _ _ _ _ (across e) (down e)
+    (c .before .before .before .if6 .taken) (c .barrel-inverse-points .ensures)
+
+returns-7 : tie.Need-returns-7
+returns-7 c =
+    let e = c .before .before .before .before .before .before .before .before .before in
     points-by (frame-of e) _ _ _ _ (across e) (down e) _ (λ c. refl) (c .other-points .ensures)
 
 pub points-spec : {M : Type 1} → statement M
@@ -94,4 +101,6 @@ points-spec =
     (λ c κs. search needs)
     returns-5
     (λ c κs. search needs)
-    returns-6)
+    returns-6
+    (λ c κs. search needs)
+    returns-7)

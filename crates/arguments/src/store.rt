@@ -23,7 +23,11 @@ fn held_of(arguments: &[u8]) -> usize
     ensures { λ r. ⌜ r ≡ heldOf (now (arguments .entry)) ⌝ }
 {
     let n = count_of(arguments);
-    if n < MOST_ARGUMENTS { n } else { MOST_ARGUMENTS }
+    if n < MOST_ARGUMENTS {
+        n
+    } else {
+        MOST_ARGUMENTS
+    }
 }
 
 // The store of the arguments in these bytes.

@@ -110,7 +110,8 @@ fn number_card(bits: u64, number: u64) -> bool {
     let picture = [0u8; 4];
     let mut out = [0u8; 48];
     let arguments = projection(bits);
-    ask(&picture, 1, 1, AffineProjection::CODE, &arguments, 0, &mut out) == number
+    let method = AffineProjection::CODE;
+    ask(&picture, 1, 1, method, &arguments, 0, &mut out) == number
 }
 
 // 4: 64 pairs pass, 65 do not.
@@ -142,7 +143,8 @@ fn singular_card() -> bool {
     store_u64(&mut arguments, 8, 0x4000_0000_0000_0000);
     store_u64(&mut arguments, 16, 0x4000_0000_0000_0000);
     store_u64(&mut arguments, 24, 0x4010_0000_0000_0000);
-    ask(&picture, 1, 1, AffineProjection::CODE, &arguments, 0, &mut out) == 8
+    let method = AffineProjection::CODE;
+    ask(&picture, 1, 1, method, &arguments, 0, &mut out) == 8
 }
 
 // 7: order 2.5 with nine pairs.
@@ -173,7 +175,8 @@ fn bestfit_card() -> bool {
     let picture = [0u8; 48];
     let mut out = [0u8; 48];
     let arguments = projection(0);
-    if ask(&picture, 4, 3, AffineProjection::CODE, &arguments, 1, &mut out) != 0 {
+    let method = AffineProjection::CODE;
+    if ask(&picture, 4, 3, method, &arguments, 1, &mut out) != 0 {
         return false;
     }
     grown(&out)

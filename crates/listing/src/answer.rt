@@ -4,6 +4,7 @@ use crate::print;
 use crate::reader::Outcome;
 use crate::reader::Reader;
 use crate::text;
+use arguments::method::Affine;
 ghost use mathlib.Core.Path.{_≡_};
 ghost use Prim.Native.Nat.{_≤_};
 ghost use lib.ListN.{length};

@@ -16,8 +16,10 @@ use Rattle.window.specs.declared.window.Placed.the-variants as Placed
 use Rattle.window.proofs.WindowLaws.{Side, Limits, window-limits}
 use Rattle.distort.specs.declared.answer.Answer.{Answer}
 use Rattle.distort.specs.declared.answer.Answer.the-variants.{Accepted, Refused}
-use Rattle.band.specs.Band.{Mapped, Source, mapped, rowsBytes, rowsMatte}
+use Rattle.band.specs.Band.{Mapped, Source, framed, mapped, rowsBytes, rowsMatte}
 use Rattle.band.specs.declared.rows.Rows.{Rows}
+use Rattle.inverse.specs.Frame.{frameOf}
+use Rattle.inverse.specs.declared.frame.Frame.{Frame}
 use Rattle.mappings.specs.declared.mapping.Mapping.{Mapping}
 use Rattle.picture.specs.declared.shape.Shape.{Shape}
 use Rattle.window.specs.declared.view.View.{View}
@@ -80,13 +82,16 @@ limits-of kind coef width height view e f =
     subst (λ (p : Placed). Limits p) (sym e ∙ f) (window-limits kind coef width height view)
 
 module _ (s : Source) (m : Mapping) (channels : ℕ) (rows : Rows) (band : List ℕ) where
-  pub found : {placed q : Placed} {w h : ℕ} {x y c d : ℤ} {done : Answer × List ℕ} → placed ≡ q
-      → placed ≡ Window w h x y → c ≡ x → d ≡ y
-      → done ≡ inWindow s (mapped m c d) (record { width = w; height = h; channels = channels }) rows band
+  pub found : {placed q : Placed} {w h : ℕ} {x y c d : ℤ} {frame : Frame} {done : Answer × List ℕ} → placed ≡ q
+      → placed ≡ Window w h x y → c ≡ x → d ≡ y → frame ≡ frameOf m c d
+      → done ≡ inWindow s (framed (m .coef) frame) (record { width = w; height = h; channels = channels }) rows band
       → done ≡ windowed q s m channels rows band
   unfolding windowed
-  found {w = w} {h = h} e f ec ed k =
+  found {w = w} {h = h} e f ec ed g k =
       k
+      ∙ ap
+      (λ (z : Frame). inWindow s (framed (m .coef) z) (record { width = w; height = h; channels = channels }) rows band)
+      g
       ∙ (λ i. inWindow s (mapped m (ec i) (ed i)) (record { width = w; height = h; channels = channels }) rows band)
       ∙ ap (λ (p : Placed). windowed p s m channels rows band) (sym f ∙ e)
 

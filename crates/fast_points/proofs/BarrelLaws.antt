@@ -1,20 +1,23 @@
 -- The laws of the barrels' lists: a store more makes each longer by one, and the three steps together are the points.
 -- Assumes nothing.
 use mathlib.Core.Path.{_≡_, ap, _∙_, refl}
+use mathlib.Core.Logic.{_≢_}
 use mathlib.Core.List.{List}
 use Prim.Native.Nat.{ℕ, _+_, _≤_, _<_}
 use native.Mathlib.Nat.{not-suc-le-zero}
 use native.Mathlib.Omega.{arith}
+use borrow.Author.Tests.{eq-eqb, ne-eqb}
 use lib.ListN.{length, set, length-set}
 use lib.Ieee.{Float}
 use Rattle.number.specs.Root.{root}
 use Rattle.exact.specs.Vector.{Vector, at}
 use Rattle.point.specs.declared.point.Point.{Point}
 use Rattle.point.specs.Point.{point, Whole}
-use Rattle.inverse.specs.Barrel.{across, down, square, barrelFrom, barrelInverseFrom, barrel, barrelInverse}
+use Rattle.mappings.specs.Mapping.{barrelKind}
+use Rattle.inverse.specs.Barrel.{across, down, square, barrelFrom, barrelInverseFrom}
 use Rattle.fast_points.specs.Points.{middle, PointsOf}
 use Rattle.fast_points.proofs.FillLaws.{both-more, read-back}
-use Rattle.fast_points.specs.Barrels.{RadiiSquared, Each, Moved}
+use Rattle.fast_points.specs.Barrels.{barrelBy, RadiiSquared, Each, Moved}
 
 -- ---- the offsets and the squares
 pub record Squaring (c : Vector) (x dy : Float) (first k : ℕ) (ds ss : List Float) : Type 0 where
@@ -102,17 +105,19 @@ radius : (c : Vector) (x dy : Float) (first n : ℕ) {ds ss rs : List Float} →
     → (k : ℕ) → k < n → at rs k ≡ root (square (across c (middle (first + k) x)) dy)
 radius c x dy first n S R k h = R .each k h ∙ ap root (S .each k h .1)
 
-module _ (c : Vector) (x y : Float) (first n : ℕ) {dy : Float} {ds ss rs us vs : List Float} where
-  pub barrel-span : dy ≡ down c y → RadiiSquared c x dy first n ds ss → Each root n ss rs
+module _ (c : Vector) (x y : Float) (first n : ℕ) {kind : ℕ} {dy : Float} {ds ss rs us vs : List Float} where
+  pub barrel-span : kind ≡ barrelKind → dy ≡ down c y → RadiiSquared c x dy first n ds ss → Each root n ss rs
       → Moved (barrelFrom c dy) n ds rs us vs
-      → PointsOf (λ (a : Float). barrel c a y) x first n us vs
-  barrel-span e S R m = record {
-    kept = λ k h. rw (← e, ← radius c x dy first n S R k h, ← S .each k h .0)
+      → PointsOf (λ (a : Float). barrelBy kind c a y) x first n us vs
+  barrel-span q e S R m = record {
+    kept = λ k h. rw (eq-eqb _ _ q, ← e, ← radius c x dy first n S R k h, ← S .each k h .0)
         (m .kept k h);
   }
 
-  pub barrel-inverse-span : dy ≡ down c y → RadiiSquared c x dy first n ds ss → Each root n ss rs
+  pub barrel-inverse-span : kind ≢ barrelKind → dy ≡ down c y → RadiiSquared c x dy first n ds ss → Each root n ss rs
       → Moved (barrelInverseFrom c dy) n ds rs us vs
-      → PointsOf (λ (a : Float). barrelInverse c a y) x first n us vs
-  barrel-inverse-span e S R m =
-      record { kept = λ k h. rw (← e, ← radius c x dy first n S R k h, ← S .each k h .0) (m .kept k h) }
+      → PointsOf (λ (a : Float). barrelBy kind c a y) x first n us vs
+  barrel-inverse-span q e S R m = record {
+    kept = λ k h. rw (ne-eqb _ _ q, ← e, ← radius c x dy first n S R k h, ← S .each k h .0)
+        (m .kept k h);
+  }

@@ -18,10 +18,10 @@ use Rattle.inverse.specs.Forward.{bilinearForward}
 use Rattle.inverse.specs.Perspective.{perspective}
 use Rattle.inverse.specs.Polynomial.{polynomial}
 use Rattle.inverse.specs.Affine.{affine}
-use Rattle.inverse.specs.Barrel.{barrel, barrelInverse}
 use Rattle.inverse.specs.Inverse.{inverse}
 use Rattle.inverse.specs.declared.frame.Frame.{Frame}
 use Rattle.fast_points.specs.Points.{middle, PointsOf, Points}
+use Rattle.fast_points.specs.Barrels.{barrelBy}
 
 module _ (f : Frame) (coef : Vector) (first j n : ℕ) {a b : Float} {us vs : List Float}
     (e : a ≡ ofInt binary64 (f .x)) (g : b ≡ asked j (f .y)) where
@@ -52,13 +52,13 @@ module _ (f : Frame) (coef : Vector) (first j n : ℕ) {a b : Float} {us vs : Li
   unfolding inverse
   points-forward h = points-by (λ (c : Float). bilinearForward coef c b) (λ c. rw h)
 
-  pub points-barrel : f .kind ≡ barrelKind → PointsOf (λ (c : Float). barrel coef c b) a first n us vs
+  pub points-barrel : f .kind ≡ barrelKind → PointsOf (λ (c : Float). barrelBy barrelKind coef c b) a first n us vs
       → Points f coef first j n us vs
   unfolding inverse
-  points-barrel h = points-by (λ (c : Float). barrel coef c b) (λ c. rw h)
+  points-barrel h = points-by (λ (c : Float). barrelBy barrelKind coef c b) (λ c. rw h)
 
   pub points-barrel-inverse : f .kind ≡ barrelInverseKind
-      → PointsOf (λ (c : Float). barrelInverse coef c b) a first n us vs
+      → PointsOf (λ (c : Float). barrelBy barrelInverseKind coef c b) a first n us vs
       → Points f coef first j n us vs
   unfolding inverse
-  points-barrel-inverse h = points-by (λ (c : Float). barrelInverse coef c b) (λ c. rw h)
+  points-barrel-inverse h = points-by (λ (c : Float). barrelBy barrelInverseKind coef c b) (λ c. rw h)

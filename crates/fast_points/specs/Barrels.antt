@@ -1,14 +1,21 @@
--- The steps to the points of Barrel and BarrelInverse, each for a whole span: the offsets across with the squared
--- radii, the radii, the points from both. Assumes nothing.
+-- The point of Barrel or BarrelInverse, by the kind, and the steps to it, each for a whole span: the offsets across with
+-- the squared radii, the radii, the points from both. Assumes nothing.
 use mathlib.Core.Path.{_≡_}
+use mathlib.Core.Bool.{cond}
 use mathlib.Core.List.{List}
 use Prim.Native.Nat.{ℕ, _+_, _<_}
+use lib.Dec.{eqb}
 use lib.Ieee.{Float}
 use Rattle.exact.specs.Vector.{Vector, at}
 use Rattle.point.specs.declared.point.Point.{Point}
 use Rattle.point.specs.Point.{point}
-use Rattle.inverse.specs.Barrel.{across, square}
+use Rattle.mappings.specs.Mapping.{barrelKind}
+use Rattle.inverse.specs.Barrel.{across, square, barrel, barrelInverse}
 use Rattle.fast_points.specs.Points.{middle}
+
+-- the point of Barrel, or of BarrelInverse where the kind is another
+abbrev pub barrelBy : ℕ → Vector → Float → Float → Point
+barrelBy kind c x y = cond (eqb kind barrelKind) (barrel c x y) (barrelInverse c x y)
 
 -- the first n of two lists: the offsets across and the squared radii of the pixels from column `first` on, of a
 -- window at x; dy is the offset down

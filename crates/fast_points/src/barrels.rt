@@ -7,9 +7,9 @@ ghost use Prim.Native.Nat.{_+_, _≤_};
 ghost use lib.ListN.{length};
 ghost use lib.Ieee.{Float};
 ghost use Rattle.number.specs.Root.{root, guess};
-ghost use Rattle.inverse.specs.Barrel.{barrelFrom, barrelInverseFrom, barrel, barrelInverse};
+ghost use Rattle.inverse.specs.Barrel.{barrelFrom, barrelInverseFrom};
 ghost use Rattle.fast_points.specs.Points.{PointsOf};
-ghost use Rattle.fast_points.specs.Barrels.{RadiiSquared, Each, Moved};
+ghost use Rattle.fast_points.specs.Barrels.{barrelBy, RadiiSquared, Each, Moved};
 use crate::pixel::middle;
 use crate::sized::sized;
 use inverse::barrel::across;
@@ -17,6 +17,7 @@ use inverse::barrel::barrel_from;
 use inverse::barrel::barrel_inverse_from;
 use inverse::barrel::down;
 use inverse::barrel::radius_squared;
+use mappings::mapping::BARREL;
 use number::root::guess;
 use number::root::root_by;
 
@@ -104,7 +105,9 @@ fn barrel_inverse_moved(
     }
 }
 
+// The points of Barrel, or of BarrelInverse where the kind is another.
 pub fn barrel_points(
+    kind: u64,
     coef: &[f64; 256],
     x: f64,
     y: f64,
@@ -114,32 +117,7 @@ pub fn barrel_points(
     vs: &mut [f64; 64],
 )
     requires { ⌜ (n ≤ 64) × ((first + n ≤ 4096) × ((length (now us) ≡ 64) × (length (now vs) ≡ 64))) ⌝ }
-    ensures { λ _.
-        ⌜ PointsOf (λ (a : Float). barrel (now (coef .entry)) a y) x first n (now (us .exit)) (now (vs .exit)) ⌝ }
-{
-    let dy = down(coef, y);
-    let mut ds = [0.0; 64];
-    let mut rs = [0.0; 64];
-    radii_squared(coef, x, dy, first, n, &mut ds, us);
-    guesses(us, n, vs);
-    roots(us, vs, n, &mut rs);
-    sized(*us);
-    sized(*vs);
-    barrel_moved(coef, dy, n, &ds, &rs, us, vs);
-}
-
-pub fn barrel_inverse_points(
-    coef: &[f64; 256],
-    x: f64,
-    y: f64,
-    first: u32,
-    n: usize,
-    us: &mut [f64; 64],
-    vs: &mut [f64; 64],
-)
-    requires { ⌜ (n ≤ 64) × ((first + n ≤ 4096) × ((length (now us) ≡ 64) × (length (now vs) ≡ 64))) ⌝ }
-    ensures { λ _.
-        ⌜ PointsOf (λ (a : Float). barrelInverse (now (coef .entry)) a y) x first n (now (us .exit))
+    ensures { λ _. ⌜ PointsOf (λ (a : Float). barrelBy kind (now (coef .entry)) a y) x first n (now (us .exit))
         (now (vs .exit)) ⌝ }
 {
     let dy = down(coef, y);
@@ -150,5 +128,9 @@ pub fn barrel_inverse_points(
     roots(us, vs, n, &mut rs);
     sized(*us);
     sized(*vs);
+    if kind == BARREL {
+        barrel_moved(coef, dy, n, &ds, &rs, us, vs);
+        return;
+    }
     barrel_inverse_moved(coef, dy, n, &ds, &rs, us, vs);
 }

@@ -13,7 +13,6 @@ ghost use Rattle.inverse.specs.Perspective.{perspective};
 ghost use Rattle.inverse.specs.Polynomial.{polynomial};
 ghost use Rattle.inverse.specs.Inverse.{inverse};
 ghost use Rattle.fast_points.specs.Points.{PointsOf, Points};
-use crate::barrels::barrel_inverse_points;
 use crate::barrels::barrel_points;
 use crate::pixel::asked;
 use crate::pixel::middle;
@@ -125,8 +124,8 @@ fn other_points(
 )
     requires { ⌜ (n ≤ 64) × ((first + n ≤ 4096) × ((length (now us) ≡ 64) × (length (now vs) ≡ 64))) ⌝ }
     ensures { λ _.
-        ⌜ PointsOf (λ (a : Float). inverse (frame .kind) (frame .order) (frame .count) (now (coef .entry)) a y) x first n
-        (now (us .exit)) (now (vs .exit)) ⌝ }
+        ⌜ PointsOf (λ (a : Float). inverse (frame .kind) (frame .order) (frame .count) (now (coef .entry)) a y) x first
+        n (now (us .exit)) (now (vs .exit)) ⌝ }
 {
     let kind = frame.kind;
     let order = frame.order;
@@ -175,11 +174,11 @@ pub fn points(
         return;
     }
     if kind == BARREL {
-        barrel_points(coef, a, b, start, n, us, vs);
+        barrel_points(BARREL, coef, a, b, start, n, us, vs);
         return;
     }
     if kind == BARREL_INVERSE {
-        barrel_inverse_points(coef, a, b, start, n, us, vs);
+        barrel_points(BARREL_INVERSE, coef, a, b, start, n, us, vs);
         return;
     }
     other_points(frame, coef, a, b, start, n, us, vs);

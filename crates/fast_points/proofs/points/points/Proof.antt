@@ -74,7 +74,7 @@ returns-6 : tie.Need-returns-6
 returns-6 c =
     let e = c .before .before .before .before .before .before .before .before .before in
     points-barrel-inverse (frame-of e) _ _ _ _ (across e) (down e)
-    (c .before .before .before .if6 .taken) (c .barrel-inverse-points .ensures)
+    (c .before .before .before .if6 .taken) (c .barrel-points2 .ensures)
 
 returns-7 : tie.Need-returns-7
 returns-7 c =

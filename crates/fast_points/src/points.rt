@@ -3,7 +3,7 @@
 // pixels at a time; the barrels take their steps in loops of their own (`barrels`). Assumes that the pixels lie
 // within the limits of a window, and the inner functions that the arrays are as long as their types say.
 ghost use mathlib.Core.Path.{_≡_};
-ghost use Prim.Native.Nat.{_+_, _≤_};
+ghost use Prim.Native.Nat.{_+_, _≤_, _<_};
 ghost use lib.IntN.{natAbs};
 ghost use lib.ListN.{length};
 ghost use lib.Ieee.{Float};
@@ -135,6 +135,14 @@ fn other_points(
         us[k] = p.u;
         vs[k] = p.v;
     }
+}
+
+// How many of the pixels that are left of a row make the next span.
+pub fn next_span(left: u64) -> usize
+    requires { ⌜ 0 < left ⌝ }
+    ensures { λ r. ⌜ (0 < r) × ((r ≤ left) × (r ≤ 64)) ⌝ }
+{
+    if left < 64 { left as usize } else { 64 }
 }
 
 // The first n of us and vs: the pixels from column `first` of row j on, of the frame's window.

@@ -1,12 +1,13 @@
 // Source points in bytes, whole rows of a window by one fit and worked as the call works them, in spans: so that
 // what is measured is what the product does. Assumes nothing.
 ghost use mathlib.Core.Path.{_≡_};
-ghost use Prim.Native.Nat.{_+_, _*_, _≤_, _<_};
+ghost use Prim.Native.Nat.{_+_, _*_, _≤_};
 ghost use lib.IntN.{natAbs};
 ghost use lib.ListN.{length};
 ghost use Rattle.exact.specs.Loop.{upTo};
 ghost use Rattle.probe_points.specs.Rows.{storeKept, storeColumn, storeRow, wrongRows, probeRows};
 use crate::pointed::store_point;
+use fast_points::points::next_span;
 use fast_points::points::points;
 use inverse::frame::Frame;
 use point::usable::point;
@@ -46,14 +47,6 @@ fn store_span(
     store_kept(&us, &vs, first as usize, n, place, out);
 }
 
-// How many of the columns that are left make the next span.
-fn span(left: u64) -> usize
-    requires { ⌜ 0 < left ⌝ }
-    ensures { λ r. ⌜ (0 < r) × ((r ≤ left) × (r ≤ 64)) ⌝ }
-{
-    if left < 64 { left as usize } else { 64 }
-}
-
 // Row j of a window of this width.
 fn store_row(out: &mut [u8], frame: Frame, coef: &[f64; 256], width: u64, j: u64, place: usize)
     requires { ⌜ (width ≤ 4096) × (j ≤ 4096) ⌝ }
@@ -64,7 +57,7 @@ fn store_row(out: &mut [u8], frame: Frame, coef: &[f64; 256], width: u64, j: u64
 {
     let mut i = 0;
     while i < width {
-        let n = span(width - i);
+        let n = next_span(width - i);
         store_span(out, frame, coef, i, j, n, place);
         i = i + n as u64;
     }

@@ -2,7 +2,7 @@
 // bytes are a picture's, that the rows lie within the limits of a window, and that the band is as long as they are.
 ghost use mathlib.Core.Path.{_≡_};
 ghost use mathlib.Core.List.{_++_};
-ghost use Prim.Native.Nat.{_+_, _*_, _≤_, _<_};
+ghost use Prim.Native.Nat.{_+_, _*_, _≤_};
 ghost use lib.IntN.{natAbs};
 ghost use lib.ListN.{length, take, drop};
 ghost use Rattle.picture.specs.Pixel.{Shaped, Channels};
@@ -12,16 +12,9 @@ use band::look::Look;
 use band::rows::Row;
 use band::rows::Rows;
 use band::span::Span;
+use fast_points::points::next_span;
 use inverse::frame::Frame;
 use picture::shape::Shape;
-
-// How many of the pixels that are left make the next span.
-fn next_span(left: u64) -> usize
-    requires { ⌜ 0 < left ⌝ }
-    ensures { λ r. ⌜ (0 < r) × ((r ≤ left) × (r ≤ 64)) ⌝ }
-{
-    if left < 64 { left as usize } else { 64 }
-}
 
 // A row of the output, and its matte pixels.
 fn store_row(

@@ -27,12 +27,12 @@ store-span-requires : tie.Need-store-span-requires Inv-loop μ-loop
 store-span-requires c κs =
     let s = c .before .before .before .before .before in
     let loop = c .before .before .before .loop in
-    let n = c .before .span .ensures in
-    let w : loop .i + c .before .span .result ≤ s .args .width = omega (arith, n .1 .0) in (
+    let n = c .before .next-span .ensures in
+    let w : loop .i + c .before .next-span .result ≤ s .args .width = omega (arith, n .1 .0) in (
       (n .1 .1, (le-trans w (s .pre .0 .0), s .pre .0 .1)),
       (
         search needs,
-        room (s .args .place) (loop .i + c .before .span .result) (s .args .width) _ _ w (s .pre .1 .1)
+        room (s .args .place) (loop .i + c .before .next-span .result) (s .args .width) _ _ w (s .pre .1 .1)
             (loop .inv .1 .0),
       ),
     )

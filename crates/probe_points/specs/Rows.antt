@@ -13,6 +13,7 @@ use Rattle.exact.specs.Vector.{Vector, at}
 use Rattle.mappings.specs.declared.mapping.Fitted.{Fitted}
 use Rattle.mappings.specs.declared.mapping.Mapping.{Mapping}
 use Rattle.point.specs.Point.{point}
+use Rattle.inverse.specs.Frame.{frameOf}
 use Rattle.inverse.specs.Inverse.{inverse}
 use Rattle.inverse.specs.declared.frame.Frame.{Frame}
 use Rattle.window.specs.Extent.{goodOffset}
@@ -40,12 +41,8 @@ wrongRows width x y first rows out =
     || (not (goodOffset x) || (not (goodOffset y)
     || (ltb 4096 (first + rows) || not (eqb out (rows * width * 24)))))
 
--- the mapping's frame, at the window's offset
-abbrev pub frameAt : Mapping → ℤ → ℤ → Frame
-frameAt m x y = record { kind = m .kind; order = m .order; count = m .count; x = x; y = y }
-
 abbrev pub storeRows : Mapping → ℤ → ℤ → ℕ → ℕ → ℕ → List ℕ → List ℕ
-storeRows m x y width first rows out = upTo (storeRow (frameAt m x y) (m .coef) width first) 0 rows out
+storeRows m x y width first rows out = upTo (storeRow (frameOf m x y) (m .coef) width first) 0 rows out
 
 unfoldable pub rowsOf : Fitted → ℕ → ℤ → ℤ → ℕ → ℕ → List ℕ → ℕ × List ℕ
 rowsOf f width x y first rows out =

@@ -10,6 +10,7 @@ use crate::pointed::store_point;
 use fast_points::points::next_span;
 use fast_points::points::points;
 use inverse::frame::Frame;
+use inverse::frame::frame_of;
 use point::usable::point;
 use probe_fit::sized::sized_fit;
 use window::extent::good_offset;
@@ -120,13 +121,7 @@ pub extern "C" fn probe_rows(
     }
     let mapping = fitted.mapping;
     let coef = mapping.coef;
-    let frame = Frame {
-        kind: mapping.kind,
-        order: mapping.order,
-        count: mapping.count,
-        x,
-        y,
-    };
+    let frame = frame_of(mapping, x, y);
     store_rows(out, frame, &coef, width, first, rows);
     0
 }

@@ -35,13 +35,15 @@ returns-2 c =
     )
 
 store-rows-requires : tie.Need-store-rows-requires
-store-rows-requires c κs = right _ _ _ _ _ _ (sym (c .before .before .before .before .before .wrong-rows .ensures)
-    ∙ c .before .before .before .before .if2 .left)
+store-rows-requires c κs =
+    rw (c .before .before .frame-of .ensures)
+    (right _ _ _ _ _ _ (sym (c .before .before .before .before .before .before .wrong-rows .ensures)
+    ∙ c .before .before .before .before .before .if2 .left))
 
 returns-3 : tie.Need-returns-3
 unfolding probeRows rowsOf
 returns-3 c =
-    let d = c .before .before .before .before .before .before .before in
+    let d = c .before .before .before .before .before .before .before .before in
     let s = d .before .before .before .before .before .before in
     let a = s .args in
     rw (
@@ -50,11 +52,13 @@ returns-3 c =
       read (a .width) (a .first) (a .rows) _ _ _ (d .before .wrong-rows .ensures) (toZ-ofZ w64 (a .x) (s .fits .x))
           (toZ-ofZ w64 (a .y) (s .fits .y)) (d .if2 .left),
       c .before .before .store-rows .ensures,
+      c .before .before .before .before .before .frame-of .ensures,
       toZ-ofZ w64 (a .x) (s .fits .x),
       toZ-ofZ w64 (a .y) (s .fits .y),
     )
 
 pub probe-rows-spec : {M : Type 1} → statement M
 probe-rows-spec = tie.close
-    (tie.spec (λ c κs. search needs) returns (λ c κs. search needs) returns-2 store-rows-requires (λ c. search needs)
+    (tie.spec (λ c κs. search needs) returns (λ c κs. search needs) returns-2 (λ c κs. search needs)
+    store-rows-requires (λ c. search needs)
     returns-3)

@@ -5,7 +5,7 @@
 ghost use mathlib.Core.Path.{_≡_};
 ghost use mathlib.Core.Bool.{true};
 ghost use mathlib.Core.List.{_++_};
-ghost use Prim.Native.Nat.{ℕ, _+_, _-_, _*_, _≤_, _<_};
+ghost use Prim.Native.Nat.{ℕ, _+_, _*_, _≤_, _<_};
 ghost use lib.ListN.{length, take, drop, getD};
 ghost use Rattle.exact.specs.Vector as Vectors;
 ghost use Rattle.picture.specs.Pixel.{Picture, Shaped, Channels};
@@ -22,6 +22,7 @@ use picture::colour::Rgba;
 use picture::colour::grey;
 use picture::pixel::widened;
 use picture::shape::Shape;
+use picture::shape::side_less;
 use picture::store::store_four;
 use picture::store::store_number_pixel;
 use sampler::fast_two_by_two::mixed;
@@ -183,24 +184,13 @@ fn store_broad(
     );
 }
 
-// The column from which on a cell has no pixel to its right.
-fn edge(width: u64) -> u32
-    requires { ⌜ width ≤ 4096 ⌝ }
-    ensures { λ r. ⌜ r ≡ width - 2 ⌝ }
-{
-    if width < 2 {
-        return 0;
-    }
-    (width - 2) as u32
-}
-
-// Whether each of the first n cells has one.
+// Whether each of the first n cells has a pixel to its right, as those before column `last` have.
 fn beside(columns: &[u32; 64], n: usize, width: u64) -> bool
     requires { ⌜ n ≤ 64 ⌝ }
     requires { ⌜ width ≤ 4096 ⌝ }
     ensures { λ r. ⌜ (r ≡ true → (k : ℕ) → k < n → getD (now (columns .entry)) k 0 + 2 < width) ⌝ }
 {
-    let last = edge(width);
+    let last = side_less(width, 2) as u32;
     let mut good = true;
     for k in 0..n {
         good = good & (columns[k] < last);

@@ -3,7 +3,7 @@
 ghost use mathlib.Core.Path.{_≡_};
 ghost use mathlib.Core.Bool.{true, false};
 ghost use mathlib.Core.List.{[], _∷_, _++_};
-ghost use Prim.Native.Nat.{ℕ, _+_, _-_, _*_, _≤_, _<_};
+ghost use Prim.Native.Nat.{ℕ, _+_, _*_, _≤_, _<_};
 ghost use lib.ListN.{length, take, drop, getD};
 ghost use Rattle.picture.specs.Pixel.{Picture, Shaped, Channels};
 ghost use Rattle.taps.specs.Interpolation.{Cubic};
@@ -19,6 +19,7 @@ use fast_cells::reach::Reach;
 use fast_colours::plain::wide;
 use picture::colour::Rgba;
 use picture::shape::Shape;
+use picture::shape::side_less;
 use picture::store::store_pixel;
 use sampler::fast_four_by_four::four_by_four;
 
@@ -114,17 +115,8 @@ fn store_four_by_fours(
     }
 }
 
-// A side less two, where the last cell with two taps after it stands before.
-fn inner(n: u64) -> u64
-    ensures { λ r. ⌜ r ≡ n - 2 ⌝ }
-{
-    if n < 2 {
-        return 0;
-    }
-    n - 2
-}
-
-// The cells and fractions of n points, if the answer is true: it is where all their squares lie inside.
+// The cells and fractions of n points, if the answer is true: it is where all their squares lie inside. A cell with two
+// taps after it stands before the side less two.
 fn cells_within(
     us: &[f64; 64],
     vs: &[f64; 64],
@@ -142,8 +134,8 @@ fn cells_within(
         (now (columns .exit)) (now (rows .exit)) (now (xs .exit)) (now (ys .exit))) ⌝ }
 {
     let reach = Reach {
-        wide: inner(shape.width),
-        high: inner(shape.height),
+        wide: side_less(shape.width, 2),
+        high: side_less(shape.height, 2),
     };
     if cells(us, vs, n, reach, columns, rows, xs, ys) {
         return past(columns, n) & past(rows, n);

@@ -2,7 +2,6 @@
 // no policy is asked. Assumes that the bytes are a picture's, and the point's coordinates at most 2^30 + 1 in
 // magnitude.
 ghost use mathlib.Core.Path.{_≡_};
-ghost use Prim.Native.Nat.{_-_};
 ghost use Rattle.picture.specs.Pixel.{Picture};
 ghost use Rattle.taps.specs.Cell.{Reached};
 ghost use Rattle.taps.specs.Interpolation.{Cubic};
@@ -14,6 +13,7 @@ use cubic::cubic::catrom;
 use cubic::cubic::spline;
 use endian::pattern::bits_of_i64;
 use picture::colour::Rgba;
+use picture::shape::side_less;
 use taps::cell::before;
 use taps::cell::below;
 use taps::cell::fraction;
@@ -29,16 +29,7 @@ fn kernel(code: u64, t: f32) -> [f32; 4]
     spline(t)
 }
 
-// A side less three, where a square of four starts last.
-fn starts(n: u64) -> u64
-    ensures { λ r. ⌜ r ≡ n - 3 ⌝ }
-{
-    if n < 3 {
-        return 0;
-    }
-    n - 3
-}
-
+// A square of four that lies inside starts before the side less three.
 pub fn cubic(
     picture: &[u8],
     width: u64,
@@ -58,7 +49,7 @@ pub fn cubic(
 {
     let i = bits_of_i64(before(below(x)));
     let j = bits_of_i64(before(below(y)));
-    if i < starts(width) && j < starts(height) {
+    if i < side_less(width, 3) && j < side_less(height, 3) {
         let wx = kernel(code, fraction(x));
         let wy = kernel(code, fraction(y));
         return four_by_four(picture, width, height, channels, i, j, &wx, &wy);

@@ -41,8 +41,8 @@ before : {i w l : ℕ} → l ≡ w - 2 → i < l → i + 2 < w
 before e h = omega arith
 
 returns : tie.Need-returns Inv-loop μ-loop
-returns c = λ e k h. before (c .before .before .edge .ensures) (c .before .loop .inv .0 e k (omega (arith, h)))
+returns c = λ e k h. before (c .before .before .side-less .ensures) (c .before .loop .inv .0 e k (omega (arith, h)))
 
 pub beside-spec : {M : Type 1} → statement M
-beside-spec = tie.close (tie.spec Inv-loop μ-loop (λ c κs. search needs) loop-holds (λ c. search needs)
-    (λ c. search needs) (λ c. search needs) (λ c. search needs) loop-again returns)
+beside-spec = tie.close (tie.spec Inv-loop μ-loop (λ c κs. search needs) (λ c. search needs) loop-holds
+    (λ c. search needs) (λ c. search needs) (λ c. search needs) (λ c. search needs) loop-again returns)

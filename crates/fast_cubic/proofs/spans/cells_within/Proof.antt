@@ -11,8 +11,8 @@ returns c =
     let C = c .before .before .before .before .before .cells .ensures .0
     (c .before .before .before .before .if1 .taken) in
     standing (c .before .before .before .before .before .before .before .before .before .before
-    .before .inner .ensures)
-    (c .before .before .before .before .before .before .before .before .before .before .inner2 .ensures) (C .0)
+    .before .side-less .ensures)
+    (c .before .before .before .before .before .before .before .before .before .before .side-less2 .ensures) (C .0)
     (C .1) (c .before .before .past .ensures) (c .past2 .ensures)
 
 returns-2 : tie.Need-returns-2

@@ -56,11 +56,11 @@ before-requires-2 c κs =
 bits-of-i64-requires-2 : tie.Need-bits-of-i64-requires-2
 bits-of-i64-requires-2 c κs = search needs
 
-starts-requires : tie.Need-starts-requires
-starts-requires c κs = search needs
+side-less-requires : tie.Need-side-less-requires
+side-less-requires c κs = search needs
 
-starts-requires-2 : tie.Need-starts-requires-2
-starts-requires-2 c κs = search needs
+side-less-requires-2 : tie.Need-side-less-requires-2
+side-less-requires-2 c κs = search needs
 
 fraction-requires : tie.Need-fraction-requires
 fraction-requires c κs = search needs
@@ -79,9 +79,9 @@ four-by-four-requires c κs = (
   search needs,
   (
     inside _ _ _
-        (c .before .before .before .before .before .before .before .before .before .starts .ensures)
+        (c .before .before .before .before .before .before .before .before .before .side-less .ensures)
         (c .before .before .before .before .before .before .before .before .if1 .taken),
-    inside _ _ _ (c .before .before .before .before .before .before .before .starts2 .ensures)
+    inside _ _ _ (c .before .before .before .before .before .before .before .side-less2 .ensures)
         (ltb-true _ _ (c .before .before .before .before .before .before .if2 .taken)),
   ),
 )
@@ -91,9 +91,9 @@ returns c =
     let a = c .before .before .before .before .before .before .before .before .before .before .before .before .before
     .before .before .before .before .before in
     let hx = inside _ _ _ (c .before .before .before .before .before .before .before .before .before
-    .before .starts .ensures)
+    .before .side-less .ensures)
     (c .before .before .before .before .before .before .before .before .before .if1 .taken) in
-    let hy = inside _ _ _ (c .before .before .before .before .before .before .before .before .starts2 .ensures)
+    let hy = inside _ _ _ (c .before .before .before .before .before .before .before .before .side-less2 .ensures)
     (ltb-true _ _ (c .before .before .before .before .before .before .before .if2 .taken)) in
     cubic-inside _ _ _ _ (a .args .policy) (a .args .background) _ _ (a .args .code) (a .pre .1 .1 .0)
     (a .pre .1 .1 .1) _ _ hx hy
@@ -144,8 +144,8 @@ cubic-spec =
     below-requires-2
     before-requires-2
     bits-of-i64-requires-2
-    starts-requires
-    starts-requires-2
+    side-less-requires
+    side-less-requires-2
     fraction-requires
     kernel-requires
     fraction-requires-2

@@ -17,7 +17,15 @@ use Rattle.exact.specs.Double.{_⊕_, _⊖_}
 use Rattle.exact.specs.Warp.{half}
 use Rattle.number.specs.Floor.{floorℤ}
 use Rattle.number.proofs.FloorLaws.{floor-integer}
-use Rattle.taps.specs.Interpolation.{Interpolation, Integer, Nearest, interpolation}
+use Rattle.taps.specs.Interpolation.{
+  Interpolation,
+  Integer,
+  Nearest,
+  interpolation,
+  integerCode,
+  nearestCode,
+  Single,
+}
 use Rattle.taps.proofs.CellFloor.{usable-reached}
 use Rattle.fast_cells.specs.Cells.{Place, Places}
 use Rattle.fast_cells.specs.Inner.{nought, inner, nearby}
@@ -83,13 +91,13 @@ module _ (i : Interpolation) (reach : ℕ) where
   place-last k n good a s h = record { place = λ j g. s .done h .place j (omega arith) }
 
 -- ---- by the code
-pub is-integer : {code : ℕ} → code ≡ 0 → interpolation code ≡ Integer
+pub is-integer : {code : ℕ} → code ≡ integerCode → interpolation code ≡ Integer
 unfolding interpolation
 is-integer e = rw e
 
-pub is-nearest : (code : ℕ) → code < 2 → code ≢ 0 → interpolation code ≡ Nearest
+pub is-nearest : (code : ℕ) → Single code → code ≢ integerCode → interpolation code ≡ Nearest
 unfolding interpolation
 is-nearest code l z = rw (only code l z)
   where
-    only : (code : ℕ) → code < 2 → code ≢ 0 → code ≡ 1
+    only : (code : ℕ) → Single code → code ≢ integerCode → code ≡ nearestCode
     only code l z = omega arith

@@ -26,7 +26,7 @@ use Rattle.number.specs.Magnitude.{within}
 use Rattle.picture.specs.Pixel.{Picture, pixelAt}
 use Rattle.picture.specs.declared.colour.Rgba.{Rgba}
 use Rattle.point.specs.Point.{limit, usable}
-use Rattle.taps.specs.Interpolation.{interpolation}
+use Rattle.taps.specs.Interpolation.{interpolation, bilinearCode, Single}
 use Rattle.taps.proofs.CellFloor.{cell-law}
 use Rattle.fast_cells.specs.Cells.{Cell, Cells, Place, Places}
 use Rattle.sampler.specs.TwoByTwo.{Weighed, blend}
@@ -150,7 +150,7 @@ cell-colour : (bytes : List ℕ) (w h n policy : ℕ) (background matte : Rgba) 
     ≡ keptColour (record {
       image = record { bytes = bytes; width = w; height = h; channels = n };
       policy = policy;
-      interpolation = 5;
+      interpolation = bilinearCode;
       background = background;
       matte = matte;
     }) u v
@@ -205,7 +205,7 @@ module _ (w h : ℕ) {n : ℕ} {us vs : List Float} {columns rows : List ℕ} {x
       (keptColour (record {
         image = record { bytes = bytes; width = w; height = h; channels = channels };
         policy = policy;
-        interpolation = 5;
+        interpolation = bilinearCode;
         background = background;
         matte = matte;
       }) (at us k) (at vs k))) n
@@ -216,7 +216,7 @@ module _ (w h : ℕ) {n : ℕ} {us vs : List Float} {columns rows : List ℕ} {x
       (keptColour (record {
         image = record { bytes = bytes; width = w; height = h; channels = channels };
         policy = policy;
-        interpolation = 5;
+        interpolation = bilinearCode;
         background = background;
         matte = matte;
       }) (at us k) (at vs k))) n
@@ -224,7 +224,7 @@ module _ (w h : ℕ) {n : ℕ} {us vs : List Float} {columns rows : List ℕ} {x
       (cell-colour bytes w h channels policy background matte (C .cell k l) (D .cell k l)))
 
 -- ---- one tap
-place-colour : (bytes : List ℕ) (w h channels policy : ℕ) (background matte : Rgba) (code : ℕ) → code < 2
+place-colour : (bytes : List ℕ) (w h channels policy : ℕ) (background matte : Rgba) (code : ℕ) → Single code
     → {u v : Float} {i j : ℕ} → Place (interpolation code) w u i → Place (interpolation code) h v j
     → pixelAt bytes w channels i j
     ≡ keptColour (record {
@@ -248,7 +248,7 @@ module _ (code : ℕ) {w h n : ℕ} {us vs : List Float} {columns rows : List �
   pub places-mattes : 0 ≡ totalled (λ (k : ℕ). keptMatte (at us k) (at vs k)) n
   places-mattes = no-mattes n us vs (λ k l. no-matte (at us k) (at vs k) (C .place k l .usable) (D .place k l .usable))
 
-  pub places-colours : (bytes : List ℕ) (channels policy : ℕ) (background matte : Rgba) → code < 2
+  pub places-colours : (bytes : List ℕ) (channels policy : ℕ) (background matte : Rgba) → Single code
       → joined (λ (k : ℕ). pixelBytes channels (pixelAt bytes w channels (getD columns k 0) (getD rows k 0))) n
       ≡ joined (λ (k : ℕ). pixelBytes channels
       (keptColour (record {

@@ -17,6 +17,7 @@ use Rattle.exact.specs.Double.{_⊖_}
 use Rattle.exact.specs.Warp.{half}
 use Rattle.exact.specs.Vector.{at}
 use Rattle.picture.specs.declared.colour.Rgba.{Rgba}
+use Rattle.taps.specs.Interpolation.{Cubic}
 use Rattle.fast_cells.specs.Cells.{Cell, Cells}
 use Rattle.sampler.specs.Sixteen.{kernel}
 use Rattle.sampler.proofs.SixteenCode.{cubic-inside}
@@ -52,7 +53,7 @@ one-back (suc n) h = -ℤ-one (pos (suc n)) ∙ ap pos (go n)
 two-on : (c n : ℕ) → 0 < c → c < n - 2 → c - 1 + 3 < n
 two-on c n h l = omega arith
 
-square-colour : (bytes : List ℕ) (w h n policy : ℕ) (background matte : Rgba) (code : ℕ) → 6 ≤ code → code < 8
+square-colour : (bytes : List ℕ) (w h n policy : ℕ) (background matte : Rgba) (code : ℕ) → Cubic code
     → {u v tx ty : Float} {i j : ℕ} {wx wy : List Float}
     → Cell (w - 2) u i tx → Cell (h - 2) v j ty → 0 < i → 0 < j → wx ≡ kernel code tx → wy ≡ kernel code ty
     → fourByFour bytes w n i j wx wy
@@ -64,9 +65,9 @@ square-colour : (bytes : List ℕ) (w h n policy : ℕ) (background matte : Rgba
       matte = matte;
     }) u v
 unfolding shown fourByFour
-square-colour bytes w h n policy background matte code least most {u} {v} {tx} {ty} {i} {j} C D hi hj kx ky =
+square-colour bytes w h n policy background matte code cubic {u} {v} {tx} {ty} {i} {j} C D hi hj kx ky =
     rw (marked u v (C .usable) (D .usable))
-    (cubic-inside bytes w h n policy background (u ⊖ half) (v ⊖ half) code least most (i - 1) (j - 1)
+    (cubic-inside bytes w h n policy background (u ⊖ half) (v ⊖ half) code cubic (i - 1) (j - 1)
     (two-on i w hi (C .below)) (two-on j h hj (D .below))
     (sym (ap (λ (z : ℤ). z -ℤ pos 1) (C .floor) ∙ one-back i hi))
     (sym (ap (λ (z : ℤ). z -ℤ pos 1) (D .floor) ∙ one-back j hj)) (C .fraction) (D .fraction) kx ky refl)
@@ -90,8 +91,7 @@ module _ {w h n : ℕ} {us vs : List Float} {columns rows : List ℕ} {xs ys : L
       (λ k l. no-matte (at us k) (at vs k) (S .across .cell k l .usable) (S .down .cell k l .usable))
 
   pub cubic-colours : {wx wy : List (List Float)} (code : ℕ) → Kernels code n xs wx
-      → Kernels code n ys wy → (bytes : List ℕ) (channels policy : ℕ) (background matte : Rgba) → 6 ≤ code
-      → code < 8
+      → Kernels code n ys wy → (bytes : List ℕ) (channels policy : ℕ) (background matte : Rgba) → Cubic code
       → joined (λ (k : ℕ). pixelBytes channels
       (fourByFour bytes w channels (getD columns k 0) (getD rows k 0) (ofFour wx k)
       (ofFour wy k))) n
@@ -103,7 +103,7 @@ module _ {w h n : ℕ} {us vs : List Float} {columns rows : List ℕ} {xs ys : L
         background = background;
         matte = matte;
       }) (at us k) (at vs k))) n
-  cubic-colours {wx} {wy} code X Y bytes channels policy background matte least most =
+  cubic-colours {wx} {wy} code X Y bytes channels policy background matte cubic =
       joined-same (λ (k : ℕ). pixelBytes channels
       (fourByFour bytes w channels (getD columns k 0) (getD rows k 0) (ofFour wx k)
       (ofFour wy k)))
@@ -116,7 +116,7 @@ module _ {w h n : ℕ} {us vs : List Float} {columns rows : List ℕ} {xs ys : L
         matte = matte;
       }) (at us k) (at vs k))) n
       (λ k l. ap (pixelBytes channels)
-      (square-colour bytes w h channels policy background matte code least most (S .across .cell k l)
+      (square-colour bytes w h channels policy background matte code cubic (S .across .cell k l)
       (S .down .cell k l) (S .left .past k l) (S .above .past k l) (X .weights k l) (Y .weights k l)))
 
 -- both answers

@@ -17,6 +17,7 @@ use lib.Ieee.{Float, nan}
 use Rattle.exact.specs.Vector.{at}
 use Rattle.cubic.specs.Cubic as Cubic
 use Rattle.cubic.specs.Cubic.{cubicWeights}
+use Rattle.taps.specs.Interpolation.{catromCode}
 use Rattle.sampler.specs.Sixteen.{kernel}
 use Rattle.fast_colours.specs.Plain.{Sized}
 use Rattle.fast_colours.proofs.PlainLaws.{put}
@@ -97,13 +98,13 @@ module _ {b c : Float} {ts : List Float} where
 
 -- ---- by the code
 module _ {code n : ℕ} {ts : List Float} {w : List (List Float)} where
-  pub kernel-catrom : code ≡ 6 → Weighed4 Cubic.zero Cubic.half n ts w → Kernels code n ts w
+  pub kernel-catrom : code ≡ catromCode → Weighed4 Cubic.zero Cubic.half n ts w → Kernels code n ts w
   unfolding kernel
   kernel-catrom e W = record { weights = λ k l. W .weights k l ∙ rw e }
 
-  pub kernel-spline : (code ≡ 6 → ⊥) → Weighed4 Cubic.one Cubic.zero n ts w → Kernels code n ts w
+  pub kernel-spline : (code ≡ catromCode → ⊥) → Weighed4 Cubic.one Cubic.zero n ts w → Kernels code n ts w
   unfolding kernel
-  kernel-spline e W = record { weights = λ k l. W .weights k l ∙ rw (ne-eqb code 6 e) }
+  kernel-spline e W = record { weights = λ k l. W .weights k l ∙ rw (ne-eqb code catromCode e) }
 
 -- ---- both answers
 pub both-true : {A B : Type 0} (a b : Bool) → (a ≡ true → A) → (b ≡ true → B) → a && b ≡ true → A × B

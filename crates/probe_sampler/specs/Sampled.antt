@@ -10,6 +10,7 @@ use Rattle.number.specs.Magnitude.{within}
 use Rattle.probe_number.specs.Size.{wrongSize}
 unfoldable pub use Rattle.sample_limit.specs.Samples.{large}
 use Rattle.taps.specs.Cell.{reach}
+use Rattle.taps.specs.Interpolation.{backgroundCode}
 use Rattle.sampler.specs.Interpolate.{interpolate}
 use Rattle.picture.specs.Pixel.{pixelAt}
 use Rattle.picture.specs.Store.{storePixel}
@@ -31,7 +32,7 @@ wrongPicture bytes s =
     || (wrongChannels (s .channels) || not (eqb (length bytes) (samples s * 4))))
 
 unfoldable pub wrongCodes : ℕ → ℕ → Bool
-wrongCodes policy code = ltb 13 policy || ltb 8 code
+wrongCodes policy code = ltb 13 policy || ltb backgroundCode code
 
 -- a coordinate, by its bits, that is not a number or above 2^30 + 1 in magnitude
 unfoldable pub beyond : ℕ → Bool

@@ -8,6 +8,7 @@ use lib.ListN.{getD}
 use lib.Ieee.{Float, nan, binary32, ofBits, le}
 use Rattle.endian.specs.Bytes.{storeF32}
 use Rattle.cubic.specs.Cubic.{zero, half, one, cubicWeights}
+use Rattle.taps.specs.Interpolation.{catromCode, splineCode}
 
 -- w[k], of four
 abbrev pub at : List Float → ℕ → Float
@@ -20,9 +21,9 @@ storeWeights out w = storeF32 (storeF32 (storeF32 (storeF32 out 0 (at w 0)) 4 (a
 unfoldable pub noFraction : Float → Bool
 noFraction t = not (le zero t) || not (le t one)
 
--- 6 is `Catrom`, 7 is `Spline`
+-- by the code of `Catrom` or of `Spline`
 unfoldable pub probeCubic : ℕ → ℕ → List ℕ → ℕ × List ℕ
 probeCubic code t out =
     cond (noFraction (ofBits binary32 t)) (1, out)
-    (cond (eqb code 6) (0, storeWeights out (cubicWeights (ofBits binary32 t) zero half))
-    (cond (eqb code 7) (0, storeWeights out (cubicWeights (ofBits binary32 t) one zero)) (1, out)))
+    (cond (eqb code catromCode) (0, storeWeights out (cubicWeights (ofBits binary32 t) zero half))
+    (cond (eqb code splineCode) (0, storeWeights out (cubicWeights (ofBits binary32 t) one zero)) (1, out)))

@@ -19,7 +19,7 @@ use Rattle.picture.specs.At.{at}
 use Rattle.taps.specs.Cell.{Reached, fraction, cell}
 use Rattle.picture.specs.Colour.{one}
 use Rattle.sampler.specs.Interpolate.{several, interpolate}
-use Rattle.taps.specs.Interpolation.{Bilinear, interpolation}
+use Rattle.taps.specs.Interpolation.{Bilinear, interpolation, bilinearCode}
 use Rattle.sampler.specs.Opaque.{OpaquePlace, Exact, UnitExact, NearExact, NearSample}
 use Rattle.taps.specs.Taps.{Plane, tap, taps}
 use Rattle.taps.specs.Weighted.{mean, weighted, Opaque}
@@ -99,8 +99,8 @@ module _ (bytes : List ℕ) (w h channels code : ℕ) (background : Rgba)
         warp-demand Q unit e u v (fraction (u ⊖ half)) (fraction (v ⊖ half)) U V' (floorI64 (u ⊖ half))
         (floorI64 (v ⊖ half)) cu cv px py (λ (i j : ℤ). part (plane i j)) close
 
-    pub sampled-near : NearSample (interpolate bytes w h channels code 5 background (u ⊖ half) (v ⊖ half)) q (U
-        -F frac 1 2) (V' -F frac 1 2) (e +F frac 1 524288)
+    pub sampled-near : NearSample (interpolate bytes w h channels code bilinearCode background (u ⊖ half) (v ⊖ half)) q
+        (U -F frac 1 2) (V' -F frac 1 2) (e +F frac 1 524288)
     unfolding interpolate interpolation
     sampled-near =
         subst (λ (m : Rgba). NearSample m q (U -F frac 1 2) (V' -F frac 1 2) (e +F frac 1 524288))

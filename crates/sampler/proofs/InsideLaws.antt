@@ -11,7 +11,7 @@ use Rattle.picture.specs.Pixel.{pixelAt}
 use Rattle.picture.specs.declared.colour.Rgba.{Rgba}
 use Rattle.picture.proofs.AtLaws.{at-inside}
 use Rattle.taps.specs.Cell.{cell, first, fraction}
-use Rattle.taps.specs.Interpolation.{interpolation, Bilinear}
+use Rattle.taps.specs.Interpolation.{interpolation, Bilinear, bilinearCode, Single}
 use Rattle.taps.specs.Taps.{taps}
 use Rattle.taps.specs.Weighted.{weighted}
 use Rattle.taps.specs.Weights.{fourWeights, weights}
@@ -23,7 +23,7 @@ module _ (bytes : List ℕ) (w h channels policy : ℕ) (background : Rgba) (x y
   abbrev plane : ℤ → ℤ → Rgba
   plane = at bytes w h channels policy background
 
-  module _ (code : ℕ) (small : code < 2) where
+  module _ (code : ℕ) (small : Single code) where
     single-anywhere : {r : Rgba} {column row : ℤ} → column ≡ first (interpolation code) x
         → row ≡ first (interpolation code) y → r ≡ plane column row
         → r ≡ interpolate bytes w h channels policy code background x y
@@ -39,7 +39,7 @@ module _ (bytes : List ℕ) (w h channels policy : ℕ) (background : Rgba) (x y
   bilinear-anywhere : {r : Rgba} {column row : ℤ} {tx ty : Float} → column ≡ floorI64 x → row ≡ floorI64 y
       → tx ≡ fraction x → ty ≡ fraction y
       → r ≡ weighted (taps plane (record { column = column; row = row }) 2) (weights Bilinear tx ty) 4
-      → r ≡ interpolate bytes w h channels policy 5 background x y
+      → r ≡ interpolate bytes w h channels policy bilinearCode background x y
   unfolding interpolate interpolation
   bilinear-anywhere ex ey fx fy e = e
       ∙ (λ t. weighted (taps plane (record { column = ex t; row = ey t }) 2) (weights Bilinear (fx t) (fy t)) 4)
@@ -48,6 +48,6 @@ module _ (bytes : List ℕ) (w h channels policy : ℕ) (background : Rgba) (x y
       → pos j ≡ floorI64 y → tx ≡ fraction x → ty ≡ fraction y
       → r ≡ weighted (pixelAt bytes w channels i j ∷ pixelAt bytes w channels (i + 1) j
       ∷ pixelAt bytes w channels i (j + 1) ∷ pixelAt bytes w channels (i + 1) (j + 1) ∷ []) (fourWeights tx ty) 4
-      → r ≡ interpolate bytes w h channels policy 5 background x y
+      → r ≡ interpolate bytes w h channels policy bilinearCode background x y
   bilinear-inside {r} {tx} {ty} i j hi hj ex ey fx fy e =
       bilinear-anywhere ex ey fx fy (e ∙ inside-taps bytes w h channels policy background i j hi hj tx ty)

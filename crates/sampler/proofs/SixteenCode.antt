@@ -13,7 +13,7 @@ use Rattle.picture.specs.Pixel.{pixelAt}
 use Rattle.picture.specs.declared.colour.Rgba.{Rgba}
 use Rattle.picture.proofs.AtLaws.{at-inside}
 use Rattle.taps.specs.Cell.{fraction}
-use Rattle.taps.specs.Interpolation.{interpolation}
+use Rattle.taps.specs.Interpolation.{interpolation, Cubic}
 use Rattle.taps.specs.Taps.{Plane, taps}
 use Rattle.taps.specs.Weighted.{weighted}
 use Rattle.taps.specs.Weights.{products}
@@ -25,19 +25,19 @@ use Rattle.sampler.proofs.InterpolateCode.{several-code}
 
 -- ---- the answers
 -- what both kernels are
-cubic-code : (plane : Plane) (background : Rgba) (x y : Float) (code : ℕ) → 6 ≤ code → code < 8
+cubic-code : (plane : Plane) (background : Rgba) (x y : Float) (code : ℕ) → Cubic code
     → interpolated (interpolation code) plane background x y
     ≡ weighted (taps plane (record { column = floorI64 x -ℤ pos 1; row = floorI64 y -ℤ pos 1 }) 4)
     (products (kernel code (fraction x)) (kernel code (fraction y))) 16
 unfolding interpolation kernel
 cubic-code plane background x y =
     each-code
-    (λ n. 6 ≤ n → n < 8 → interpolated (interpolation n) plane background x y ≡ weighted
+    (λ n. Cubic n → interpolated (interpolation n) plane background x y ≡ weighted
     (taps plane (record { column = floorI64 x -ℤ pos 1; row = floorI64 y -ℤ pos 1 }) 4)
     (products (kernel n (fraction x)) (kernel n (fraction y))) 16)
-    (λ g h. absurd (omega arith)) (λ g h. absurd (omega arith)) (λ g h. absurd (omega arith))
-    (λ g h. absurd (omega arith)) (λ g h. absurd (omega arith)) (λ g h. absurd (omega arith))
-    (λ g h. refl) (λ g h. refl) (λ g h. absurd (omega arith)) (λ n g h. absurd (omega arith))
+    (λ g. absurd (omega arith)) (λ g. absurd (omega arith)) (λ g. absurd (omega arith))
+    (λ g. absurd (omega arith)) (λ g. absurd (omega arith)) (λ g. absurd (omega arith))
+    (λ g. refl) (λ g. refl) (λ g. absurd (omega arith)) (λ n g. absurd (omega arith))
 
 module _ (bytes : List ℕ) (w h n policy : ℕ) (background : Rgba) where
   abbrev plane : Plane
@@ -61,7 +61,7 @@ module _ (bytes : List ℕ) (w h n policy : ℕ) (background : Rgba) where
       same : (a b : ℕ) → a ≤ 3 → b ≤ 3 → pixelAt bytes w n (i + a) (j + b) ≡ plane (pos (i + a)) (pos (j + b))
       same a b ha hb = sym (at-inside bytes w h n policy background (i + a) (j + b) (omega arith) (omega arith))
 
-  module _ (x y : Float) (code : ℕ) (least : 6 ≤ code) (most : code < 8) where
+  module _ (x y : Float) (code : ℕ) (cubic : Cubic code) where
     pub cubic-inside : {r : Rgba} {tx ty : Float} {wx wy : List Float} (i j : ℕ) → i + 3 < w → j + 3 < h
         → pos i ≡ floorI64 x -ℤ pos 1 → pos j ≡ floorI64 y -ℤ pos 1
         → tx ≡ fraction x → ty ≡ fraction y → wx ≡ kernel code tx → wy ≡ kernel code ty
@@ -73,9 +73,9 @@ module _ (bytes : List ℕ) (w h n policy : ℕ) (background : Rgba) where
         ∙ (λ t. weighted (own-taps i j hi hj t) (products (kx t) (ky t)) 16)
         ∙ (λ t. weighted (taps plane (record { column = ex t; row = ey t }) 4)
         (products (kernel code (fx t)) (kernel code (fy t))) 16)
-        ∙ sym (cubic-code plane background x y code least most)
+        ∙ sym (cubic-code plane background x y code cubic)
 
     pub cubic-anywhere : {r : Rgba} → r ≡ several (interpolation code) plane x y
         → r ≡ interpolate bytes w h n policy code background x y
     unfolding interpolate
-    cubic-anywhere e = e ∙ sym (several-code plane background x y code (omega arith) most)
+    cubic-anywhere e = e ∙ sym (several-code plane background x y code (omega arith) (cubic .1))

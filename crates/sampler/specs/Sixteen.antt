@@ -5,7 +5,8 @@ use mathlib.Core.List.{List}
 use lib.Dec.{eqb}
 use lib.Ieee.{Float}
 use Rattle.cubic.specs.Cubic.{catrom, spline}
+use Rattle.taps.specs.Interpolation.{catromCode}
 
--- by the interpolation's code: 6 is `Catrom`, 7 is `Spline`
+-- by the interpolation's code, one of the two
 unfoldable pub kernel : ℕ → Float → List Float
-kernel code t = cond (eqb code 6) (catrom t) (spline t)
+kernel code t = cond (eqb code catromCode) (catrom t) (spline t)

@@ -2,16 +2,18 @@
 use mathlib.Core.Path.{_≡_, refl}
 use Prim.Native.Nat.{ℕ}
 use lib.Ieee.{Float}
-use Rattle.taps.specs.Interpolation.{interpolation}
+use Rattle.taps.specs.Interpolation.{interpolation, bilinearCode, catromCode, splineCode}
 use Rattle.taps.specs.Weights.{alike, weights}
 use Rattle.taps.proofs.InterpolationCode.{each-code}
 
 -- one whose taps all weigh the same
-pub weights-alike : (tx ty : Float) (code : ℕ) → (((Unit {0} × (code ≡ 5 → ⊥)) × (code ≡ 6 → ⊥)) × (code ≡ 7 → ⊥))
+pub weights-alike : (tx ty : Float) (code : ℕ)
+    → (((Unit {0} × (code ≡ bilinearCode → ⊥)) × (code ≡ catromCode → ⊥)) × (code ≡ splineCode → ⊥))
     → weights (interpolation code) tx ty ≡ alike
 unfolding interpolation
 weights-alike tx ty =
     each-code
-    (λ n. (((Unit {0} × (n ≡ 5 → ⊥)) × (n ≡ 6 → ⊥)) × (n ≡ 7 → ⊥)) → weights (interpolation n) tx ty ≡ alike)
+    (λ n. (((Unit {0} × (n ≡ bilinearCode → ⊥)) × (n ≡ catromCode → ⊥)) × (n ≡ splineCode → ⊥))
+    → weights (interpolation n) tx ty ≡ alike)
     (λ h. refl) (λ h. refl) (λ h. refl) (λ h. refl) (λ h. refl) (λ h. absurd (h .0 .0 .1 refl))
     (λ h. absurd (h .0 .1 refl)) (λ h. absurd (h .1 refl)) (λ h. refl) (λ n h. refl)

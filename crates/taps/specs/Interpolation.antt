@@ -13,14 +13,38 @@ interpolations = Integer ∷ Nearest ∷ Average ∷ Average9 ∷ Average16 ∷ 
 unfoldable pub interpolation : ℕ → Interpolation
 interpolation code = getD interpolations code Background
 
--- the code is that of `Integer` or `Nearest`, which have one tap
-abbrev pub Single : ℕ → Type 0
-Single code = code < 2
+-- ---- the codes by name
+abbrev pub integerCode : ℕ
+integerCode = 0
 
--- or of `Bilinear`
+abbrev pub nearestCode : ℕ
+nearestCode = 1
+
+abbrev pub averageCode : ℕ
+averageCode = 2
+
+abbrev pub average9Code : ℕ
+average9Code = 3
+
+abbrev pub average16Code : ℕ
+average16Code = 4
+
 abbrev pub bilinearCode : ℕ
 bilinearCode = 5
 
+abbrev pub catromCode : ℕ
+catromCode = 6
+
+abbrev pub splineCode : ℕ
+splineCode = 7
+
+abbrev pub backgroundCode : ℕ
+backgroundCode = 8
+
+-- the code is that of `Integer` or `Nearest`, which have one tap
+abbrev pub Single : ℕ → Type 0
+Single code = code < averageCode
+
 -- or of `Catrom` or `Spline`, which have sixteen with cubic weights
 abbrev pub Cubic : ℕ → Type 0
-Cubic code = (6 ≤ code) × (code < 8)
+Cubic code = (catromCode ≤ code) × (code < backgroundCode)

@@ -42,7 +42,7 @@ returns c =
             ∙ ap (λ (z : List ℕ). take (span .pixel * shape .channels * 4) (now (a .args .band)) ++ z
             ++ drop ((span .pixel + span .n) * shape .channels * 4) (now (a .args .band)))
             (cubic-colours S (a .args .code) (K .0) (K .1) _ (shape .channels) policy background matte
-            (a .pre .1 .1 .0 .0) (a .pre .1 .1 .0 .1)),
+            (a .pre .1 .1 .0)),
       ),
       λ e. absurd (true≢false e),
     )

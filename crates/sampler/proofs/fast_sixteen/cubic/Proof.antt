@@ -95,8 +95,7 @@ returns c =
     (c .before .before .before .before .before .before .before .before .before .if1 .taken) in
     let hy = inside _ _ _ (c .before .before .before .before .before .before .before .before .side-less2 .ensures)
     (ltb-true _ _ (c .before .before .before .before .before .before .before .if2 .taken)) in
-    cubic-inside _ _ _ _ (a .args .policy) (a .args .background) _ _ (a .args .code) (a .pre .1 .1 .0)
-    (a .pre .1 .1 .1) _ _ hx hy
+    cubic-inside _ _ _ _ (a .args .policy) (a .args .background) _ _ (a .args .code) (a .pre .1 .1) _ _ hx hy
     (started (c .before .before .before .before .before .before .before .before .before .before .before .before .before
     .before .before .before2 .result)
     (c .before .before .before .before .before .before .before .before .before .before .before .before .before
@@ -132,7 +131,7 @@ several-requires c κs = search needs
 
 returns-2 : tie.Need-returns-2
 returns-2 c = let a = c .before .before .before .before .before .before .before .before .before .before in
-    cubic-anywhere _ _ _ _ _ _ _ _ (a .args .code) (a .pre .1 .1 .0) (a .pre .1 .1 .1) (c .several .ensures)
+    cubic-anywhere _ _ _ _ _ _ _ _ (a .args .code) (a .pre .1 .1) (c .several .ensures)
 
 pub cubic-spec : {M : Type 1} → statement M
 cubic-spec =

@@ -1,5 +1,6 @@
 -- `sampler::fast_sixteen::kernel` meets its contract: by the test of the code. Assumes nothing.
 use borrow.Author.Tests.{ne-eqb}
+use Rattle.taps.specs.Interpolation.{catromCode}
 use Rattle.sampler.specs.Sixteen.{kernel}
 use mathlib.Core.Path.{_≡_, refl, sym, ap, _∙_}
 use Prim.Native.Nat.{ℕ, _+_, _-_, _≤_, _<_}
@@ -20,7 +21,7 @@ spline-requires c κs = search needs
 
 returns-2 : tie.Need-returns-2
 unfolding kernel
-returns-2 c = rw (ne-eqb _ 6 (c .before .if1 .left)) (c .spline .ensures)
+returns-2 c = rw (ne-eqb _ catromCode (c .before .if1 .left)) (c .spline .ensures)
 
 pub kernel-spec : {M : Type 1} → statement M
 kernel-spec = tie.close (tie.spec catrom-requires returns spline-requires returns-2)

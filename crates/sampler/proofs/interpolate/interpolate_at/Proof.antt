@@ -3,7 +3,7 @@
 use mathlib.Core.Path.{_≡_, sym, _∙_}
 use Prim.Native.Nat.{ℕ, _≤_, _<_}
 use native.Mathlib.Omega.{arith}
-use Rattle.taps.specs.Interpolation.{interpolation}
+use Rattle.taps.specs.Interpolation.{interpolation, bilinearCode, catromCode, backgroundCode}
 use Rattle.taps.proofs.InterpolationCode.{background-code}
 use Rattle.sampler.specs.Interpolate.{interpolate}
 use Rattle.sampler.proofs.InterpolateCode.{single-code, several-code}
@@ -14,10 +14,10 @@ use borrow.Author.Needs.{needs}
 use Rattle.sampler.proofs.interpolate.interpolate_at.Statement.{statement}
 use Rattle.sampler.proofs.interpolate.interpolate_at.Tie as tie
 
-six : (n : ℕ) → 5 ≤ n → (n ≡ 5 → ⊥) → 6 ≤ n
-six n h k = omega arith
+after : (n : ℕ) → bilinearCode ≤ n → (n ≡ bilinearCode → ⊥) → catromCode ≤ n
+after n h k = omega arith
 
-below : (n : ℕ) → n < 5 → n < 8
+below : (n : ℕ) → n < bilinearCode → n < backgroundCode
 below n h = omega arith
 
 bilinear-requires : tie.Need-bilinear-requires
@@ -32,7 +32,7 @@ several-requires c κs = search needs
 cubic-requires : tie.Need-cubic-requires
 cubic-requires c κs = (
   search needs,
-  (search needs, (six _ (c .before .if2 .left) (c .before .before .before .match .rest .1), c .if3 .taken)),
+  (search needs, (after _ (c .before .if2 .left) (c .before .before .before .match .rest .1), c .if3 .taken)),
 )
 
 returns : tie.Need-returns

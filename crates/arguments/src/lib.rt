@@ -1,6 +1,6 @@
 // The caller's arguments: the store of 257 numbers, the methods with their counts, and refusals 3 to 7. Read by `fit`,
-// which builds from them, and by `distort`. Every function equals its definition in specs/ for every input of its
-// types.
+// which builds from them, by `distort`, `listing` and `cards`; `chain` cites its definitions. Every function equals its
+// definition in specs/ for every input of its types.
 pub mod code;
 pub mod method;
 pub mod refusal;

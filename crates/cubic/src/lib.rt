@@ -1,2 +1,3 @@
-// The weights of the two cubic kernels, `Catrom` and `Spline`. Read by `taps` and, for spans, by `fast_cubic`.
+// The weights of the two cubic kernels, `Catrom` and `Spline`. Read by `taps`, `sampler`, `probe_sampler` and, for
+// spans, by `fast_cubic`; `fast_colours` and `cards` cite its definitions.
 pub mod cubic;

@@ -1,4 +1,5 @@
-// Numbers as bits, and in little-endian bytes at any place of a slice. Read by whatever reads lent bytes: `arguments`,
-// `policies`, `picture`, `sample_limit`, and the probes.
+// Numbers as bits, and in little-endian bytes at any place of a slice. Read by whatever reads or writes lent bytes:
+// `arguments`, `policies`, `picture`, `sample_limit`, `taps`, `sampler`, `distort`, `listing`, `cards`, `replay` and
+// the probes.
 pub mod bytes;
 pub mod pattern;

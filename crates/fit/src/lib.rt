@@ -1,5 +1,5 @@
-// The fit: from pairs to the coefficients of a mapping, and `Mapping::build` with refusals 3 to 8. Read by `distort`
-// and `listing`.
+// The fit: from pairs to the coefficients of a mapping, and `Mapping::build` with refusals 3 to 8. Read by `distort`,
+// `listing` and `probe_fit`; `chain` and `cards` cite its definitions.
 pub mod affine;
 pub mod barrel;
 pub mod build;

@@ -25,6 +25,8 @@ use Rattle.window.specs.declared.window.Placed.{Placed}
 use Rattle.window.specs.declared.window.Placed.the-variants.{Window, Refused}
 use Rattle.window.proofs.WindowLaws.{Side, Limits, window-limits}
 use Rattle.picture.specs.Colour.{one}
+use Rattle.picture.specs.Pixel.{Picture, Channels}
+use Rattle.picture.proofs.SizeLaws.{size-fit, picture-fit}
 use Rattle.sampler.specs.Finite.{BoundedPicture}
 use Rattle.taps.specs.Weighted.{BoundedBy}
 use Rattle.picture.specs.declared.colour.Rgba.{Rgba}
@@ -52,12 +54,11 @@ use Rattle.distort.specs.Refusal.{
 }
 use Rattle.distort.specs.Call.{outWidth, outHeight}
 use Rattle.distort.proofs.LargeLaws.{all-bounded, colour-bounded}
-use Rattle.distort.proofs.SizeLaws.{OneThreeFour, size-fit, picture-fit}
 
 -- ---- rows 1 to 7
 pub record Passed (p : Image) (g : Given) : Type 0 where
   pub size : badSize (p .width) (p .height) (p .channels) ≡ false
-  pub stock : badStock p ≡ false
+  pub stock : badStock (p .bytes) (p .width) (p .height) (p .channels) ≡ false
   pub code : badCode (g .method) (g .policy) (g .interpolation) ≡ false
   pub count : Arguments.badCount (g .method) (g .arguments) ≡ false
   pub number : badNumber p (g .arguments) (g .background) (g .matte) ≡ false
@@ -69,7 +70,7 @@ module _ (p : Image) (g : Given) where
   unfolding unfit
   unfit-passed e =
       let r1 = row-failed 0 (badSize (p .width) (p .height) (p .channels)) _ e in
-      let r2 = row-failed 1 (badStock p) _ (r1 .1) in
+      let r2 = row-failed 1 (badStock (p .bytes) (p .width) (p .height) (p .channels)) _ (r1 .1) in
       let r3 = row-failed 2 (badCode (g .method) (g .policy) (g .interpolation)) _ (r2 .1) in
       let r4 = row-failed 3 (Arguments.badCount (g .method) (g .arguments)) _ (r3 .1) in
       let r5 = row-failed 4 (badNumber p (g .arguments) (g .background) (g .matte)) _ (r4 .1) in
@@ -103,6 +104,11 @@ module _ (p : Image) (g : Given) where
         let z = neither b m (y .1) in
         record { arguments = x .0; samples = y .0; background = z .0; matte = z .1 }
 
+    pub picture-passed : Picture (p .bytes) (p .width) (p .height) (p .channels)
+    unfolding large
+    picture-passed =
+        picture-fit (p .bytes) (p .width) (p .height) (p .channels) (t .size) (t .stock) (small .samples)
+
     -- so that none of the refusals of the arguments applies
     pub arguments-passed : Arguments.refusal (g .method) (g .arguments) ≡ 0
     unfolding Arguments.refusal
@@ -130,18 +136,18 @@ unfolding windowOf
 limits p g =
     window-limits (fitOf p g .mapping .kind) (fitOf p g .mapping .coef) (p .width) (p .height) (viewOf g)
 
-pub widest-known : (channels policy : ℕ) (background : Rgba) → OneThreeFour channels
-    → OneThreeFour (widest channels policy background)
+pub widest-known : (channels policy : ℕ) (background : Rgba) → Channels channels
+    → Channels (widest channels policy background)
 unfolding widest
 widest-known channels policy background h = go (eqb channels 4 || (eqb policy transparent || lt (background .a) one))
   where
-    go : (b : Bool) → OneThreeFour (cond b 4 channels)
+    go : (b : Bool) → Channels (cond b 4 channels)
     go true = inr (inr refl)
     go false = h
 
 -- ---- an accepted job
 pub record AcceptedJob (p : Image) (g : Given) : Type 0 where
-  pub channels : OneThreeFour (p .channels)
+  pub channels : Channels (p .channels)
   pub picture : BoundedPicture (p .bytes) (p .width) (p .height) (p .channels)
   pub policy : g .policy ≤ 13
   pub interpolation : g .interpolation ≤ 8
@@ -152,7 +158,7 @@ pub record AcceptedJob (p : Image) (g : Given) : Type 0 where
   pub placed : windowOf p g ≡ Window (outWidth p g) (outHeight p g) (xOf (windowOf p g)) (yOf (windowOf p g))
   pub across : Side (xOf (windowOf p g)) (outWidth p g)
   pub down : Side (yOf (windowOf p g)) (outHeight p g)
-  pub out-channels : OneThreeFour (channelsOf p g)
+  pub out-channels : Channels (channelsOf p g)
 
 module _ (p : Image) (g : Given) where
   -- the numbers of the rows of a job
@@ -191,7 +197,7 @@ module _ (p : Image) (g : Given) where
       record {
         channels = known;
         picture = record {
-          picture = picture-fit p (t .size) (t .stock) (s .samples);
+          picture = picture-passed p g t;
           samples = all-bounded (p .bytes) (p .width * p .height * p .channels) (s .samples);
         };
         policy = codes p g t .1 .0;

@@ -19,7 +19,8 @@ use Rattle.window.specs.Window.{window, refusalOf, widthOf, heightOf, xOf, yOf}
 use Rattle.window.specs.declared.window.Placed.{Placed}
 use Rattle.window.specs.declared.window.Placed.the-variants.{Window}
 use Rattle.window.specs.declared.window.Placed.the-variants as Placed
-use Rattle.picture.specs.Pixel.{Picture, Inside}
+use Rattle.picture.specs.Pixel.{Picture, Channels, Inside}
+use Rattle.picture.proofs.SizeLaws.{size-fit, one-pixel}
 use Rattle.picture.specs.declared.colour.Rgba.{Rgba}
 use Rattle.distort.specs.declared.answer.Answer.{Answer}
 use Rattle.distort.specs.declared.answer.Answer.the-variants.{Refused}
@@ -38,6 +39,7 @@ use Rattle.distort.specs.Refusal.{
   channelsOf,
   degenerate,
   badWindow,
+  large,
   unfit,
   jobRefusal,
   refusal,
@@ -46,6 +48,7 @@ use Rattle.distort.proofs.AcceptedLaws.{
   Passed,
   unfit-passed,
   small,
+  picture-passed,
   fit-8,
   widest-known,
   unfit-job,
@@ -53,7 +56,6 @@ use Rattle.distort.proofs.AcceptedLaws.{
   job-call,
 }
 use Rattle.distort.proofs.CallLaws.{done, refused-answer, placed-answer}
-use Rattle.distort.proofs.SizeLaws.{OneThreeFour, size-fit, picture-fit, one-pixel}
 
 above : (n : ℕ) → (n ≡ 0 → ⊥) → 0 < n
 above n h = omega arith
@@ -104,19 +106,21 @@ module _ (c : Call) where
       passed = unfit-passed p g passes
 
       pub picture-known : Picture (p .bytes) (p .width) (p .height) (p .channels)
-      picture-known = picture-fit p (passed .size) (passed .stock) (small p g passed .samples)
+      picture-known = picture-passed p g passed
 
       -- the background and the matte
       pub background-known : length (g .background) ≡ 16 → Inside (g .background) 1 4 0 0
+      unfolding large
       background-known e = one-pixel (g .background) e (small p g passed .background)
 
       pub matte-known : length (g .matte) ≡ 16 → Inside (g .matte) 1 4 0 0
+      unfolding large
       matte-known e = one-pixel (g .matte) e (small p g passed .matte)
 
       pub channels-known : {n : ℕ} (background : Rgba) → n ≡ widest (p .channels) (g .policy) background
-          → OneThreeFour n
+          → Channels n
       channels-known background e =
-          subst⁻¹ OneThreeFour e
+          subst⁻¹ Channels e
           (widest-known (p .channels) (g .policy) background
           (size-fit (p .width) (p .height) (p .channels) (passed .size) .channels-known))
 

@@ -3,16 +3,14 @@
 use mathlib.Core.Path.{_≡_, sym, subst}
 use mathlib.Core.Bool.{true, false}
 use mathlib.Core.List.{List}
-use Prim.Native.Nat.{ℕ, _*_, _<_}
+use Prim.Native.Nat.{ℕ, _<_}
 use lib.Dec.{T, lit≤}
-use lib.ListN.{length}
 use Rattle.exact.specs.Fraction.{frac}
 use Rattle.endian.specs.Bytes.{sampleAt}
 use Rattle.number.specs.Magnitude.{within}
 use Rattle.sampler.proofs.AtFinite.{limit, within-bounded}
-use Rattle.picture.specs.Pixel.{Limited, widened, pixelAt}
+use Rattle.picture.specs.Pixel.{widened, pixelAt}
 use Rattle.picture.proofs.LimitedLaws as Limits
-use Rattle.picture.proofs.LimitedLaws.{limited-by}
 use Rattle.taps.specs.Weighted.{Bounded, BoundedBy}
 use Rattle.distort.specs.Job.{colourOf}
 use Rattle.distort.specs.Refusal.{large}
@@ -21,11 +19,6 @@ module _ (bytes : List ℕ) where
   pub all-within : (n : ℕ) → large bytes n ≡ false → (k : ℕ) → k < n → within limit (sampleAt bytes k) ≡ true
   unfolding large
   all-within n fine k h = Limits.all-within bytes n fine k h
-
-  -- so that no sample is a NaN
-  pub limited : (n : ℕ) → length bytes ≡ n * 4 → large bytes n ≡ false → Limited bytes
-  unfolding large
-  limited n e fine = limited-by bytes n e fine
 
   pub all-bounded : (n : ℕ) → large bytes n ≡ false → (k : ℕ) → k < n → Bounded (frac 65536 1) (sampleAt bytes k)
   all-bounded n fine k h = within-bounded (sampleAt bytes k) (subst T (sym (all-within n fine k h)) tt)

@@ -10,6 +10,5 @@ pub mod LargeLaws
 pub mod PlacedLaws
 pub mod RowsOfTheWarp
 pub mod SampleLaws
-pub mod SizeLaws
 pub mod ViewLaws
 pub mod Witness

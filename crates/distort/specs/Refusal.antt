@@ -7,6 +7,7 @@ use lib.Dec.{eqb, ltb}
 use lib.ListN.{length, take}
 use lib.Ieee.{lt}
 use Rattle.exact.specs.Table.{firstOf}
+unfoldable pub use Rattle.picture.specs.Size.{badSide, badChannels, badSize, badStock}
 unfoldable pub use Rattle.sample_limit.specs.Samples.{large}
 use Rattle.arguments.specs.Method.{present}
 use Rattle.arguments.specs.Refusal as Arguments
@@ -51,19 +52,7 @@ widest channels policy background =
 abbrev pub channelsOf : Image → Given → ℕ
 channelsOf p g = widest (p .channels) (g .policy) (colourOf (g .background))
 
--- ---- 1, size
-unfoldable pub badSide : ℕ → Bool
-badSide n = eqb n 0 || ltb 4096 n
-
-unfoldable pub badChannels : ℕ → Bool
-badChannels n = not (eqb n 1 || (eqb n 3 || eqb n 4))
-
-unfoldable pub badSize : ℕ → ℕ → ℕ → Bool
-badSize width height channels = badSide width || (badSide height || badChannels channels)
-
--- ---- 2, stock: the picture's length is not width × height × channels samples of four bytes
-unfoldable pub badStock : Image → Bool
-badStock p = not (eqb (length (p .bytes)) (p .width * p .height * p .channels * 4))
+-- ---- 1, size, and 2, stock: `badSize` and `badStock` of picture/specs/Size
 
 -- ---- 3, code: fourteen policies and nine interpolations, counted from 0
 unfoldable pub badCode : ℕ → ℕ → ℕ → Bool
@@ -96,7 +85,7 @@ badTray c = not (eqb (length (c .band))
 abbrev pub ofJob : Image → Given → List (ℕ × Bool) → List (ℕ × Bool)
 ofJob p g more =
     (1, badSize (p .width) (p .height) (p .channels))
-    ∷ ((2, badStock p)
+    ∷ ((2, badStock (p .bytes) (p .width) (p .height) (p .channels))
     ∷ ((3, badCode (g .method) (g .policy) (g .interpolation))
     ∷ ((4, Arguments.badCount (g .method) (g .arguments))
     ∷ ((5, badNumber p (g .arguments) (g .background) (g .matte))

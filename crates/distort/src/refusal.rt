@@ -1,47 +1,24 @@
-// Refusals 1 to 7 (specification 2): each test by itself, then the first number that applies. A test that counts the
-// picture's samples assumes that the tests before it failed; `unfit` assumes nothing.
+// Refusals 1 to 7 (specification 2): the first number that applies; 1 and 2 are tests of `picture`, 4, 6 and 7 of
+// `arguments`. The test that counts the picture's samples assumes that the tests before it failed; the others assume
+// nothing.
 ghost use mathlib.Core.Path.{_≡_};
 ghost use mathlib.Core.Bool.{false};
 ghost use Rattle.band.specs.Image.{shapedImage};
 ghost use Rattle.distort.specs.Job.{givenBy};
 ghost use Rattle.distort.specs.Refusal as Refusal;
-ghost use Rattle.distort.specs.Refusal.{badSide, badChannels, badSize, badStock, badCode, badNumber};
+ghost use Rattle.distort.specs.Refusal.{badCode, badNumber};
+ghost use Rattle.picture.specs.Size.{badSize, badStock};
 use crate::job::Job;
 use arguments::code::is_present;
 use arguments::refusal::bad_count;
 use arguments::refusal::bad_order;
 use arguments::refusal::few_pairs;
 use picture::shape::Shape;
+use picture::size::bad_size;
+use picture::size::bad_stock;
 use policies::policy::RANDOM;
 use sample_limit::large::large;
 use taps::interpolation::BACKGROUND;
-
-fn bad_side(n: u64) -> bool
-    ensures { λ r. ⌜ r ≡ badSide n ⌝ }
-{
-    (n == 0) | (4096 < n)
-}
-
-fn bad_channels(n: u64) -> bool
-    ensures { λ r. ⌜ r ≡ badChannels n ⌝ }
-{
-    !((n == 1) | ((n == 3) | (n == 4)))
-}
-
-// 1, size.
-pub fn bad_size(width: u64, height: u64, channels: u64) -> bool
-    ensures { λ r. ⌜ r ≡ badSize width height channels ⌝ }
-{
-    bad_side(width) | (bad_side(height) | bad_channels(channels))
-}
-
-// 2, stock.
-pub fn bad_stock(picture: &[u8], shape: Shape) -> bool
-    requires { ⌜ badSize (shape .width) (shape .height) (shape .channels) ≡ false ⌝ }
-    ensures { λ r. ⌜ r ≡ badStock (shapedImage (now (picture .entry)) shape) ⌝ }
-{
-    picture.len() as u64 != shape.width * shape.height * shape.channels * 4
-}
 
 // 3, code: `Random` is the last policy, `Background` the last interpolation.
 pub fn bad_code(method: u64, policy: u64, interpolation: u64) -> bool
@@ -59,7 +36,7 @@ pub fn bad_number(
     matte: &[u8; 16],
 ) -> bool
     requires { ⌜ badSize (shape .width) (shape .height) (shape .channels) ≡ false ⌝ }
-    requires { ⌜ badStock (shapedImage (now picture) shape) ≡ false ⌝ }
+    requires { ⌜ badStock (now picture) (shape .width) (shape .height) (shape .channels) ≡ false ⌝ }
     ensures { λ r.
         ⌜ r ≡ badNumber (shapedImage (now (picture .entry)) shape) (now (arguments .entry)) (now (background .entry))
         (now (matte .entry)) ⌝ }

@@ -4,8 +4,8 @@ use borrow.Author.Needs.{needs}
 use mir.Syntax.{w64}
 use mir.ValLaws.{toZ-ofZ}
 use Rattle.band.specs.Band.{sourced, framed}
+use Rattle.picture.proofs.SizeLaws.{channels-range}
 use Rattle.distort.proofs.PlacedLaws.{rows-fit, band-fit, rows-out, band-out, worked}
-use Rattle.distort.proofs.SizeLaws.{channels-range}
 use Rattle.distort.proofs.call.in_window.Statement.{statement}
 use Rattle.distort.proofs.call.in_window.Tie as tie
 

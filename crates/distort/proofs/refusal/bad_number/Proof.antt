@@ -2,8 +2,8 @@
 -- nothing.
 use native.Mathlib.Omega.{arith}
 use borrow.Author.Needs.{needs}
+use Rattle.picture.proofs.SizeLaws.{counted, stock-whole}
 use Rattle.distort.specs.Refusal.{badNumber}
-use Rattle.distort.proofs.SizeLaws.{counted, stock-whole}
 use Rattle.distort.proofs.refusal.bad_number.Statement.{statement}
 use Rattle.distort.proofs.refusal.bad_number.Tie as tie
 
@@ -18,7 +18,7 @@ mul-large-2 : tie.Need-mul-large-2
 mul-large-2 c = omega (arith, counted _ _ _ (c .before .before .before .before .before .before .pre .0))
 
 large-requires : tie.Need-large-requires
-large-requires c κs = omega (arith, stock-whole _ (c .before .before .before .before .before .before .pre .1))
+large-requires c κs = omega (arith, stock-whole _ _ _ _ (c .before .before .before .before .before .before .pre .1))
 
 returns-2 : tie.Need-returns-2
 unfolding badNumber

@@ -1,7 +1,7 @@
 -- `bad_tray` is its definition: the product of so few rows, columns and channels can be counted. Assumes nothing.
 use mathlib.Core.Path.{refl}
 use native.Mathlib.Omega.{arith}
-use Rattle.distort.proofs.SizeLaws.{area-small, samples-small}
+use Rattle.picture.proofs.SizeLaws.{area-small, samples-small}
 use Rattle.distort.proofs.tray.bad_tray.Statement.{statement}
 use Rattle.distort.proofs.tray.bad_tray.Tie as tie
 

@@ -6,8 +6,8 @@ use mathlib.Core.List.{List}
 use Rattle.fit.specs.Build.{build}
 use Rattle.mappings.specs.Mapping.{refused}
 use Rattle.mappings.specs.declared.mapping.Fitted.{Fitted}
-use Rattle.probe_number.specs.Size.{wrongSize}
+use Rattle.picture.specs.Size.{badSide}
 
 unfoldable pub sizedFit : ℕ → List ℕ → ℕ → ℕ → Fitted
 sizedFit method bytes width height =
-    cond (wrongSize width || wrongSize height) (refused 1) (build method bytes width height)
+    cond (badSide width || badSide height) (refused 1) (build method bytes width height)

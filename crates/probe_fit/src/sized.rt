@@ -4,16 +4,16 @@ ghost use Rattle.probe_fit.specs.Sized.{sizedFit};
 use fit::build::build;
 use mappings::mapping::Fitted;
 use mappings::mapping::refused;
-use probe_number::size::wrong_size;
+use picture::size::bad_side;
 
 // Width or height 0 or above 4,096 is refused by 1.
 pub fn sized_fit(method: u64, arguments: &[u8], width: u64, height: u64) -> Fitted
     ensures { λ r. ⌜ r ≡ sizedFit method (now (arguments .entry)) width height ⌝ }
 {
-    if wrong_size(width) {
+    if bad_side(width) {
         return refused(1);
     }
-    if wrong_size(height) {
+    if bad_side(height) {
         return refused(1);
     }
     build(method, arguments, width, height)

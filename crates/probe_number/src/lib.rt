@@ -2,4 +2,3 @@
 // Rust by itself. Floats pass as their bits; a NaN comes out as 0x7fc00000 or 0x7ff8000000000000. Read by `probe_fit`
 // and `probe_sampler`. No product links it.
 pub mod number_tools;
-pub mod size;

@@ -3,33 +3,27 @@
 use Prim.Native.Nat.{ℕ, _*_}
 use mathlib.Core.Bool.{Bool, not, cond, _||_}
 use mathlib.Core.List.{List}
-use lib.Dec.{eqb, ltb}
-use lib.ListN.{length}
+use lib.Dec.{ltb}
 use lib.Ieee.{binary64, ofBits}
 use Rattle.number.specs.Magnitude.{within}
-use Rattle.probe_number.specs.Size.{wrongSize}
 unfoldable pub use Rattle.sample_limit.specs.Samples.{large}
 use Rattle.taps.specs.Cell.{reach}
 use Rattle.taps.specs.Interpolation.{backgroundCode}
 use Rattle.sampler.specs.Interpolate.{interpolate}
 use Rattle.picture.specs.Pixel.{pixelAt}
+use Rattle.picture.specs.Size.{badSize, badStock}
 use Rattle.picture.specs.Store.{storePixel}
 use Rattle.picture.specs.declared.colour.Rgba.{Rgba}
 use Rattle.picture.specs.declared.shape.Shape.{Shape}
 
 -- ---- what is outside the domain
--- neither 1, 3 nor 4
-unfoldable pub wrongChannels : ℕ → Bool
-wrongChannels n = not (eqb n 1 || (eqb n 3 || eqb n 4))
-
 -- how many samples a picture has
 abbrev pub samples : Shape → ℕ
 samples s = s .width * s .height * s .channels
 
 unfoldable pub wrongPicture : List ℕ → Shape → Bool
 wrongPicture bytes s =
-    wrongSize (s .width) || (wrongSize (s .height)
-    || (wrongChannels (s .channels) || not (eqb (length bytes) (samples s * 4))))
+    badSize (s .width) (s .height) (s .channels) || badStock bytes (s .width) (s .height) (s .channels)
 
 unfoldable pub wrongCodes : ℕ → ℕ → Bool
 wrongCodes policy code = ltb 13 policy || ltb backgroundCode code

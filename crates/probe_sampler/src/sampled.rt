@@ -5,7 +5,6 @@ ghost use Prim.Native.Nat.{_+_, _*_, _≤_};
 ghost use lib.ListN.{length};
 ghost use lib.Ieee.{binary64, ofBits};
 ghost use Rattle.probe_sampler.specs.Sampled.{
-  wrongChannels,
   wrongPicture,
   wrongCodes,
   beyond,
@@ -20,32 +19,21 @@ use endian::pattern::f64_of_bits;
 use picture::colour::Rgba;
 use picture::pixel::pixel_at;
 use picture::shape::Shape;
+use picture::size::bad_size;
+use picture::size::bad_stock;
 use picture::store::store_pixel;
 use policies::policy::RANDOM;
-use probe_number::size::wrong_size;
 use sample_limit::large::large;
 use sampler::interpolate::interpolate_at;
 use taps::interpolation::BACKGROUND;
 
-fn wrong_channels(n: u64) -> bool
-    ensures { λ r. ⌜ r ≡ wrongChannels n ⌝ }
-{
-    !((n == 1) | ((n == 3) | (n == 4)))
-}
-
 fn wrong_picture(picture: &[u8], shape: Shape) -> bool
     ensures { λ r. ⌜ r ≡ wrongPicture (now (picture .entry)) shape ⌝ }
 {
-    if wrong_size(shape.width) {
+    if bad_size(shape.width, shape.height, shape.channels) {
         return true;
     }
-    if wrong_size(shape.height) {
-        return true;
-    }
-    if wrong_channels(shape.channels) {
-        return true;
-    }
-    picture.len() as u64 != shape.width * shape.height * shape.channels * 4
+    bad_stock(picture, shape)
 }
 
 fn wrong_codes(policy: u64, code: u64) -> bool

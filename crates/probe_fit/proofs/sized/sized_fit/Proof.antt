@@ -7,14 +7,14 @@ use Rattle.probe_fit.proofs.sized.sized_fit.Tie as tie
 
 returns : tie.Need-returns
 unfolding sizedFit
-returns c = rw (← c .before .before .wrong-size .ensures, c .before .if1 .taken, c .refused .ensures)
+returns c = rw (← c .before .before .bad-side .ensures, c .before .if1 .taken, c .refused .ensures)
 
 returns-2 : tie.Need-returns-2
 unfolding sizedFit
 returns-2 c = rw (
-  ← c .before .before .before .before .wrong-size .ensures,
+  ← c .before .before .before .before .bad-side .ensures,
   c .before .before .before .if1 .left,
-  ← c .before .before .wrong-size2 .ensures,
+  ← c .before .before .bad-side2 .ensures,
   c .before .if2 .taken,
   c .refused2 .ensures,
 )
@@ -22,9 +22,9 @@ returns-2 c = rw (
 returns-3 : tie.Need-returns-3
 unfolding sizedFit
 returns-3 c = rw (
-  ← c .before .before .before .before .wrong-size .ensures,
+  ← c .before .before .before .before .bad-side .ensures,
   c .before .before .before .if1 .left,
-  ← c .before .before .wrong-size2 .ensures,
+  ← c .before .before .bad-side2 .ensures,
   c .before .if2 .left,
   c .build .ensures,
 )

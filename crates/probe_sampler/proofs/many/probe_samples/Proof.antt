@@ -2,7 +2,7 @@
 use mathlib.Core.Path.{sym, _∙_}
 use borrow.Author.Tests.{eq-eqb, ne-eqb}
 use Rattle.probe_sampler.specs.Many.{probeSamples}
-use Rattle.probe_sampler.proofs.SampledLaws.{outside-fit, one-pixel}
+use Rattle.probe_sampler.proofs.SampledLaws.{outside-fit}
 use borrow.Author.Needs.{needs}
 use Rattle.probe_sampler.proofs.many.probe_samples.Statement.{statement}
 use Rattle.probe_sampler.proofs.many.probe_samples.Tie as tie
@@ -20,8 +20,7 @@ returns-2 c = rw (eq-eqb _ _ (c .before .before .if1 .left), ← c .before .outs
 
 pixel-at-requires : tie.Need-pixel-at-requires
 pixel-at-requires c κs =
-    one-pixel _ (search needs)
-    (outside-fit _ _ _ _ _ _ _ (sym (c .before .before .outside .ensures) ∙ c .before .if2 .left) .1 .0)
+    outside-fit _ _ _ _ _ _ _ (sym (c .before .before .outside .ensures) ∙ c .before .if2 .left) .1 .0 (search needs)
 
 store-samples-requires : tie.Need-store-samples-requires
 store-samples-requires c κs = (

@@ -1,8 +1,11 @@
 -- `probe_sampler::sampled::outside` meets its contract: each way out is the test that it found. Assumes nothing.
-use mathlib.Core.Path.{sym, _∙_}
+use mathlib.Core.Path.{_≡_, sym, _∙_}
+use mathlib.Core.Bool.{false}
 use native.Mathlib.Omega.{arith}
 use Rattle.probe_sampler.specs.Sampled.{outside}
-use Rattle.probe_sampler.proofs.SampledLaws.{Sized, shape-fit, area-small, samples-small}
+use Rattle.picture.specs.Size.{badSize, badStock}
+use Rattle.picture.proofs.SizeLaws.{counted, stock-whole}
+use Rattle.probe_sampler.proofs.SampledLaws.{shape-fit}
 use borrow.Author.Needs.{needs}
 use Rattle.probe_sampler.proofs.sampled.outside.Statement.{statement}
 use Rattle.probe_sampler.proofs.sampled.outside.Tie as tie
@@ -28,19 +31,19 @@ returns-2 c = rw (
 
 -- the sizes of a picture whose shape and codes no test refused
 sized : (c : tie.Else2) → let a = c .before .before .before .before .before .args in
-    Sized (a .picture .now) (a .shape)
+    let s = a .shape in
+    (badSize (s .width) (s .height) (s .channels) ≡ false)
+    × (badStock (a .picture .now) (s .width) (s .height) (s .channels) ≡ false)
 sized c = shape-fit _ _ (sym (c .before .before .before .wrong-picture .ensures) ∙ c .before .before .if1 .left)
 
 mul-large : tie.Need-mul-large
-mul-large c = let p = sized (c .before) in
-    omega (arith, area-small _ _ (p .sizes .width-most) (p .sizes .height-most))
+mul-large c = omega (arith, counted _ _ _ (sized (c .before) .0))
 
 mul-large-2 : tie.Need-mul-large-2
-mul-large-2 c = let p = sized (c .before .before) in
-    omega (arith, samples-small _ _ _ (p .sizes .width-most) (p .sizes .height-most) (p .channels-most))
+mul-large-2 c = omega (arith, counted _ _ _ (sized (c .before .before) .0))
 
 large-requires : tie.Need-large-requires
-large-requires c κs = let p = sized (c .before .before) in omega (arith, p .whole)
+large-requires c κs = omega (arith, stock-whole _ _ _ _ (sized (c .before .before) .1))
 
 returns-3 : tie.Need-returns-3
 unfolding outside

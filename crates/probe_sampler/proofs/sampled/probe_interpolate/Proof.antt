@@ -3,7 +3,7 @@
 use mathlib.Core.Path.{sym, _∙_}
 use lib.Dec.{T}
 use Rattle.probe_sampler.specs.Sampled.{probeInterpolate}
-use Rattle.probe_sampler.proofs.SampledLaws.{outside-fit, one-pixel}
+use Rattle.probe_sampler.proofs.SampledLaws.{outside-fit}
 use borrow.Author.Needs.{needs}
 use Rattle.probe_sampler.proofs.sampled.probe_interpolate.Statement.{statement}
 use Rattle.probe_sampler.proofs.sampled.probe_interpolate.Tie as tie
@@ -17,8 +17,7 @@ returns c = rw (← c .before .outside .ensures, c .if1 .taken)
 
 pixel-at-requires : tie.Need-pixel-at-requires
 pixel-at-requires c κs =
-    one-pixel _ (search needs)
-    (outside-fit _ _ _ _ _ _ _ (sym (c .before .before .outside .ensures) ∙ c .before .if1 .left) .1 .0)
+    outside-fit _ _ _ _ _ _ _ (sym (c .before .before .outside .ensures) ∙ c .before .if1 .left) .1 .0 (search needs)
 
 store-colour-requires : tie.Need-store-colour-requires
 store-colour-requires c κs = let f =

@@ -1,2 +1,0 @@
--- What the probes answer, where it is more than a tool's own definition.
-pub mod Size

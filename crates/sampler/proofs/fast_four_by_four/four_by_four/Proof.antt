@@ -1,7 +1,7 @@
 -- `sampler::fast_four_by_four::four_by_four` meets its contract. The loop's invariant: the sums are the definition's
 -- over the rows passed. Assumes nothing.
 use mathlib.Core.Path.{_≡_, refl, _∙_}
-use Prim.Native.Nat.{_-_, _*_, _≤_}
+use Prim.Native.Nat.{_+_, _-_, _*_, _≤_}
 use native.Mathlib.Omega.{arith}
 use lib.IntN.{pos}
 use Rattle.taps.specs.Taps.{taps}
@@ -32,55 +32,38 @@ loop-holds c = let a = c .before .before in (
   search needs,
 )
 
+-- where row m of the square starts: its pixel's number and its first sample's are small, and so is its row
+abbrev start : tie.In-loop Inv-loop μ-loop → tie.Start Inv-loop μ-loop
+start c = c .before .before .before .before
+
+small : (c : tie.In-loop Inv-loop μ-loop)
+    → (start c .args .j + c .before .loop .m) * start c .args .width + start c .args .i ≤ 0x100_0000
+small c = row-small _ _ (c .before .loop .m) (start c .pre .0) (start c .pre .1 .0) (start c .pre .1 .1)
+    (c .loop-test .taken)
+
+fits : (c : tie.In-loop Inv-loop μ-loop)
+    → ((start c .args .j + c .before .loop .m) * start c .args .width + start c .args .i) * start c .args .channels
+    ≤ 0x400_0000
+fits c = row-fits _ _ (c .before .loop .m) (start c .pre .0) (start c .pre .1 .0) (start c .pre .1 .1)
+    (c .loop-test .taken)
+
+high : (c : tie.In-loop Inv-loop μ-loop) → start c .args .j + c .before .loop .m ≤ 4096
+high c = omega (arith, start c .pre .0 .sizes .height-most, start c .pre .1 .1, c .loop-test .taken)
+
 add-line-of : tie.Need-add-line-of Inv-loop μ-loop
-add-line-of c = let a = c .before .before .before .before in
-    omega (
-      arith,
-      row-small _ _ (c .before .loop .m) (a .pre .0) (a .pre .1 .0) (a .pre .1 .1) (c .loop-test .taken),
-      a .pre .0 .sizes .height-most,
-      a .pre .1 .1,
-      c .loop-test .taken,
-    )
+add-line-of c = omega (arith, high c)
 
 mul-line-of : tie.Need-mul-line-of Inv-loop μ-loop
-mul-line-of c = let a = c .before .before .before .before in
-    omega (
-      arith,
-      row-small _ _ (c .before .loop .m) (a .pre .0) (a .pre .1 .0) (a .pre .1 .1) (c .loop-test .taken),
-      a .pre .0 .sizes .height-most,
-      a .pre .1 .1,
-      c .loop-test .taken,
-    )
+mul-line-of c = omega (arith, small c)
 
 add-line-of-2 : tie.Need-add-line-of-2 Inv-loop μ-loop
-add-line-of-2 c = let a = c .before .before .before .before in
-    omega (
-      arith,
-      row-small _ _ (c .before .loop .m) (a .pre .0) (a .pre .1 .0) (a .pre .1 .1) (c .loop-test .taken),
-      a .pre .0 .sizes .height-most,
-      a .pre .1 .1,
-      c .loop-test .taken,
-    )
+add-line-of-2 c = omega (arith, small c)
 
 mul-line-of-2 : tie.Need-mul-line-of-2 Inv-loop μ-loop
-mul-line-of-2 c = let a = c .before .before .before .before in
-    omega (
-      arith,
-      row-fits _ _ (c .before .loop .m) (a .pre .0) (a .pre .1 .0) (a .pre .1 .1) (c .loop-test .taken),
-      a .pre .0 .sizes .height-most,
-      a .pre .1 .1,
-      c .loop-test .taken,
-    )
+mul-line-of-2 c = omega (arith, fits c)
 
 mul-line-of-3 : tie.Need-mul-line-of-3 Inv-loop μ-loop
-mul-line-of-3 c = let a = c .before .before .before .before in
-    omega (
-      arith,
-      row-fits _ _ (c .before .loop .m) (a .pre .0) (a .pre .1 .0) (a .pre .1 .1) (c .loop-test .taken),
-      a .pre .0 .sizes .height-most,
-      a .pre .1 .1,
-      c .loop-test .taken,
-    )
+mul-line-of-3 c = omega (arith, fits c)
 
 element-copy-out-line-of : tie.Need-element-copy-out-line-of Inv-loop μ-loop
 element-copy-out-line-of c = search needs

@@ -1,7 +1,7 @@
 -- `sampler::several::line` meets its contract. The loop's invariant: the sums are the definition's over the taps of the
 -- row passed. Assumes nothing.
 use mathlib.Core.Path.{_≡_, _∙_}
-use Prim.Native.Nat.{_+_, _-_, _*_, _≤_}
+use Prim.Native.Nat.{_+_, _-_, _*_, _≤_, _<_}
 use native.Mathlib.Omega.{arith}
 use mir.Syntax.{w64}
 use mir.Val.{toZ}
@@ -42,34 +42,23 @@ nearby-requires c κs =
       ),
     )
 
+-- the number of the tap's weight
+number : (c : tie.After-nearby Inv-loop μ-loop)
+    → let a = c .before .before .before .before .args in a .j * a .n + c .before .before .loop .i < 16
+number c = number-small (c .before .before .before .before .args .n) (c .before .before .before .before .args .j)
+    (c .before .before .loop .i) (search needs) (search needs) (search needs)
+
 mul-added : tie.Need-mul-added Inv-loop μ-loop
-mul-added c = omega (
-  arith,
-  number-small (c .before .before .before .before .args .n)
-      (c .before .before .before .before .args .j) (c .before .before .loop .i) (search needs) (search needs)
-      (search needs),
-)
+mul-added c = omega (arith, number c)
 
 add-added : tie.Need-add-added Inv-loop μ-loop
-add-added c = omega (
-  arith,
-  number-small (c .before .before .before .before .args .n)
-      (c .before .before .before .before .args .j) (c .before .before .loop .i) (search needs) (search needs)
-      (search needs),
-)
+add-added c = omega (arith, number c)
 
 mul-added-2 : tie.Need-mul-added-2 Inv-loop μ-loop
-mul-added-2 c = omega (
-  arith,
-  number-small (c .before .before .before .before .args .n)
-      (c .before .before .before .before .args .j) (c .before .before .loop .i) (search needs) (search needs)
-      (search needs),
-)
+mul-added-2 c = omega (arith, number c)
 
 element-copy-out-added : tie.Need-element-copy-out-added Inv-loop μ-loop
-element-copy-out-added c =
-    number-small (c .before .before .before .before .args .n) (c .before .before .before .before .args .j)
-    (c .before .before .loop .i) (search needs) (search needs) (search needs)
+element-copy-out-added c = number c
 
 added-requires : tie.Need-added-requires Inv-loop μ-loop
 added-requires c κs = search needs

@@ -16,7 +16,7 @@ use Rattle.point.specs.Point.{point, Whole}
 use Rattle.mappings.specs.Mapping.{barrelKind}
 use Rattle.inverse.specs.Barrel.{across, down, square, barrelFrom, barrelInverseFrom}
 use Rattle.fast_points.specs.Points.{middle, PointsOf}
-use Rattle.fast_points.proofs.FillLaws.{both-more, read-back}
+use Rattle.fast_points.proofs.FillLaws.{both-more}
 use Rattle.fast_points.specs.Barrels.{barrelBy, RadiiSquared, Each, Moved}
 
 -- ---- the offsets and the squares
@@ -70,34 +70,6 @@ module _ (f : Float → Float) (xs : List Float) where
 
   pub each-last : (k n : ℕ) {ys : List Float} → n ≤ k → Mapping f k xs ys → Each f n xs ys
   each-last k n a s = record { each = λ i h. s .done .each i (omega arith) }
-
--- ---- the points
-pub record Moving (from : Float → Float → Point) (k : ℕ) (ds rs us vs : List Float) : Type 0 where
-  pub done : Moved from k ds rs us vs
-  pub long-u : length us ≡ 64
-  pub long-v : length vs ≡ 64
-
-module _ (from : Float → Float → Point) (ds rs : List Float) where
-  pub move-none : {us vs : List Float} → length us ≡ 64 → length vs ≡ 64 → Moving from 0 ds rs us vs
-  move-none a b = record { done = record { kept = λ k h. absurd (not-suc-le-zero h) }; long-u = a; long-v = b }
-
-  pub move-more : ((d r : Float) → Whole (from d r)) → (k : ℕ) {us vs : List Float} {p : Point}
-      → p ≡ from (at ds k) (at rs k) → k < 64
-      → Moving from k ds rs us vs → Moving from (k + 1) ds rs (set us k (p .u)) (set vs k (p .v))
-  move-more w k {us} {vs} e h old =
-      record {
-        done = record {
-          kept =
-              both-more (λ (i : ℕ) (u v : Float). from (at ds i) (at rs i) ≡ point u v) k us vs (old .long-u)
-              (old .long-v) h
-              (read-back e (w (at ds k) (at rs k))) (old .done .kept);
-        };
-        long-u = length-set us k _ ∙ old .long-u;
-        long-v = length-set vs k _ ∙ old .long-v;
-      }
-
-  pub move-last : (k n : ℕ) {us vs : List Float} → n ≤ k → Moving from k ds rs us vs → Moved from n ds rs us vs
-  move-last k n a s = record { kept = λ i h. s .done .kept i (omega arith) }
 
 -- ---- the three steps together
 radius : (c : Vector) (x dy : Float) (first n : ℕ) {ds ss rs : List Float} → RadiiSquared c x dy first n ds ss

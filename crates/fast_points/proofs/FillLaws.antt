@@ -1,6 +1,6 @@
 -- Lists that a loop fills: a store more makes the part that is done longer by one; and so a span of source points
 -- grows by the coordinates of one more. Assumes nothing.
-use mathlib.Core.Path.{_≡_, sym, _∙_}
+use mathlib.Core.Path.{_≡_, ap, _∙_}
 use mathlib.Core.Logic.{_≢_}
 use mathlib.Core.List.{List}
 use Prim.Native.Nat.{ℕ, _+_, _≤_, _<_}
@@ -13,7 +13,7 @@ use lib.Ieee.{Float, nan}
 use Rattle.exact.specs.Vector.{at}
 use Rattle.point.specs.declared.point.Point.{Point}
 use Rattle.point.specs.Point.{point, Whole}
-use Rattle.fast_points.specs.Points.{middle, PointsOf}
+use Rattle.fast_points.specs.Points.{middle, Kept}
 
 others : {i k : ℕ} → i < k → i ≢ k
 others h e = omega arith
@@ -31,31 +31,36 @@ module _ (P : ℕ → Float → Float → Type 0) where
 pub read-back : {p q : Point} → p ≡ q → Whole q → q ≡ point (p .u) (p .v)
 read-back e w = rw e (w .whole)
 
--- ---- a span
+-- ---- points
 -- what a loop knows after k turns: k points are there, in lists of 64 places
-pub record Filling (f : Float → Point) (x : Float) (first k : ℕ) (us vs : List Float) : Type 0 where
-  pub done : PointsOf f x first k us vs
+pub record Filling (g : ℕ → Point) (k : ℕ) (us vs : List Float) : Type 0 where
+  pub done : Kept g k us vs
   pub long-u : length us ≡ 64
   pub long-v : length vs ≡ 64
 
-module _ (f : Float → Point) (x : Float) (first : ℕ) where
-  pub fill-none : {us vs : List Float} → length us ≡ 64 → length vs ≡ 64 → Filling f x first 0 us vs
+module _ (g : ℕ → Point) where
+  pub fill-none : {us vs : List Float} → length us ≡ 64 → length vs ≡ 64 → Filling g 0 us vs
   fill-none a b = record { done = record { kept = λ k h. absurd (not-suc-le-zero h) }; long-u = a; long-v = b }
 
-  pub fill-more : ((a : Float) → Whole (f a)) → (k : ℕ) {us vs : List Float} {a : Float} {p : Point}
-      → a ≡ middle (first + k) x → p ≡ f a → k < 64
-      → Filling f x first k us vs → Filling f x first (k + 1) (set us k (p .u)) (set vs k (p .v))
-  fill-more w k {us} {vs} {a} {p} e g l old =
+  pub fill-more : (k : ℕ) {us vs : List Float} {p : Point} → p ≡ g k → Whole (g k) → k < 64
+      → Filling g k us vs → Filling g (k + 1) (set us k (p .u)) (set vs k (p .v))
+  fill-more k {us} {vs} e w l old =
       record {
         done = record {
           kept =
-              both-more (λ (i : ℕ) (u v : Float). f (middle (first + i) x) ≡ point u v) k us vs (old .long-u)
-              (old .long-v) l
-              (rw (← e) (read-back g (w a))) (old .done .kept);
+              both-more (λ (i : ℕ) (u v : Float). g i ≡ point u v) k us vs (old .long-u) (old .long-v) l
+              (read-back e w) (old .done .kept);
         };
         long-u = length-set us k _ ∙ old .long-u;
         long-v = length-set vs k _ ∙ old .long-v;
       }
 
-  pub fill-last : (k n : ℕ) {us vs : List Float} → n ≤ k → Filling f x first k us vs → PointsOf f x first n us vs
+  pub fill-last : (k n : ℕ) {us vs : List Float} → n ≤ k → Filling g k us vs → Kept g n us vs
   fill-last k n a s = record { kept = λ i h. s .done .kept i (omega arith) }
+
+-- those of a function of the pixels' middles
+pub fill-span : (f : Float → Point) (x : Float) (first : ℕ) → ((a : Float) → Whole (f a)) → (k : ℕ)
+    {us vs : List Float} {a : Float} {p : Point} → a ≡ middle (first + k) x → p ≡ f a → k < 64
+    → Filling (λ (i : ℕ). f (middle (first + i) x)) k us vs
+    → Filling (λ (i : ℕ). f (middle (first + i) x)) (k + 1) (set us k (p .u)) (set vs k (p .v))
+fill-span f x first w k e g = fill-more (λ (i : ℕ). f (middle (first + i) x)) k (g ∙ ap f e) (w _)

@@ -1,5 +1,5 @@
--- The point of Barrel or BarrelInverse, by the kind, and the steps to it, each for a whole span: the offsets across with
--- the squared radii, the radii, the points from both. Assumes nothing.
+-- The point of Barrel or BarrelInverse, by the kind, and the steps to it, each for a whole span: the offsets across
+-- with the squared radii, the radii, the points from both. Assumes nothing.
 use mathlib.Core.Path.{_≡_}
 use mathlib.Core.Bool.{cond}
 use mathlib.Core.List.{List}
@@ -8,10 +8,9 @@ use lib.Dec.{eqb}
 use lib.Ieee.{Float}
 use Rattle.exact.specs.Vector.{Vector, at}
 use Rattle.point.specs.declared.point.Point.{Point}
-use Rattle.point.specs.Point.{point}
 use Rattle.mappings.specs.Mapping.{barrelKind}
 use Rattle.inverse.specs.Barrel.{across, square, barrel, barrelInverse}
-use Rattle.fast_points.specs.Points.{middle}
+use Rattle.fast_points.specs.Points.{middle, Kept}
 
 -- the point of Barrel, or of BarrelInverse where the kind is another
 abbrev pub barrelBy : ℕ → Vector → Float → Float → Point
@@ -28,5 +27,5 @@ pub record Each (f : Float → Float) (n : ℕ) (xs ys : List Float) : Type 0 wh
   pub each : (k : ℕ) → k < n → at ys k ≡ f (at xs k)
 
 -- the first n of two lists: the points that `from` gives by the offsets and the radii
-pub record Moved (from : Float → Float → Point) (n : ℕ) (ds rs us vs : List Float) : Type 0 where
-  pub kept : (k : ℕ) → k < n → from (at ds k) (at rs k) ≡ point (at us k) (at vs k)
+abbrev pub Moved : (Float → Float → Point) → ℕ → List Float → List Float → List Float → List Float → Type 0
+Moved from n ds rs us vs = Kept (λ (k : ℕ). from (at ds k) (at rs k)) n us vs

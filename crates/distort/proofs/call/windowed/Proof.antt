@@ -34,5 +34,5 @@ returns-2 c = not-found _ _ _ _ _ (c .before .before .window .ensures) (c .enum-
 
 pub windowed-spec : {M : Type 1} → statement M
 windowed-spec =
-    tie.close (tie.spec (λ c κs. search needs) (λ c. search needs) (λ c κs. search needs) in-window-requires (λ c. search needs)
-    (λ c. search needs) returns returns-2)
+    tie.close (tie.spec (λ c κs. search needs) (λ c. search needs) (λ c κs. search needs) in-window-requires
+    (λ c. search needs) (λ c. search needs) returns returns-2)

@@ -168,6 +168,12 @@ unfolding storePixel narrowed
 bytes-four c = four-next (so-far-none (replicate 16 0)) 0 c refl (omega arith) .is
     ∙ append-nil (rgbBytes c ++ sampleBytes (c .a))
 
+pixel : (n p m : ℕ) {k : ℕ} → n ≡ p * m * 4 → m ≡ k → n ≡ 4 * (p * k)
+pixel n p m w e = w ∙ ap (λ (z : ℕ). p * z * 4) e ∙ (omega arith)
+
+room : (n m l : ℕ) {k : ℕ} → n + m * 4 ≤ l → m ≡ k → n + k * 4 ≤ l
+room n m l h e = omega arith
+
 pub pixel-next : {b now done : List ℕ} {n : ℕ} → SoFar b now done n → (channels p : ℕ) (c : Rgba) → Channels channels
     → n ≡ p * channels * 4 → n + channels * 4 ≤ length b
     → SoFar b (storePixel now channels p c) (done ++ pixelBytes channels c) (n + channels * 4)
@@ -175,32 +181,14 @@ pixel-next {b} {now} {done} {n} F channels p c (inl e) w h =
     subst (λ (m : ℕ). SoFar b (storePixel now m p c) (done ++ pixelBytes m c) (n + m * 4)) (sym e)
     (subst (λ (x : List ℕ). SoFar b (storePixel now 1 p c) (done ++ x) (n + 4)) (sym (bytes-one c))
     (unfold storePixel narrowed in one-next F (p * 1) c (pixel n p channels w e) (room n channels (length b) h e)))
-  where
-    pixel : (n p m : ℕ) → n ≡ p * m * 4 → m ≡ 1 → n ≡ 4 * (p * 1)
-    pixel n p m w e = w ∙ ap (λ (z : ℕ). p * z * 4) e ∙ (omega arith)
-
-    room : (n m l : ℕ) → n + m * 4 ≤ l → m ≡ 1 → n + 4 ≤ l
-    room n m l h e = omega arith
 pixel-next {b} {now} {done} {n} F channels p c (inr (inl e)) w h =
     subst (λ (m : ℕ). SoFar b (storePixel now m p c) (done ++ pixelBytes m c) (n + m * 4)) (sym e)
     (subst (λ (x : List ℕ). SoFar b (storePixel now 3 p c) (done ++ x) (n + 12)) (sym (bytes-three c))
     (unfold storePixel narrowed in three-next F (p * 3) c (pixel n p channels w e) (room n channels (length b) h e)))
-  where
-    pixel : (n p m : ℕ) → n ≡ p * m * 4 → m ≡ 3 → n ≡ 4 * (p * 3)
-    pixel n p m w e = w ∙ ap (λ (z : ℕ). p * z * 4) e ∙ (omega arith)
-
-    room : (n m l : ℕ) → n + m * 4 ≤ l → m ≡ 3 → n + 12 ≤ l
-    room n m l h e = omega arith
 pixel-next {b} {now} {done} {n} F channels p c (inr (inr e)) w h =
     subst (λ (m : ℕ). SoFar b (storePixel now m p c) (done ++ pixelBytes m c) (n + m * 4)) (sym e)
     (subst (λ (x : List ℕ). SoFar b (storePixel now 4 p c) (done ++ x) (n + 16)) (sym (bytes-four c))
     (unfold storePixel narrowed in four-next F (p * 4) c (pixel n p channels w e) (room n channels (length b) h e)))
-  where
-    pixel : (n p m : ℕ) → n ≡ p * m * 4 → m ≡ 4 → n ≡ 4 * (p * 4)
-    pixel n p m w e = w ∙ ap (λ (z : ℕ). p * z * 4) e ∙ (omega arith)
-
-    room : (n m l : ℕ) → n + m * 4 ≤ l → m ≡ 4 → n + 16 ≤ l
-    room n m l h e = omega arith
 
 -- the same at the definition: of a pixel that has room
 pub store-pixel-paste : (band : List ℕ) (channels p : ℕ) (c : Rgba) → Channels channels

@@ -7,15 +7,15 @@ use mathlib.Core.Bool.{Bool, false, cond, _||_}
 use mathlib.Core.Logic.{_⊎_, ⊎-elim}
 use Prim.Native.Nat.{ℕ, zero, suc, _+_, _≤_, _<_}
 use native.Mathlib.Omega.{arith}
-use lib.Dec.{eqb, lit≤, lit<}
+use lib.Dec.{eqb, lit<}
 use lib.IntN.{ℤ, natAbs}
-use lib.Ieee.{Float, ofBits, fits, lt}
+use lib.Ieee.{Float, ofBits, lt}
 use borrow.Author.Tests.{ne-eqb}
 use Rattle.exact.specs.Fraction.{Fraction, frac, value, _≈_, _+F_, _-F_, Unit01}
 use Rattle.exact.specs.Sums.{askedF}
 use Rattle.exact.specs.Double.{_⊖_}
 use Rattle.exact.specs.Warp.{half, exactSample}
-use Rattle.exact.specs.Weighted.{Unit32, Sample}
+use Rattle.exact.specs.Weighted.{Sample}
 use Rattle.exact.proofs.Near.{within-same}
 use Rattle.exact.proofs.Products.{eq-refl, back, _⨟_}
 use Rattle.exact.proofs.Samples.{one-value, sample-along}
@@ -33,6 +33,7 @@ use Rattle.sampler.specs.Interpolate.{interpolate}
 use Rattle.sampler.specs.Opaque.{NearSample}
 use Rattle.picture.specs.Pixel.{Picture}
 use Rattle.picture.specs.declared.colour.Rgba.{Rgba}
+use Rattle.sampler.proofs.AtOpaque.{one-unit}
 use Rattle.sampler.proofs.BilinearOpaque.{sampled-near}
 use Rattle.window.specs.Window.{xOf, yOf}
 use Rattle.band.specs.Band.{pointAt, shown, colourAt}
@@ -74,10 +75,6 @@ one-more n = at-eq 524288 (lit< tt) (at-add (at-ratio n 0 524288 (lit< tt)) (at-
     (at-ratio (n + 1) 0 524288 (lit< tt)) refl
 
 -- ---- a component past blue is alpha, and 1
-one-unit : Unit32 one
-unfolding ofBits fits
-one-unit = record { number = tt; held = tt; unit = (record { le = lit≤ tt }, record { le = lit≤ tt }) }
-
 one-near : (x : Float) → x ≡ one → (y : Fraction) → y ≈ frac 1 1 → (n : ℕ) → Sample x y (frac n 524288)
 one-near x e y h n = subst (λ (z : Float). Sample z y (frac n 524288)) (sym e)
     (record { is = one-unit; near = within-same (value one) y (frac n 524288) (one-value ⨟ back h) (error-nonneg n) })

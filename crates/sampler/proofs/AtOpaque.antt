@@ -85,7 +85,7 @@ half-unit : Unit32 half
 unfolding ofBits fits
 half-unit = record { number = tt; held = tt; unit = (record { le = lit≤ tt }, record { le = lit≤ tt }) }
 
-one-unit : Unit32 one
+pub one-unit : Unit32 one
 unfolding ofBits fits
 one-unit = record { number = tt; held = tt; unit = (record { le = lit≤ tt }, record { le = lit≤ tt }) }
 

@@ -35,9 +35,10 @@ use Rattle.arguments.specs.Refusal.{
   refusals,
   refusal,
 }
+use Rattle.exact.proofs.Booleans.{or-false}
 use Rattle.exact.proofs.TableLaws.{row-failed}
 use Rattle.arguments.proofs.NumberLaws.{all-good}
-use Rattle.arguments.proofs.CountLaws.{neither, values-count, pairs-after}
+use Rattle.arguments.proofs.CountLaws.{values-count, pairs-after}
 
 pub record Accepted (m : ℕ) (bytes : List ℕ) : Type 0 where
   pub here : present m ≡ true
@@ -77,8 +78,8 @@ module _ (m : ℕ) (bytes : List ℕ) where
   unfolding badCount badFor badOrder pairsOf fewPairs
   accepted-tests here count number order few =
       let n = countOf bytes in
-      let t = neither (not (eqb (length bytes % 8) 0) || ltb 257 n) (badFor m n) count in
-      let s = neither (not (eqb (length bytes % 8) 0)) (ltb 257 n) (t .0) in
+      let t = or-false (not (eqb (length bytes % 8) 0) || ltb 257 n) (badFor m n) count in
+      let s = or-false (not (eqb (length bytes % 8) 0)) (ltb 257 n) (t .0) in
       let for : (k : ℕ) → m ≡ k → badFor k n ≡ false = λ k. at m k (λ (x : ℕ). badFor x n) (t .1) in
       record {
         here = here;

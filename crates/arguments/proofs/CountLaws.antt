@@ -2,19 +2,16 @@
 -- at a code the definition computes to that method's test. Assumes nothing.
 use mathlib.Core.Path.{_≡_, refl, sym, ap, _∙_, subst}
 use mathlib.Core.Logic.{_⊎_, inl, inr, ⊎-elim}
-use mathlib.Core.Bool.{Bool, true, false, not, _||_, true≢false, false≢true}
+use mathlib.Core.Bool.{Bool, true, false, not, _||_, false≢true}
 use Prim.Native.Nat.{ℕ, _-_, _*_, _/_, _%_, _≤_}
 use native.Mathlib.Omega.{arith}
 use lib.Dec.{eqb, ltb}
 use borrow.Author.Tests.{ltb-false, eqb-true, eqb-false, not-false}
+use Rattle.exact.proofs.Booleans.{or-false}
 use Rattle.arguments.specs.Method.{pairMethod, skip}
 use Rattle.arguments.specs.Refusal.{badValues, badFor}
 
 -- ---- tests joined by ||
-pub neither : (a b : Bool) → (a || b) ≡ false → (a ≡ false) × (b ≡ false)
-neither true b e = absurd (true≢false e)
-neither false b e = (refl, e)
-
 pub either : (a b : Bool) → (a || b) ≡ true → (a ≡ true) ⊎ (b ≡ true)
 either true b e = inl refl
 either false b e = inr e
@@ -23,8 +20,8 @@ either false b e = inr e
 pub values-count : (n : ℕ) → badValues n ≡ false → (n ≡ 4 * (n / 4)) × ((1 ≤ n / 4) × (n / 4 ≤ 64))
 unfolding badValues
 values-count n e =
-    let s = neither (ltb n 4 || not (eqb (n % 4) 0)) (ltb 64 (n / 4)) e in
-    let t = neither (ltb n 4) (not (eqb (n % 4) 0)) (s .0) in
+    let s = or-false (ltb n 4 || not (eqb (n % 4) 0)) (ltb 64 (n / 4)) e in
+    let t = or-false (ltb n 4) (not (eqb (n % 4) 0)) (s .0) in
     whole n (ltb-false n 4 (t .0)) (eqb-true (n % 4) 0 (not-false (eqb (n % 4) 0) (t .1))) (ltb-false 64 (n / 4) (s .1))
   where
     whole : (n : ℕ) → 4 ≤ n → n % 4 ≡ 0 → n / 4 ≤ 64 → (n ≡ 4 * (n / 4)) × ((1 ≤ n / 4) × (n / 4 ≤ 64))
@@ -42,7 +39,7 @@ plain n e = (omega arith, ap badValues (none n) ∙ e)
     none n = omega arith
 
 ordered : (n : ℕ) → (eqb n 0 || badValues (n - 1)) ≡ false → (1 ≤ n) × (badValues (n - 1) ≡ false)
-ordered n e = let t = neither (eqb n 0) (badValues (n - 1)) e in (some n (eqb-false n 0 (t .0)), t .1)
+ordered n e = let t = or-false (eqb n 0) (badValues (n - 1)) e in (some n (eqb-false n 0 (t .0)), t .1)
   where
     some : (n : ℕ) → (n ≡ 0 → ⊥) → 1 ≤ n
     some n h = omega arith

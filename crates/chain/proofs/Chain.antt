@@ -10,6 +10,7 @@ use native.Mathlib.Omega.{arith}
 use lib.Dec.{eqb}
 use lib.ListN.{length, length-append}
 use borrow.Author.Tests.{eqb-true}
+use Rattle.exact.proofs.Booleans.{both}
 use Rattle.distort.specs.Call.{outHeight, rowsOf, matteOf, answer, left}
 use Rattle.distort.specs.Job.{Image, Call}
 use Rattle.distort.specs.Refusal.{refusal}
@@ -37,7 +38,6 @@ use Rattle.chain.specs.Warps.{
 }
 use Rattle.chain.proofs.Faithful.{Faithful, first-faithful}
 use Rattle.chain.proofs.JoinLaws.{Every, every-append, IsAccepted, together-is}
-use Rattle.chain.proofs.SameLaws.{both-hold}
 use Rattle.chain.proofs.WarpLaws.{warpOf, warp-faithful}
 
 -- ---- the last warp of a list
@@ -103,7 +103,7 @@ module _ (first : Image) where
     all-rows : allRows c ≡ true → left c ≡ whole
     unfolding allRows
     all-rows h =
-        let b = both-hold (eqb (c .first) 0) (eqb (c .rows) (heightIn (answer c))) h in
+        let b = both (eqb (c .first) 0) (eqb (c .rows) (heightIn (answer c))) h in
         left-accepted c e
         ∙ (λ i. rowsOf (c .image) (c .given) (eqb-true (c .first) 0 (b .0) i)
         ((eqb-true (c .rows) (heightIn (answer c)) (b .1) ∙ ap heightIn (answer-accepted c e)) i))

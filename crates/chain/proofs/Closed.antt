@@ -1,5 +1,5 @@
 -- Facts about closed numbers, by computing: each test here is a Boolean that stands for one of the demand's conditions,
--- so that at numbers it is shown by `tt`. Provides: `below-every`, `closed`, `unit`, `linear`, `poly`, `both`. Assumes
+-- so that at numbers it is shown by `tt`. Provides: `below-every`, `closed`, `unit`, `linear`, `poly`. Assumes
 -- nothing.
 use mathlib.Core.Path.{_≡_, subst}
 use mathlib.Core.Bool.{Bool, true, false, not, _&&_}
@@ -10,13 +10,10 @@ use lib.Ieee.{Float}
 use lib.Ieee.Scale.{finite}
 use Rattle.exact.specs.Fraction.{Fraction, over, frac, value, _≤F_, _*F_, absF}
 use Rattle.exact.specs.Sums.{Linear}
+use Rattle.exact.proofs.Booleans.{both-pass}
 use Rattle.chain.specs.Conditions.{PolyTerms}
 use Rattle.chain.specs.ExactPoint.{powerAt, many}
 use Rattle.chain.specs.Demand.{InUnit}
-
-pub both : (s t : Bool) → T (s && t) → T s × T t
-both true t h = (tt, h)
-both false t h = absurd h
 
 -- f of every number below n
 unfoldable pub below : (ℕ → Bool) → ℕ → Bool
@@ -27,7 +24,7 @@ pub below-every : (f : ℕ → Bool) (n : ℕ) → T (below f n) → (k : ℕ) �
 unfolding below
 below-every f zero t k h = absurd (omega arith)
 below-every f (suc n) t k h =
-    let b = both (below f n) (f n) t in
+    let b = both-pass (below f n) (f n) t in
     go (b .1) (below-every f n (b .0) k) (leb (suc k) n) (leb→le (suc k) n) (nleb→lt (suc k) n)
   where
     last : n < suc k → n ≡ k
@@ -54,8 +51,8 @@ unitly x = finite x && (leF (frac 0 1) (value x) && leF (value x) (frac 1 1))
 pub unit : {x : Float} → T (unitly x) → InUnit x
 unfolding unitly
 unit {x} t =
-    let a = both (finite x) _ t in
-    let b = both (leF (frac 0 1) (value x)) _ (a .1) in
+    let a = both-pass (finite x) _ t in
+    let b = both-pass (leF (frac 0 1) (value x)) _ (a .1) in
     record { number = a .0; unit = (closed (b .0), closed (b .1)) }
 
 -- ---- a sum of three terms
@@ -67,11 +64,11 @@ linearly m n o X Y b = finite m
 pub linear : {m n o : Float} {X Y b : Fraction} → T (linearly m n o X Y b) → Linear m n o X Y b
 unfolding linearly
 linear {m} {n} {o} {X} {Y} {b} t =
-    let a = both (finite m) _ t in
-    let c = both (finite n) _ (a .1) in
-    let d = both (finite o) _ (c .1) in
-    let e = both (leF (absF (value m *F X)) b) _ (d .1) in
-    let f = both (leF (absF (value n *F Y)) b) _ (e .1) in
+    let a = both-pass (finite m) _ t in
+    let c = both-pass (finite n) _ (a .1) in
+    let d = both-pass (finite o) _ (c .1) in
+    let e = both-pass (leF (absF (value m *F X)) b) _ (d .1) in
+    let f = both-pass (leF (absF (value n *F Y)) b) _ (e .1) in
     record {
       number-m = a .0;
       number-n = c .0;
@@ -92,6 +89,6 @@ polynomially order X Y c = below (termly order X Y c) (many order X Y)
 pub poly : (order : ℕ) (X Y : Fraction) (c : ℕ → Float) → T (polynomially order X Y c) → PolyTerms order X Y c
 unfolding polynomially
 poly order X Y c t = record {
-  number = λ (k : ℕ) h. both (finite (c k)) _ (below-every (termly order X Y c) (many order X Y) t k h) .0;
-  size = λ (k : ℕ) h. closed (both (finite (c k)) _ (below-every (termly order X Y c) (many order X Y) t k h) .1);
+  number = λ (k : ℕ) h. both-pass (finite (c k)) _ (below-every (termly order X Y c) (many order X Y) t k h) .0;
+  size = λ (k : ℕ) h. closed (both-pass (finite (c k)) _ (below-every (termly order X Y c) (many order X Y) t k h) .1);
 }

@@ -6,6 +6,7 @@ use mathlib.Core.List.{List, [], _∷_, _++_}
 use Prim.Native.Nat.{ℕ, _+_, _≤_, _<_}
 use native.Mathlib.Omega.{arith}
 use lib.ListN.{length}
+use Rattle.exact.proofs.Booleans.{both}
 use Rattle.distort.specs.Call.{left}
 use Rattle.distort.specs.Job.{Image, Call}
 use Rattle.chain.specs.Demand.{Lent, Each}
@@ -28,9 +29,9 @@ use Rattle.chain.specs.Memory.{
 use Rattle.chain.specs.Memory.{size, InBuffer, LentHome, KeptCall, AllKept}
 use Rattle.chain.specs.Warps.{Warp, State, accepted, allRows, step, run}
 use Rattle.chain.proofs.Chain.{each-last}
+use Rattle.chain.proofs.HomeLaws.{nowhere}
 use Rattle.chain.proofs.LengthLaws.{keeps-length}
 use Rattle.chain.proofs.ReadLaws.{read-length, written-elsewhere}
-use Rattle.chain.proofs.SameLaws.{both-hold}
 use Rattle.chain.proofs.Scenes.{placed, behind, said, scenes, end, found}
 use Rattle.chain.proofs.TurnLaws.{Makes, Turn, is-refused, is-whole, is-joined, is-alone, turn, whole-makes}
 
@@ -48,9 +49,6 @@ buffer-by w P h = go (w .home) refl
     go : (home : Home) → w .home ≡ home → InBuffer w home P
     go Nowhere e = tt
     go (At from) e = h from e
-
-nowhere : {from : ℕ} → Nowhere ≡ At from → ⊥
-nowhere e = let z : _≡_ {A = ℕ} 0 1 = cc in omega arith
 
 -- ---- events that go well
 pub record Goes (w : World) (es : List Event) (s : State) (f : ℕ) : Type 0 where
@@ -193,7 +191,7 @@ module _ (w : World) (f : ℕ) (c : Call) (es : List Event) (s : State) (n : ℕ
   one-goes = write-goes f (c .image .bytes ++ c .band) free (by (accepted c && allRows c) refl)
     where
       by : (t : Bool) → (accepted c && allRows c) ≡ t → Goes v (said t f (Calls (placed f c) ∷ es)) s n
-      by true e = let b = both-hold (accepted c) (allRows c) e in whole-goes (b .0) (b .1)
+      by true e = let b = both (accepted c) (allRows c) e in whole-goes (b .0) (b .1)
       by false e = other-goes (λ a r. true≢false (sym (ap₂ _&&_ a r) ∙ e))
 
 pub all-goes : (cs : List Call) (w : World) (f : ℕ) → Free w f → Each Lent (run (w .chain) cs .warps)

@@ -9,6 +9,7 @@ use Rattle.exact.specs.Fraction.{Fraction, frac, _+F_, _*F_, _/F_, absF}
 use Rattle.exact.specs.Loop.{upTo}
 use Rattle.exact.specs.Sums.{askedF, powF}
 use Rattle.exact.specs.Vector.{Vector, at}
+use Rattle.exact.proofs.Booleans.{both-pass}
 use Rattle.mappings.specs.declared.mapping.Fitted.{Fitted}
 use Rattle.inverse.specs.Polynomial.{ofU, ofV}
 use Rattle.chain.specs.Conditions.{Terms, Meets}
@@ -18,7 +19,7 @@ use Rattle.distort.specs.Refusal.{transparent, fitOf}
 use Rattle.distort.specs.declared.answer.Answer.{Answer}
 use Rattle.chain.specs.Demand.{OpaqueColour, Chained, bilinear, Conditions}
 use Rattle.chain.specs.Warps.{Warp, widthIn, heightIn, xIn, yIn}
-use Rattle.chain.proofs.Closed.{both, below, below-every, leF, closed}
+use Rattle.chain.proofs.Closed.{below, below-every, leF, closed}
 use Rattle.chain.proofs.Closed.{linearly, linear, polynomially, poly}
 
 -- ---- all that is asked at a pixel, by the kind
@@ -44,15 +45,15 @@ terms : (kind order : ℕ) (m : Vector) (X Y : Fraction) → T (termwise kind or
 unfolding termwise Terms
 terms zero order m X Y t = absurd t
 terms (suc zero) order m X Y t =
-    let a = both (linearly (at m 0) (at m 1) (at m 2) X Y (frac 16384 1)) _ t in
+    let a = both-pass (linearly (at m 0) (at m 1) (at m 2) X Y (frac 16384 1)) _ t in
     record { u = linear (a .0); v = linear (a .1) }
 terms (suc (suc zero)) order m X Y t =
-    let a = both (linearly (at m 0) (at m 1) (at m 2) X Y (frac 16384 1)) _ t in
-    let b = both (linearly (at m 3) (at m 4) (at m 5) X Y (frac 16384 1)) _ (a .1) in
-    let c = both (linearly (at m 6) (at m 7) (at m 8) X Y (frac 4 1)) _ (b .1) in
+    let a = both-pass (linearly (at m 0) (at m 1) (at m 2) X Y (frac 16384 1)) _ t in
+    let b = both-pass (linearly (at m 3) (at m 4) (at m 5) X Y (frac 16384 1)) _ (a .1) in
+    let c = both-pass (linearly (at m 6) (at m 7) (at m 8) X Y (frac 4 1)) _ (b .1) in
     record { u = linear (a .0); v = linear (b .0); w = linear (c .0); least = closed (c .1) }
 terms (suc (suc (suc zero))) order m X Y t =
-    let a = both (polynomially order X Y (ofU m)) _ t in
+    let a = both-pass (polynomially order X Y (ofU m)) _ t in
     (poly order X Y (ofU m) (a .0), poly order X Y (ofV m (many order X Y)) (a .1))
 terms (suc (suc (suc (suc n)))) order m X Y t = absurd t
 
@@ -64,8 +65,8 @@ pointwise kind order m X Y =
 meets : (kind order : ℕ) (m : Vector) (X Y : Fraction) → T (pointwise kind order m X Y) → Meets kind order m X Y
 unfolding pointwise small
 meets kind order m X Y t =
-    let a = both (termwise kind order m X Y) _ t in
-    let b = both (small (exactPoint kind order m X Y .0)) _ (a .1) in
+    let a = both-pass (termwise kind order m X Y) _ t in
+    let b = both-pass (small (exactPoint kind order m X Y .0)) _ (a .1) in
     record { terms = terms kind order m X Y (a .0); u = closed (b .0); v = closed (b .1) }
 
 -- ---- the same at every pixel of a window; opens all that the test computes with

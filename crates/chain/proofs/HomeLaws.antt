@@ -52,7 +52,7 @@ still : (w : World) (m : Memory)
     → AtHome w → Holds m (w .chain) (w .home)
 still w m same home from e = read-same m (w .memory) from (size w) (same from e) ∙ home from e
 
-nowhere : {from : ℕ} → Nowhere ≡ At from → ⊥
+pub nowhere : {from : ℕ} → Nowhere ≡ At from → ⊥
 nowhere e = let z : _≡_ {A = ℕ} 0 1 = cc in omega arith
 
 -- ---- a call

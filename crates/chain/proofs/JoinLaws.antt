@@ -11,6 +11,7 @@ use lib.Dec.{leb, ltb}
 use lib.ListN.{take, drop}
 use borrow.Author.Tests.{leb-true, leb-false, ltb-true}
 use Rattle.exact.specs.Loop.{turns, upTo}
+use Rattle.exact.proofs.Booleans.{both}
 use Rattle.band.specs.Band.{rowBytes, rowsBytes}
 use Rattle.distort.specs.Call.{outWidth, outHeight, mappedOf, sourceOf, rowsOf, answer, left}
 use Rattle.distort.specs.Job.{Image, Given, Call}
@@ -36,7 +37,7 @@ use Rattle.chain.specs.Warps.{
   group,
   completes,
 }
-use Rattle.chain.proofs.SameLaws.{both-hold, alike-same}
+use Rattle.chain.proofs.SameLaws.{alike-same}
 
 -- ---- P of each call
 abbrev pub Every : (Call → Type 0) → List Call → Type 0
@@ -72,7 +73,7 @@ all-held : (f : ℕ → Bool) (n : ℕ) → turns (λ (r : ℕ) (t : Bool). t &&
 unfolding turns
 all-held f zero e r h = absurd (omega arith)
 all-held f (suc n) e r h =
-    let b = both-hold (turns (λ (r : ℕ) (t : Bool). t && f r) 0 n true) (f (0 + n)) e in
+    let b = both (turns (λ (r : ℕ) (t : Bool). t && f r) 0 n true) (f (0 + n)) e in
     go (b .1) (all-held f n (b .0) r) (leb (suc r) n) (leb-true (suc r) n) (leb-false (suc r) n)
   where
     last : r < suc n → n < suc r → 0 + n ≡ r
@@ -127,7 +128,7 @@ kin-row : (c d : Call) → Kin c d → (r : ℕ) → holds r d ≡ true
     → take (sizeOf c) (drop ((r - d .first) * sizeOf c) (left d)) ≡ rowOf c r
 unfolding holds
 kin-row c d k r e =
-    let b = both-hold (leb (d .first) r) (ltb r (d .first + d .rows)) e in
+    let b = both (leb (d .first) r) (ltb r (d .first + d .rows)) e in
     ap (λ (bytes : List ℕ). take (sizeOf c) (drop ((r - d .first) * sizeOf c) bytes)) (left-accepted d (k .accepted)
     ∙ (λ i. rowsOf (k .image i) (k .given i) (d .first) (d .rows)))
     ∙ rows-at (c .image) (c .given) (d .first) (d .rows) r (leb-true _ _ (b .0)) (ltb-true _ _ (b .1))
@@ -151,7 +152,7 @@ together-is s c e w h =
     let A : Answer = size c in
     let rows : everyRow (heightIn A) (group s c) ≡ true =
     subst (λ (a : Answer). everyRow (heightIn a) (group s c) ≡ true) (answer-accepted c e)
-    (both-hold (sameImage (c .image) (s .image)) (everyRow (heightIn (answer c)) (group s c)) h .1) in
+    (both (sameImage (c .image) (s .image)) (everyRow (heightIn (answer c)) (group s c)) h .1) in
     let kin : Every (Kin c) (group s c) =
     alike-kin c (s .waiting ++ (c ∷ [])) (every-append IsAccepted (s .waiting) (c ∷ []) w (e, tt)) in
     ap (λ (a : Answer). joined (λ (r : ℕ). rowIn (rowSize a) r (group s c)) (heightIn a)) (answer-accepted c e)

@@ -4,6 +4,7 @@ use mathlib.Core.Path.{_≡_, sym, ap, _∙_, subst}
 use mathlib.Core.Bool.{true}
 use mathlib.Core.List.{List, [], _∷_, _++_}
 use Prim.Native.Nat.{ℕ}
+use Rattle.exact.proofs.Booleans.{both}
 use Rattle.distort.specs.Call.{answer}
 use Rattle.distort.specs.Job.{Call}
 use Rattle.chain.specs.Warps.{Warp, State, sameImage, everyRow, heightIn, group, completes, step}
@@ -26,7 +27,7 @@ use Rattle.chain.specs.Memory.{
   AllKept,
 }
 use Rattle.chain.proofs.HomeLaws.{AtHome, kept-home}
-use Rattle.chain.proofs.SameLaws.{both-hold, image-same}
+use Rattle.chain.proofs.SameLaws.{image-same}
 use Rattle.chain.proofs.TurnLaws.{Makes, Turn, is-refused, is-whole, is-joined, is-alone, turn}
 
 -- ---- one warp more
@@ -46,7 +47,7 @@ home-lent w a l home = λ i. record {
 joined-lent : (s : State) (c : Call) → completes s c ≡ true → c .image ≡ s .image
 unfolding completes
 joined-lent s c e = image-same (c .image) (s .image)
-    (both-hold (sameImage (c .image) (s .image)) (everyRow (heightIn (answer c)) (group s c)) e .0)
+    (both (sameImage (c .image) (s .image)) (everyRow (heightIn (answer c)) (group s c)) e .0)
 
 -- ---- a call, an event, all of them
 call-lent : (w : World) (a : Asked) → KeptCall w a → AtHome w → Each Lent (w .chain .warps)

@@ -5,11 +5,12 @@
 use mathlib.Core.Path.{_≡_, refl, sym, ap, _∙_, subst}
 use mathlib.Core.List.{List, [], _∷_}
 use mathlib.Core.Logic.{⊎-elim}
-use mathlib.Core.Bool.{Bool, true, false, cond}
+use mathlib.Core.Bool.{Bool, cond}
 use Prim.Native.Nat.{_^_}
 use native.Mathlib.Omega.{arith}
 use lib.Dec.{T, lit≤}
 use lib.Ieee.{Float, binary32, neg, add, sub, sum, mul, round, ofBits, lt}
+use lib.Ieee.Bits.{is-true}
 use lib.Ieee.Scale.{finite}
 use Rattle.exact.specs.Fraction.{Fraction, frac, value, _≤F_, _<F_, negF, _+F_, _*F_, absF, Within, Unit01}
 use Rattle.exact.specs.Rounds.{Close}
@@ -106,11 +107,7 @@ module _ {b c : Float} {B C : Fraction} (K : Coefficients b c B C) (S : Shape b 
   unfolding pieces
   inner l = ap (λ (s : Bool). cond s (nearPiece b c (abs x)) (cond (lt (abs x) two) (farPiece b c (abs x)) zero) ⊘ six)
       (same-less x t one (unfold ofBits in tt) (frac 1 1) (unfold ofBits in record { eq = refl })
-      ∙ yes (lessF size (frac 1 1)) (true-less size (frac 1 1) l))
-    where
-      yes : (s : Bool) → T s → s ≡ true
-      yes true k = refl
-      yes false k = absurd k
+      ∙ is-true (lessF size (frac 1 1)) (true-less size (frac 1 1) l))
 
   sizes : {v : Float} {X m : Fraction} → Close v X (frac 0 1) m → Bounded m v
   sizes c = record { number = c .number; size = c .small }

@@ -4,6 +4,7 @@ use mathlib.Core.Bool.{Bool, true, false, not, cond, _&&_, true≢false}
 use mathlib.Core.List.{List, [], _∷_}
 use lib.Ieee.{Float, lt}
 use Rattle.exact.specs.Single.{_⊕_, _⊖_, _⊘_}
+use Rattle.exact.proofs.Booleans.{both}
 use Rattle.number.specs.Magnitude.{abs}
 use Rattle.cubic.specs.Cubic.{
   zero,
@@ -18,10 +19,6 @@ use Rattle.cubic.specs.Cubic.{
   middle,
   cubicWeights,
 }
-
-both : (a b : Bool) → (a && b) ≡ true → (a ≡ true) × (b ≡ true)
-both true b h = (refl, h)
-both false b h = absurd (true≢false (sym h))
 
 near-chosen : (b c x : Float) → lt x one ≡ true → pieces b c x ≡ nearPiece b c x
 unfolding pieces

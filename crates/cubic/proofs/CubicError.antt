@@ -5,7 +5,7 @@
 -- `weights-near`, the law, and for the two kernels `catrom-near`, `spline-near`. Assumes nothing.
 use mathlib.Core.Path.{refl}
 use mathlib.Core.List.{[], _∷_}
-use Prim.Native.Nat.{ℕ, _*_, _^_}
+use Prim.Native.Nat.{_*_, _^_}
 use native.Mathlib.Omega.{arith}
 use lib.Dec.{T, lit≤}
 use lib.Ieee.{Float, binary32, ofBits}
@@ -14,9 +14,9 @@ use Rattle.exact.specs.Fraction.{Fraction, frac, value, _≤F_, _≈_, negF, _+
 use Rattle.exact.specs.Rounds.{Rounds, Close, power}
 use Rattle.exact.specs.Single.{_⊕_, _⊖_}
 use Rattle.exact.specs.Weighted.{Unit32}
-use Rattle.exact.proofs.Scale.{At, at-le, le-at, at-neg, at-add, at-sub, common}
+use Rattle.exact.proofs.Scale.{at-le, le-at, at-neg, at-add, at-sub, common}
 use Rattle.exact.proofs.Near.{le-refl, le-trans, add-same, within-sym, within-more, within-trans}
-use Rattle.exact.proofs.Products.{eq-refl, back, at-zero, at-one, add-zero, le-same, sub-same}
+use Rattle.exact.proofs.Products.{eq-refl, back, at-zero, at-one, at-count, add-zero, le-same, sub-same}
 use Rattle.exact.proofs.NearProducts.{
   at-abs-le,
   abs-open,
@@ -145,11 +145,8 @@ module _ (t : Fraction) (u : Unit01 t) where
       let z = at-add X (at-one D) in (
         le-trans (frac 1 1) (t +F frac 1 1) (absF (t +F frac 1 1)) (at-le D D0 (at-one D) z (omega arith))
             (abs-grow (t +F frac 1 1)),
-        at-abs-le D D0 z (at-two D) (omega arith) (omega arith),
+        at-abs-le D D0 z (at-count D 2) (omega arith) (omega arith),
       ))
-    where
-      at-two : (D : ℕ) → At D (frac 2 1) (2 * D) 0
-      at-two D = record { at = omega arith }
 
   pub less-one : absF (t -F frac 1 1) ≤F frac 1 1
   less-one =
@@ -165,16 +162,13 @@ module _ (t : Fraction) (u : Unit01 t) where
       (λ D D0 ((_, _, X), _).
       let a = le-at D D0 (at-zero D) X (u .0) in
       let b = le-at D D0 X (at-one D) (u .1) in
-      let z = at-sub X (at-two D) in (
+      let z = at-sub X (at-count D 2) in (
         le-trans (frac 1 1) (negF (t -F frac 2 1)) (absF (t -F frac 2 1))
             (at-le D D0 (at-one D) (at-neg z) (omega arith))
             (abs-open (t -F frac 2 1) (absF (t -F frac 2 1))
             (le-refl (absF (t -F frac 2 1)) (absF (t -F frac 2 1))) .1),
-        at-abs-le D D0 z (at-two D) (omega arith) (omega arith),
+        at-abs-le D D0 z (at-count D 2) (omega arith) (omega arith),
       ))
-    where
-      at-two : (D : ℕ) → At D (frac 2 1) (2 * D) 0
-      at-two D = record { at = omega arith }
 
 -- ---- the law
 pub one-more : (t : Float) → T (finite t) → Rounds binary32 (t ⊕ one) (value t +F frac 1 1)

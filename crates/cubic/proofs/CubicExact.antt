@@ -1,17 +1,18 @@
 -- The exact kernel: its test is the order of fractions; its pieces meet at 1 and the outer one ends in 0 at 2, so that
 -- each piece may be used with both ends of its range. Provides: `less-true`, `less-not` (the test), `alike-near`,
 -- `alike-far` (equal arguments), `mitchell-near` (up to 1), `mitchell-far` (from 1 to 2). Assumes nothing.
-use mathlib.Core.Path.{_≡_, refl, subst}
+use mathlib.Core.Path.{_≡_, sym, subst}
 use mathlib.Core.List.{[], _∷_}
 use mathlib.Core.Bool.{Bool, true, false, not, cond}
 use Prim.Native.Nat.{ℕ, _+_, _*_}
 use native.Mathlib.Nat.{mul-pos, zero-lt-suc, lt-irrefl}
 use native.Mathlib.Omega.{arith}
 use lib.Dec.{T, ltb→lt, nltb→le, lt→ltb, lit<}
+use lib.Ieee.Bits.{is-true}
 use Rattle.exact.specs.Fraction.{Fraction, over, frac, _≤F_, _<F_, _≈_, _+F_, _*F_, absF}
 use Rattle.exact.proofs.Scale.{At, at-eq, at-more, at-neg, at-add, at-sub, at-mul, common}
 use Rattle.exact.proofs.Near.{le-antisym, add-same}
-use Rattle.exact.proofs.Products.{eq-refl, _⨟_, back, at-zero, at-one, mul-same, lt-le-trans, le-lt-trans}
+use Rattle.exact.proofs.Products.{eq-refl, _⨟_, back, at-zero, at-one, at-count, mul-same, lt-le-trans, le-lt-trans}
 use Rattle.cubic.specs.Mitchell.{
   lessF,
   times,
@@ -66,9 +67,6 @@ alike-far a b c d {x} {y} h =
     (eq-refl d)
 
 -- ---- where the pieces meet
-at-count : (D n : ℕ) → At D (frac n 1) (n * D) 0
-at-count D n = record { at = omega arith }
-
 -- n x at the scale of x, for a numeral n
 at-times : {D : ℕ} (n : ℕ) {x : Fraction} {p m : ℕ} → At D x p m → At D (times n x) (n * p) (n * m)
 at-times {D} n {x} {p} {m} X = record { at = go (at-mul (at-count 1 n) X .at) }
@@ -150,14 +148,10 @@ module _ (B C : Fraction) where
         go false k =
             let e : ax ≈ one = le-antisym ax one h (k tt) in
             subst (λ (t : Bool). pick false t ≈ sixth (nearF B C ax))
-            (yes (lessF ax two) (true-less ax two (le-lt-trans h (record { lt = lit< tt }))))
+            (sym (is-true (lessF ax two) (true-less ax two (le-lt-trans h (record { lt = lit< tt })))))
             (mul-same (eq-refl (frac 1 6))
             (alike-far (far3 B C) (far2 B C) (far1 B C) (far0 B C) e ⨟ far-one ⨟ back near-one ⨟ back
             (alike-near (near3 B C) (near2 B C) (near0 B) e)))
-          where
-            yes : (t : Bool) → T t → true ≡ t
-            yes true h = refl
-            yes false h = absurd h
 
     pub mitchell-far : one ≤F ax → ax ≤F two → mitchell B C x ≈ sixth (farF B C ax)
     unfolding mitchell

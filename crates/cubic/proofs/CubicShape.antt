@@ -10,7 +10,7 @@ use native.Mathlib.Omega.{arith}
 use Rattle.exact.specs.Fraction.{Fraction, over, frac, ratio, _≤F_, _≈_, negF, _+F_, _-F_, _*F_, absF, Unit01}
 use Rattle.exact.proofs.Scale.{At, at-le, le-at, at-eq, at-more, at-add, at-sub, at-mul, common}
 use Rattle.exact.proofs.Near.{le-trans, add-same}
-use Rattle.exact.proofs.Products.{eq-refl, back, at-zero, at-one, mul-same, le-same}
+use Rattle.exact.proofs.Products.{eq-refl, back, at-zero, at-one, at-count, mul-same, le-same}
 use Rattle.exact.proofs.NearProducts.{at-abs-le}
 use Rattle.exact.proofs.Magnitude.{at-same, abs-alike}
 use Rattle.cubic.specs.Mitchell.{
@@ -68,9 +68,6 @@ at-scaled {D} n m {x} {p} {q} X =
 
     whole : At 1 (ratio n m 1) n m
     whole = record { at = refl }
-
-at-whole : (D n : ℕ) → At D (frac n 1) (n * D) 0
-at-whole D n = record { at = omega arith }
 
 -- ---- the coefficients are whole numbers, four of them below 0
 record Wholes (B C : Fraction) (a b d a' b' c' d' : ℕ) : Type 0 where
@@ -137,7 +134,7 @@ nonneg a b d h x u = go (unit-split x u)
         let z = h p k in
         at-le (D * D * D) (mul-pos (mul-pos D0 D0) D0) (at-zero (D * D * D))
         (at-add (at-add (at-scaled a 0 (at-mul (at-mul X X) X)) (at-scaled 0 b (at-more (D * D) D (at-mul X X))))
-        (at-whole (D * D * D) d)) (omega arith)
+        (at-count (D * D * D) d)) (omega arith)
 
 -- 9 x^3 - 15 x^2 + 6
 pub catrom-nonneg : (x : Fraction) → Unit01 x → frac 0 1 ≤F nearF (frac 0 1) (frac 1 2) x
@@ -154,7 +151,7 @@ module _ (x : Fraction) (l : frac 1 1 ≤F x) (h : x ≤F frac 2 1) where
       common (x ∷ [])
       (λ D D0 ((_, _, X), _).
       let a = le-at D D0 (at-one D) X l in
-      let b = le-at D D0 X (at-whole D 2) h in
+      let b = le-at D D0 X (at-count D 2) h in
       let z = at-sub X (at-one D) in
       (at-le D D0 (at-zero D) z (omega arith), at-le D D0 z (at-one D) (omega arith)))
 
@@ -179,8 +176,8 @@ module _ (x : Fraction) (l : frac 1 1 ≤F x) (h : x ≤F frac 2 1) where
           (at-add
           (at-add (at-add (at-scaled 0 a (at-mul (at-mul X X) X)) (at-scaled b 0 (at-more (D * D) D (at-mul X X))))
           (at-scaled 0 c (at-more (D * D) D (at-more D D X))))
-          (at-whole (D * D * D) d))
-          (at-whole (D * D * D) 3) (omega arith) (omega arith)
+          (at-count (D * D * D) d))
+          (at-count (D * D * D) 3) (omega arith) (omega arith)
 
 -- -3 x^3 + 15 x^2 - 24 x + 12, which is -3 (x - 1) (2 - x)^2
 pub catrom-small : (x : Fraction) → frac 1 1 ≤F x → x ≤F frac 2 1 → absF (farF (frac 0 1) (frac 1 2) x) ≤F frac 3 1

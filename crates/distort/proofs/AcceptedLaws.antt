@@ -12,11 +12,11 @@ use lib.Ieee.{lt}
 use borrow.Author.Tests.{eqb-true, eqb-false, ltb-false, not-false}
 use Rattle.exact.specs.Fraction.{frac}
 use Rattle.exact.specs.Table.{firstOf}
+use Rattle.exact.proofs.Booleans.{or-false}
 use Rattle.exact.proofs.TableLaws.{row-passed, row-failed, no-rows, Numbered, first-part, second-part}
 use Rattle.arguments.specs.Method.{present}
 use Rattle.arguments.specs.Refusal as Arguments
 use Rattle.arguments.proofs.AcceptedLaws.{Accepted, accepted}
-use Rattle.arguments.proofs.CountLaws.{neither}
 use Rattle.mappings.specs.declared.mapping.Fitted.{Fitted}
 use Rattle.mappings.specs.declared.mapping.Mapping.{Mapping}
 use Rattle.fit.proofs.DegenerateLaws.{build-8}
@@ -82,8 +82,8 @@ module _ (p : Image) (g : Given) where
     codes : (not (present (g .method)) ≡ false) × ((g .policy ≤ 13) × (g .interpolation ≤ 8))
     unfolding badCode
     codes =
-        let a = neither (not (present (g .method))) (ltb 13 (g .policy) || ltb 8 (g .interpolation)) (t .code) in
-        let b = neither (ltb 13 (g .policy)) (ltb 8 (g .interpolation)) (a .1) in
+        let a = or-false (not (present (g .method))) (ltb 13 (g .policy) || ltb 8 (g .interpolation)) (t .code) in
+        let b = or-false (ltb 13 (g .policy)) (ltb 8 (g .interpolation)) (a .1) in
         (a .0, (ltb-false 13 (g .policy) (b .0), ltb-false 8 (g .interpolation) (b .1)))
 
     -- the four tests of refusal 5
@@ -99,9 +99,9 @@ module _ (p : Image) (g : Given) where
         let m : Bool = large (g .matte) 4 in
         let b : Bool = large (g .background) 4 in
         let s : Bool = large (p .bytes) (p .width * p .height * p .channels) in
-        let x = neither (Arguments.badNumber (g .arguments)) (s || (b || m)) (t .number) in
-        let y = neither s (b || m) (x .1) in
-        let z = neither b m (y .1) in
+        let x = or-false (Arguments.badNumber (g .arguments)) (s || (b || m)) (t .number) in
+        let y = or-false s (b || m) (x .1) in
+        let z = or-false b m (y .1) in
         record { arguments = x .0; samples = y .0; background = z .0; matte = z .1 }
 
     pub picture-passed : Picture (p .bytes) (p .width) (p .height) (p .channels)

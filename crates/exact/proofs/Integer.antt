@@ -3,10 +3,10 @@
 -- Assumes nothing.
 use mathlib.Core.Path.{_≡_, refl, sym, ap, _∙_}
 use Prim.Native.Nat.{ℕ, zero, suc, _+_, _-_, _^_, _≤_, _<_}
-use native.Mathlib.Nat.{zero-lt-suc, not-suc-le-zero, add-zero}
+use native.Mathlib.Nat.{le-refl, le-suc, zero-lt-suc, not-suc-le-zero, add-zero}
 use native.Mathlib.Omega.{arith}
 use mathlib.Core.Bool.{Bool, true, false, not, _&&_, cond}
-use lib.IntN.{ℤ, pos, negsuc, natAbs, subℕ, _+ℤ_, _-ℤ_, +ℤ-idr}
+use lib.IntN.{ℤ, pos, negsuc, negℤ, natAbs, subℕ, _+ℤ_, _-ℤ_, +ℤ-idr}
 use lib.Signed.{mag}
 use lib.Dec.{T, ltb, ltb→lt, lt→ltb, nltb→le, leb→le, le→leb}
 use lib.Ieee.{Format, prec, round, sum, add, sub, ofInt, inFloat, inSigned, toSigned}
@@ -18,6 +18,15 @@ use Rattle.exact.proofs.Operands.{same-test, add-values, sub-values}
 abbrev pub negative : ℤ → Bool
 negative (pos n) = false
 negative (negsuc n) = true
+
+pub natAbs-neg : (z : ℤ) → natAbs (negℤ z) ≡ natAbs z
+natAbs-neg (pos zero) = refl
+natAbs-neg (pos (suc n)) = refl
+natAbs-neg (negsuc n) = refl
+
+pub mag-le : (z : ℤ) → mag z ≤ natAbs z
+mag-le (pos n) = le-refl n
+mag-le (negsuc n) = le-suc n
 
 pub counted : (f : Format) (z : ℤ) → natAbs z ≤ 2 ^ prec f → T (inFloat f z)
 unfolding inFloat

@@ -1,5 +1,7 @@
 -- The laws, each file under its subject.
+pub mod Any
 pub mod Blend
+pub mod Booleans
 pub mod Bounds
 pub mod Cell
 pub mod Closest

@@ -2,33 +2,24 @@
 -- are comparisons of sizes. Provides: `at-same` (equal fractions stand alike at a scale); `Sized`, `sized-signed`,
 -- `sized-same`, `sized-more`, `sized-mul`; `size-le`, `le-size`; `abs-sized`, `abs-alike`; `sized-within`,
 -- `near-sized`. Assumes nothing.
-use mathlib.Core.Path.{_≡_, sym, ap, subst}
+use mathlib.Core.Path.{_≡_, sym, subst}
 use mathlib.Core.List.{[], _∷_}
 use mathlib.Core.Logic.{⊎-elim}
 use mathlib.Core.Bool.{Bool, true, false, cond}
 use Prim.Native.Nat.{ℕ, _+_, _*_, _≤_, _<_}
-use native.Mathlib.Nat.{eq-of-mul-eq-mul-right, mul-comm, mul-pos}
+use native.Mathlib.Nat.{mul-comm, mul-pos}
 use native.Mathlib.Omega.{arith}
 use lib.Ieee.{unlike}
 use Rattle.exact.specs.Fraction.{Fraction, over, _≤F_, _≈_, _*F_, absF, Within}
 use Rattle.exact.specs.Rounds.{signed}
-use Rattle.exact.proofs.Scale.{At, at-le, le-at, at-ratio, at-mul, at-more, over-pos, common}
+use Rattle.exact.proofs.Scale.{At, at-le, le-at, at-ratio, at-change, at-mul, at-more, over-pos, common}
 use Rattle.exact.proofs.Near.{at-abs, at-within, le-refl}
 use Rattle.exact.proofs.NearProducts.{abs-at, at-abs-le}
 
 -- ---- equal fractions stand alike
 pub at-same : {D : ℕ} {x y : Fraction} {p n : ℕ} → x ≈ y → At D x p n → At D y p n
-at-same {D} {x} {y} {p} {n} e X = record {
-  at = eq-of-mul-eq-mul-right (over x) (over-pos x) (y .plus * D + n * over y) (p * over y + y .minus * D)
-      (go (x .plus) (x .minus) (over x) (y .plus) (y .minus) (over y) D p n (e .eq) (X .at));
-}
-  where
-    go : (a b d c f e D p n : ℕ) → a * e + f * d ≡ c * d + b * e → a * D + n * d ≡ p * d + b * D
-        → (c * D + n * e) * d ≡ (p * e + f * D) * d
-    go a b d c f e D p n h k =
-        let h' : (a * e + f * d) * D ≡ (c * d + b * e) * D = ap (λ (z : ℕ). z * D) h in
-        let k' : (a * D + n * d) * e ≡ (p * d + b * D) * e = ap (λ (z : ℕ). z * e) k in
-        omega arith
+at-same {D} {x} {y} {p} {n} e X =
+    at-change (over x) D (x .plus) (x .minus) p n (over-pos x) (record { at = sym (e .eq) }) (X .at)
 
 -- ---- x is a / D, with the sign s
 abbrev pub Sized : ℕ → Fraction → Bool → ℕ → Type 0

@@ -35,6 +35,7 @@ use Rattle.exact.proofs.Scale.{
   at-eq,
   eq-at,
   at-ratio,
+  turn,
   at-neg,
   at-add,
   at-sub,
@@ -58,9 +59,6 @@ same a b d D p n h e =
 below : (a b d D p n : ℕ) → 0 < d → b ≤ a → a * D + n * d ≡ p * d + b * D → n ≤ p
 below a b d D p n d0 h e =
     le-of-mul-le-mul-right (let k : b * D ≤ a * D = mul-le-mul-right D h in let g : n * d ≤ p * d = omega arith in g) d0
-
-turn : (a b d D p n : ℕ) → a * D + n * d ≡ p * d + b * D → b * D + p * d ≡ n * d + a * D
-turn a b d D p n e = omega arith
 
 abbrev AbsAt : ℕ → Fraction → ℕ → ℕ → Type 0
 AbsAt D x p n = (At D x p n × (n ≤ p)) ⊎ (At D x n p × (p ≤ n))

@@ -54,6 +54,7 @@ use Rattle.exact.specs.Fraction.{
 use Rattle.exact.specs.Rounds.{Rounds, Close, power, half-ulp}
 use Rattle.exact.proofs.Scale.{At, lt-at, at-eq, at-add}
 use Rattle.exact.proofs.Near.{add-same}
+use Rattle.exact.proofs.Products.{at-zero}
 use Rattle.exact.proofs.Signed.{has-value, has-finite, finite-both, neg-value, neg-finite}
 use Rattle.exact.proofs.Magnitude.{Sized, sized-signed, sized-more, sized-mul, abs-sized}
 use Rattle.exact.proofs.Quotients.{at-div, at-div-neg}
@@ -139,16 +140,10 @@ quotient-rounds f s a t b D B {x} {y} X Y = go s t X Y
 digits : (t : Bool) (n : ℕ) (d : ℤ) → frac 0 1 <F absF (value (fin t n d)) → 0 < n * up d
 digits t n d h =
     go (n * up d)
-    (lt-at (down d) (down-pos d) (zero-at (down d)) (abs-sized (down d) (down-pos d) t (n * up d) (own t n d)) h)
+    (lt-at (down d) (down-pos d) (at-zero (down d)) (abs-sized (down d) (down-pos d) t (n * up d) (own t n d)) h)
   where
     go : (b : ℕ) → 0 + 0 < b + 0 → 0 < b
     go b h = omega arith
-
-    zero-at : (D : ℕ) → At D (frac 0 1) 0 0
-    zero-at D = record { at = flat D }
-      where
-        flat : (D : ℕ) → 0 * D + 0 * 1 ≡ 0 * 1 + 0 * D
-        flat D = omega arith
 
 pub div-rounds : (f : Format) (x y : Float) → T (finite x) → T (finite y) → frac 0 1 <F absF (value y)
     → Rounds f (div f x y) (value x /F value y)

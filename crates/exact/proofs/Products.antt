@@ -1,6 +1,6 @@
 -- Products of fractions: at one scale a product of fractions is a product of naturals, so each ring law is one omega,
 -- and each law of order is one omega from the rearrangement p a + n b ≤ p b + n a (n ≤ p, a ≤ b). Provides: `eq-refl`,
--- `_⨟_`, `back` (equality in chains); `at-zero`, `at-one` (0 and 1 at any scale); the ring: `mul-same`, `sub-same`,
+-- `_⨟_`, `back` (equality in chains); `at-zero`, `at-one`, `at-count` (at any scale); the ring: `mul-same`, `sub-same`,
 -- `mul-comm`, `mul-assoc`, `mul-one`, `one-mul`, `mul-zero`, `mul-add`, `add-mul`, `mul-sub`, `sub-mul`, `sub-neg`,
 -- `add-zero`, `add-comm`, `add-assoc`; the order: `lt-or-le`, `lt-le-trans`, `le-lt-trans`, `le-same`, `rearrange`,
 -- `mul-le`, `le-mul`, `mul-mono`, `nonneg-mul`, `mul-cancel-le`; from 0 to 1: `unit-zero`, `unit-one`, `unit-same`,
@@ -8,11 +8,9 @@
 use mathlib.Core.Path.{_≡_, refl, ap, _∙_, subst}
 use mathlib.Core.List.{[], _∷_}
 use mathlib.Core.Logic.{_⊎_, inl, inr, ⊎-elim}
-use mathlib.Core.Bool.{Bool, true, false, not}
 use Prim.Native.Nat.{ℕ, _+_, _-_, _*_, _≤_, _<_}
 use native.Mathlib.Nat.{mul-le-mul-right, mul-pos, le-of-mul-le-mul-right}
 use native.Mathlib.Omega.{arith}
-use lib.Dec.{T, ltb, ltb→lt, nltb→le}
 use Rattle.exact.specs.Fraction.{Fraction, over, frac, _≤F_, _<F_, _≈_, negF, _+F_, _-F_, _*F_, Unit01}
 use Rattle.exact.proofs.Scale.{
   At,
@@ -28,6 +26,7 @@ use Rattle.exact.proofs.Scale.{
   at-mul,
   common,
 }
+use Rattle.exact.proofs.Naturals as Naturals
 use Rattle.exact.proofs.Near.{eq-sym, eq-trans, eq-le, le-trans}
 
 -- ---- equality in chains
@@ -41,12 +40,15 @@ _⨟_ {x} {y} {z} h k = eq-trans x y z h k
 pub back : {x y : Fraction} → x ≈ y → y ≈ x
 back {x} {y} h = eq-sym x y h
 
--- ---- 0 and 1 at any scale
+-- ---- 0, 1 and n at any scale
 pub at-zero : (D : ℕ) → At D (frac 0 1) 0 0
 at-zero D = record { at = omega arith }
 
 pub at-one : (D : ℕ) → At D (frac 1 1) D 0
 at-one D = record { at = omega arith }
+
+pub at-count : (D n : ℕ) → At D (frac n 1) (n * D) 0
+at-count D n = record { at = omega arith }
 
 -- ---- equal parts
 module _ {x x' y y' : Fraction} where
@@ -147,14 +149,7 @@ module _ (x y z : Fraction) where
 -- ---- the order
 pub lt-or-le : (x y : Fraction) → (x <F y) ⊎ (y ≤F x)
 lt-or-le x y = ⊎-elim (λ h. inl (record { lt = h })) (λ h. inr (record { le = h }))
-    (side (x .plus * over y + y .minus * over x) (y .plus * over x + x .minus * over y))
-  where
-    side : (a b : ℕ) → (a < b) ⊎ (b ≤ a)
-    side a b = go (ltb a b) (ltb→lt a b) (nltb→le a b)
-      where
-        go : (t : Bool) → (T t → a < b) → (T (not t) → b ≤ a) → (a < b) ⊎ (b ≤ a)
-        go true h k = inl (h tt)
-        go false h k = inr (k tt)
+    (Naturals.lt-or-le (x .plus * over y + y .minus * over x) (y .plus * over x + x .minus * over y))
 
 pub le-same : {x x' y y' : Fraction} → x ≈ x' → y ≈ y' → x ≤F y → x' ≤F y'
 le-same {x} {x'} {y} {y'} h k l = le-trans x' x y' (eq-le x' x (back h)) (le-trans x y y' l (eq-le y y' k))

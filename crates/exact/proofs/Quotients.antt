@@ -7,12 +7,12 @@ use mathlib.Core.List.{[], _∷_}
 use mathlib.Core.Logic.{⊎-elim}
 use mathlib.Core.Bool.{Bool, true, false, not, cond}
 use Prim.Native.Nat.{ℕ, _+_, _-_, _*_, _≤_, _<_}
-use native.Mathlib.Nat.{mul-pos, eq-of-mul-eq-mul-right}
+use native.Mathlib.Nat.{mul-pos}
 use native.Mathlib.Nat as N
 use native.Mathlib.Omega.{arith}
 use lib.Dec.{T, ltb, ltb→lt, nltb→le}
 use Rattle.exact.specs.Fraction.{Fraction, over, ratio, frac, _≤F_, _<F_, _≈_, _+F_, _*F_, _/F_, absF, Within}
-use Rattle.exact.proofs.Scale.{At, lt-at, at-eq, at-more, at-ratio, at-mul, over-pos, common}
+use Rattle.exact.proofs.Scale.{At, lt-at, at-eq, at-more, at-ratio, at-change, turn, at-mul, over-pos, common}
 use Rattle.exact.proofs.Near.{
   le-refl,
   le-trans,
@@ -44,21 +44,6 @@ use Rattle.exact.proofs.Products.{
 use Rattle.exact.proofs.NearProducts.{within-like, mul-within, within-nonneg}
 
 -- ---- the working form
--- the same number at another scale
-at-change : {r : Fraction} (d E a b p n : ℕ) → 0 < d → At d r a b → a * E + n * d ≡ p * d + b * E → At E r p n
-at-change {r} d E a b p n d0 R h =
-    record {
-      at = eq-of-mul-eq-mul-right d d0 (r .plus * E + n * over r) (p * over r + r .minus * E)
-          (go (r .plus) (r .minus) (over r) d E a b p n (R .at) h);
-    }
-  where
-    go : (u w o d E a b p n : ℕ) → u * d + b * o ≡ a * o + w * d → a * E + n * d ≡ p * d + b * E
-        → (u * E + n * o) * d ≡ (p * o + w * E) * d
-    go u w o d E a b p n h k =
-        let h' : (u * d + b * o) * E ≡ (a * o + w * d) * E = ap (λ (z : ℕ). z * E) h in
-        let k' : (a * E + n * d) * o ≡ (p * d + b * E) * o = ap (λ (z : ℕ). z * o) k in
-        omega arith
-
 -- (u - w) D is o (q - m), with both differences above 0
 gap : (u w o D q m : ℕ) → 0 < o → u * D + m * o ≡ q * o + w * D → m < q → (w < u) × (o * (q - m) ≡ (u - w) * D)
 gap u w o D q m o0 h k =
@@ -87,9 +72,6 @@ quotient a b d e D E k p n d0 k0 h g =
     let g1 : a * (e * E) ≡ a * (k * D) = ap (λ (z : ℕ). a * z) g in
     let g2 : b * (e * E) ≡ b * (k * D) = ap (λ (z : ℕ). b * z) g in
     omega arith)
-
-turn : (a b d D p n : ℕ) → a * D + n * d ≡ p * d + b * D → b * D + p * d ≡ n * d + a * D
-turn a b d D p n e = omega arith
 
 positive : (w u : ℕ) → w < u → 0 < u - w
 positive w u h = omega arith

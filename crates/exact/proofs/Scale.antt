@@ -1,7 +1,8 @@
 -- The working form of a fraction: `At D x p n` says that x is (p - n) / D. At one scale D the order of fractions is an
 -- order of naturals, sums are sums and products are products, so a linear fact about fractions is one omega about
 -- naturals. Provides: `at-le`, `le-at`, `at-lt`, `lt-at`, `at-eq`, `eq-at` (both ways), `at-own`, `at-more`,
--- `at-ratio`, `at-neg`, `at-add`, `at-sub`, `at-mul`, and `common`, one scale for a list of fractions. Assumes nothing.
+-- `at-ratio`, `at-change`, `at-neg`, `at-add`, `at-sub`, `at-mul`, and `common`, one scale for a list of fractions;
+-- `turn`. Assumes nothing.
 use mathlib.Core.Path.{_≡_, refl, sym, ap, _∙_, subst}
 use mathlib.Core.List.{List, [], _∷_}
 use Prim.Native.Nat.{ℕ, suc, _+_, _-_, _*_, _≤_, _<_}
@@ -111,13 +112,29 @@ at-ratio p m d h = record { at = go p m d (suc (d - 1)) (omega arith) }
     go p m d d' e = let a : p * d' ≡ p * d = ap (λ (z : ℕ). p * z) e in let b : m * d' ≡ m * d =
         ap (λ (z : ℕ). m * z) e in omega arith
 
+-- the same number at another scale
+pub at-change : {r : Fraction} (d E a b p n : ℕ) → 0 < d → At d r a b → a * E + n * d ≡ p * d + b * E → At E r p n
+at-change {r} d E a b p n d0 R h =
+    record {
+      at = eq-of-mul-eq-mul-right d d0 (r .plus * E + n * over r) (p * over r + r .minus * E)
+          (go (r .plus) (r .minus) (over r) d E a b p n (R .at) h);
+    }
+  where
+    go : (u w o d E a b p n : ℕ) → u * d + b * o ≡ a * o + w * d → a * E + n * d ≡ p * d + b * E
+        → (u * E + n * o) * d ≡ (p * o + w * E) * d
+    go u w o d E a b p n h k =
+        let h' : (u * d + b * o) * E ≡ (a * o + w * d) * E = times E h in
+        let k' : (a * E + n * d) * o ≡ (p * d + b * E) * o = times o k in
+        omega arith
+
 -- ---- the operations at a scale
+-- the other way round
+pub turn : (a b d D p n : ℕ) → a * D + n * d ≡ p * d + b * D → b * D + p * d ≡ n * d + a * D
+turn a b d D p n h = omega arith
+
 pub at-neg : {D : ℕ} {x : Fraction} {p n : ℕ} → At D x p n → At D (negF x) n p
 unfolding negF
-at-neg {D} {x} {p} {n} X = record { at = go (x .plus) (x .minus) (over x) D p n (X .at) }
-  where
-    go : (a b d D p n : ℕ) → a * D + n * d ≡ p * d + b * D → b * D + p * d ≡ n * d + a * D
-    go a b d D p n h = omega arith
+at-neg {D} {x} {p} {n} X = record { at = turn (x .plus) (x .minus) (over x) D p n (X .at) }
 
 pub at-add : {D : ℕ} {x y : Fraction} {p n q m : ℕ} → At D x p n → At D y q m → At D (x +F y) (p + q) (n + m)
 unfolding _+F_

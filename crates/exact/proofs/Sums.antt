@@ -15,13 +15,14 @@ use Rattle.exact.specs.Loop.{upTo}
 use Rattle.exact.specs.Fraction.{Fraction, frac, value, _≤F_, _≈_, _+F_, _*F_, absF}
 use Rattle.exact.specs.Rounds.{Rounds, Close, fine}
 use Rattle.exact.specs.Sums.{summedF}
-use Rattle.exact.proofs.Scale.{At, at-eq, at-le, le-at, at-add, at-mul, at-more, common}
+use Rattle.exact.proofs.Scale.{at-eq, at-le, le-at, at-add, at-mul, at-more, common}
 use Rattle.exact.proofs.Near.{le-refl, le-trans, eq-le, within-same, within-add, add-mono, add-same}
 use Rattle.exact.proofs.Products.{
   eq-refl,
   _⨟_,
   back,
   at-zero,
+  at-count,
   le-same,
   le-mul,
   add-comm,
@@ -67,9 +68,6 @@ module _ {f : Format} {h B : Fraction} (step : Step f h B) where
   mul-near x y p q k = step .rounds (mul-rounds f x y p q) k
 
 -- ---- n times a fraction
-at-count : (D n : ℕ) → At D (frac n 1) (n * D) 0
-at-count D n = record { at = omega arith }
-
 pub count-next : (n : ℕ) (x : Fraction) → frac n 1 *F x +F x ≈ frac (suc n) 1 *F x
 count-next n x =
     common (x ∷ []) (λ D D0 ((_, _, X), _). at-eq (D * D) (mul-pos D0 D0)

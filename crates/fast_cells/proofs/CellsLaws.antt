@@ -1,8 +1,8 @@
 -- The laws of filled arrays: what a turn stores is a cell, a store more makes the span longer by one, and once the
 -- answer is false nothing is claimed. Assumes nothing.
-use mathlib.Core.Path.{_≡_, refl, sym, ap, _∙_, subst}
+use mathlib.Core.Path.{_≡_, sym, ap, _∙_, subst}
 use mathlib.Core.Logic.{_≢_}
-use mathlib.Core.Bool.{Bool, true, false, cond, _&&_, false≢true}
+use mathlib.Core.Bool.{Bool, true, cond, _&&_}
 use mathlib.Core.List.{List}
 use Prim.Native.Nat.{ℕ, _+_, _≤_, _<_}
 use native.Mathlib.Nat.{not-suc-le-zero}
@@ -16,6 +16,7 @@ use lib.Ieee.{Float, nan}
 use lib.Ieee.Bits.{is-true}
 use Rattle.exact.specs.Double.{_⊖_}
 use Rattle.exact.specs.Warp.{half}
+use Rattle.exact.proofs.Booleans.{both}
 use Rattle.number.specs.Floor.{floorℤ}
 use Rattle.number.specs.Magnitude.{within}
 use Rattle.number.proofs.FloorLaws.{floor-integer}
@@ -26,11 +27,6 @@ use Rattle.taps.proofs.CellFloor.{usable-reached}
 use Rattle.fast_cells.specs.Cells.{Cell, Cells}
 use Rattle.fast_cells.specs.Inner.{nought, inner}
 use Rattle.fast_cells.proofs.InnerLaws.{floored-of, usable-of}
-
--- ---- both of two tests
-pub both : (a b : Bool) → (a && b) ≡ true → (a ≡ true) × (b ≡ true)
-both true b h = (refl, h)
-both false b h = absurd (false≢true h)
 
 -- ---- one cell
 module _ (reach : ℕ) (R : reach ≤ 65536) (u : Float) where

@@ -15,6 +15,7 @@ use lib.Seq.{getD-set-same, getD-set-other}
 use lib.Ieee.{Float, nan}
 use Rattle.exact.specs.Double.{_⊕_, _⊖_}
 use Rattle.exact.specs.Warp.{half}
+use Rattle.exact.proofs.Booleans.{both}
 use Rattle.number.specs.Floor.{floorℤ}
 use Rattle.number.proofs.FloorLaws.{floor-integer}
 use Rattle.taps.specs.Interpolation.{
@@ -29,7 +30,7 @@ use Rattle.taps.specs.Interpolation.{
 use Rattle.taps.proofs.CellFloor.{usable-reached}
 use Rattle.fast_cells.specs.Cells.{Place, Places}
 use Rattle.fast_cells.specs.Inner.{nought, inner, nearby}
-use Rattle.fast_cells.proofs.CellsLaws.{both, cell}
+use Rattle.fast_cells.proofs.CellsLaws.{cell}
 use Rattle.fast_cells.proofs.NearestLaws.{nearby-usable, nearby-floored}
 
 -- ---- one place

@@ -2,14 +2,13 @@
 -- most 1, so that the weighted mean is bounded. Provides: `picture-bounded`, `bounded-numbers`, `pixel-numbers`,
 -- `blend-numbers`. Assumes nothing.
 use mathlib.Core.Path.{_≡_, refl, subst}
-use mathlib.Core.Bool.{Bool, true, false, not}
+use mathlib.Core.Bool.{Bool, true, false}
 use mathlib.Core.List.{List, [], _∷_}
 use Prim.Native.Nat.{ℕ, zero, suc, _+_, _*_, _^_, _≤_, _<_}
 use native.Mathlib.Omega.{arith}
 use lib.Dec.{T, le→leb, lit≤}
 use lib.ListN.{length}
-use lib.Ieee.{Float, nan, inf, fin, binary32, isNan, ofBits}
-use lib.Ieee.Scale.{finite}
+use lib.Ieee.{Float, binary32, ofBits}
 use Rattle.exact.specs.Fraction.{frac, _+F_, _*F_, absF}
 use Rattle.exact.specs.Single.{_⊗_}
 use Rattle.exact.specs.Weighted.{Unit32}
@@ -22,6 +21,7 @@ use Rattle.picture.specs.Pixel.{Limited, Picture, pixelAt}
 use Rattle.picture.specs.declared.colour.Rgba.{Rgba}
 use Rattle.taps.specs.Weighted.{Bounded, BoundedBy, tapAt, weightAt, weighted}
 use Rattle.taps.specs.Weights.{fourWeights}
+use Rattle.taps.proofs.CellFloor.{finite-number}
 use Rattle.taps.proofs.WeightedFinite.{most, weighted-bounded}
 use Rattle.taps.proofs.WeightedWeights.{bilinear-bounded}
 use Rattle.sampler.specs.Finite.{BoundedPicture}
@@ -50,12 +50,6 @@ picture-bounded {bytes} {w} {h} {channels} P =
     room k n l e = omega arith
 
 -- ---- colours
-number-is : (x : Float) → T (finite x) → T (not (isNan x))
-unfolding isNan
-number-is nan h = h
-number-is (inf s) h = tt
-number-is (fin s m e) h = tt
-
 -- one product of the luma, by a number of at most 1
 part-bounded : {k x : Float} → Bounded (frac 1 1) k → Bounded most x → Bounded most (k ⊗ x)
 part-bounded p q = mul-bounded (step-fine binary32 216 (2 ^ 67) 1 (2 ^ 42) 1 tt) p q (unfold _*F_ in
@@ -74,11 +68,11 @@ luma-bounded B =
 pub bounded-numbers : {c : Rgba} → BoundedBy most c → Numbers c
 bounded-numbers {c} B =
     record {
-      red = number-is (c .r) (B .red .number);
-      green = number-is (c .g) (B .green .number);
-      blue = number-is (c .b) (B .blue .number);
-      alpha = number-is (c .a) (B .alpha .number);
-      grey = number-is (luma c) (luma-bounded B .number);
+      red = finite-number (c .r) (B .red .number);
+      green = finite-number (c .g) (B .green .number);
+      blue = finite-number (c .b) (B .blue .number);
+      alpha = finite-number (c .a) (B .alpha .number);
+      grey = finite-number (luma c) (luma-bounded B .number);
     }
 
 pub pixel-numbers : {bytes : List ℕ} {w h channels : ℕ} → Picture bytes w h channels → (x y : ℕ) → x < w → y < h

@@ -24,7 +24,7 @@ use Rattle.sampler.proofs.SixteenCode.{cubic-inside}
 use Rattle.band.specs.Band.{shown, keptColour, keptMatte, pixelBytes}
 use Rattle.band.specs.Joined.{joined, totalled}
 use Rattle.fast_cubic.specs.Kernels.{Kernels, ofFour}
-use Rattle.fast_cubic.proofs.KernelLaws.{both}
+use Rattle.exact.proofs.Booleans.{both}
 use Rattle.fast_cubic.specs.FourByFours.{FourByFours, Past, Standing, fourByFour}
 use Rattle.band.proofs.JoinedLaws.{joined-same}
 use Rattle.fast_colours.proofs.PlainLaws.{marked, no-matte, no-mattes}

@@ -1,9 +1,9 @@
 -- The weights of a span: between a cell's ends the four weights are those of known pieces, and a turn more weighs a
 -- fraction more. Provides: `Weighing4`, `weigh4-none`, `weigh4-more`, `weigh4-last` (the loop); `kernel-catrom`,
 -- `kernel-spline` (by the code); `both-true` (two answers). Assumes nothing.
-use mathlib.Core.Path.{_≡_, refl, _∙_}
+use mathlib.Core.Path.{_≡_, _∙_}
 use mathlib.Core.Logic.{_≢_}
-use mathlib.Core.Bool.{Bool, true, false, _&&_, false≢true}
+use mathlib.Core.Bool.{Bool, true, _&&_}
 use mathlib.Core.List.{List, [], _∷_}
 use Prim.Native.Nat.{ℕ, _+_, _≤_, _<_}
 use native.Mathlib.Nat.{not-suc-le-zero}
@@ -15,6 +15,7 @@ use lib.ListN.{length, set, length-set}
 use lib.Seq.{getD-set-same, getD-set-other}
 use lib.Ieee.{Float, nan}
 use Rattle.exact.specs.Vector.{at}
+use Rattle.exact.proofs.Booleans.{both}
 use Rattle.cubic.specs.Cubic as Cubic
 use Rattle.cubic.specs.Cubic.{cubicWeights}
 use Rattle.taps.specs.Interpolation.{catromCode}
@@ -22,10 +23,6 @@ use Rattle.sampler.specs.Sixteen.{kernel}
 use Rattle.fast_colours.specs.Plain.{Sized}
 use Rattle.fast_colours.proofs.PlainLaws.{put}
 use Rattle.fast_cubic.specs.Kernels.{Weighed4, Kernels}
-
-pub both : (a b : Bool) → (a && b) ≡ true → (a ≡ true) × (b ≡ true)
-both true b h = (refl, h)
-both false b h = absurd (false≢true h)
 
 -- ---- the loop over weights
 -- four lists of 64 places

@@ -31,6 +31,7 @@ use Rattle.mappings.specs.Mapping.{
   solvedOr8,
 }
 use Rattle.exact.specs.Vector.{Vector}
+use Rattle.exact.proofs.Booleans.{either}
 use Rattle.fit.specs.Perspective.{forward, perspectiveProjection, perspective}
 use Rattle.fit.specs.Shepards.{shepards}
 use Rattle.fit.proofs.BuildLaws.{few-pairs}
@@ -43,11 +44,6 @@ pub record Room (f : Fitted) : Type 0 where
   pub poly : f .mapping .kind ≡ polyKind → f .mapping .count ≤ 42
 
 -- ---- from a list
-
-either : {A : Type 0} (P : A → Type 0) (b : Bool) {x y : A} → P x → P y → P (cond b x y)
-either P true p q = p
-either P false p q = q
-
 refused-room : (number : ℕ) → Room (refused number)
 unfolding refused mapping
 refused-room number = record { all = lit≤ tt; poly = λ e. lit≤ tt }

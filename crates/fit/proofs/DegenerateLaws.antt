@@ -2,13 +2,14 @@
 -- solution or no inverse. By the cases of `made`. Assumes nothing.
 use mathlib.Core.Path.{_≡_, refl}
 use mathlib.Core.Logic.{_⊎_, inl, inr}
-use mathlib.Core.Bool.{Bool, true, false, cond}
+use mathlib.Core.Bool.{Bool, true, false}
 use mathlib.Core.List.{List}
 use Prim.Native.Nat.{ℕ}
 use lib.Dec.{eqb}
 use lib.IntN.{pos}
 use lib.Ieee.{Float, binary64, ofInt}
 use borrow.Author.Tests.{eq-eqb}
+use Rattle.exact.proofs.Booleans.{either}
 use Rattle.arguments.specs.Refusal.{pairsOf, refusal}
 use Rattle.arguments.specs.Store.{countOf, valuesOf, orderOf}
 use Rattle.mappings.specs.declared.mapping.Fitted.{Fitted}
@@ -26,10 +27,6 @@ use Rattle.fit.specs.Shepards.{shepards}
 -- a mapping, or refusal 8
 pub record NoneOr8 (f : Fitted) : Type 0 where
   pub number : (f .refusal ≡ 0) ⊎ (f .refusal ≡ 8)
-
-either : {A : Type 0} (P : A → Type 0) (b : Bool) {x y : A} → P x → P y → P (cond b x y)
-either P true p q = p
-either P false p q = q
 
 none : (m : Mapping) → NoneOr8 (fitted m)
 none m = record { number = inl refl }

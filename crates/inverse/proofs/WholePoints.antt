@@ -20,11 +20,11 @@ use Rattle.mappings.specs.Mapping.{
 }
 use Rattle.point.specs.Point.{point, Whole}
 use Rattle.point.specs.Course.{on}
+use Rattle.exact.proofs.Booleans.{either}
 use Rattle.point.proofs.WholeLaws.{
   point-whole,
   none-whole,
   unless-whole,
-  either,
   Leaves,
   goes,
   left,

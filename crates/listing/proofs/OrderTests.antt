@@ -8,6 +8,7 @@ use native.Mathlib.Nat.{eq-or-lt-of-le}
 use native.Mathlib.Omega.{arith}
 use lib.Dec.{T, eqb, ltb, eqb→eq, ltb→lt}
 use lib.Ieee.Fits.{eq→eqb}
+use Rattle.exact.proofs.Booleans.{both-pass}
 use Rattle.listing.specs.Names.{none, columnOf, placed, slotOf}
 use Rattle.listing.specs.Text.{Order, allNames, allUnlike, isOrder}
 use Rattle.listing.proofs.OrderLaws.{names1, names2, names3, namesOf, Fine, isFree, isBack}
@@ -18,9 +19,6 @@ below : ℕ → (ℕ → Bool) → Bool
 below zero f = true
 below (suc n) f = f n && below n f
 
-both : (a b : Bool) → T (a && b) → T a × T b
-both true b h = (tt, h)
-
 implied : (a b : Bool) → T (not a || b) → T a → T b
 implied true b h k = h
 
@@ -30,8 +28,8 @@ at-most k n l = omega (arith, l)
 at-below : (n : ℕ) (f : ℕ → Bool) → T (below n f) → (k : ℕ) → k < n → T (f k)
 unfolding below
 at-below (suc n) f h k l = elim (eq-or-lt-of-le (at-most k n l)) [
-  | inl e ↦ subst (λ (j : ℕ). T (f j)) (sym e) (both (f n) (below n f) h .0)
-  | inr g ↦ at-below n f (both (f n) (below n f) h .1) k g
+  | inl e ↦ subst (λ (j : ℕ). T (f j)) (sym e) (both-pass (f n) (below n f) h .0)
+  | inr g ↦ at-below n f (both-pass (f n) (below n f) h .1) k g
 ]
 
 abbrev four : ℕ → ℕ → ℕ → ℕ → Order
@@ -47,21 +45,21 @@ tested = tt
 
 parts : (a b c d : Bool) → T (a && (b && (c && d))) → T a × (T b × (T c × T d))
 parts true b c d t =
-    let q = both b (c && d) t in
-    (tt, (q .0, both c d (q .1)))
+    let q = both-pass b (c && d) t in
+    (tt, (q .0, both-pass c d (q .1)))
 
 pub fine : (o : Order) → T (isOrder o) → Fine o
 unfolding test isOrder
 fine o h =
     let l = parts (ltb (o .col0) 4) (ltb (o .col1) 4) (ltb (o .col2) 4) (ltb (o .col3) 4)
-    (both (allNames o) (allUnlike o) h .0) in
+    (both-pass (allNames o) (allUnlike o) h .0) in
     let l0 = ltb→lt (o .col0) 4 (l .0) in
     let l1 = ltb→lt (o .col1) 4 (l .1 .0) in
     let l2 = ltb→lt (o .col2) 4 (l .1 .1 .0) in
     let l3 = ltb→lt (o .col3) 4 (l .1 .1 .1) in
     let t = at-below 4 _ (at-below 4 _ (at-below 4 _ (at-below 4 _ tested (o .col0) l0) (o .col1) l1) (o .col2) l2)
     (o .col3) l3 in
-    let b = both (isFree o) (isBack o) (implied (isOrder o) (isFree o && isBack o) t h) in
+    let b = both-pass (isFree o) (isBack o) (implied (isOrder o) (isFree o && isBack o) t h) in
     let f =
     parts (eqb (columnOf none (o .col0)) 4) (eqb (columnOf (names1 o) (o .col1)) 4)
     (eqb (columnOf (names2 o) (o .col2)) 4)

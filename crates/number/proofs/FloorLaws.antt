@@ -9,16 +9,10 @@ use lib.IntN.{ℤ, pos, negsuc, negℤ, natAbs}
 use lib.Dec.{T, leb→le}
 use lib.Ieee.{Float, nan, inf, fin, binary64, up, down, ofBits, ofInt}
 use lib.Ieee.Fits.{down-pos}
+use Rattle.exact.proofs.Booleans.{yes-of, no-of}
+use Rattle.exact.proofs.Floor.{plusℤ, minusℤ}
+use Rattle.exact.proofs.Integer.{natAbs-neg}
 use Rattle.number.specs.Floor.{ceilDiv, floorℤ, inDomain, isZero, floorI64, floorF64}
-
--- an integer is plus z - less z, and one of the two is 0
-abbrev pub plus : ℤ → ℕ
-plus (pos n) = n
-plus (negsuc n) = 0
-
-abbrev pub less : ℤ → ℕ
-less (pos n) = 0
-less (negsuc n) = suc n
 
 -- ---- the quotients
 div-below : (a c : ℕ) → 0 < c → a < suc (a / c) * c
@@ -26,19 +20,19 @@ div-below a c P = div-lt-iff-lt-mul P .0 (le-refl (suc (a / c)))
 
 -- -q, where q is a / c rounded up: q * c is a or more, by less than c
 negative-below : (a c q : ℕ) → q * c ≤ a + (c - 1) → a + (c - 1) < suc q * c → 0 < c
-    → plus (negℤ (pos q)) * c + a ≤ 0 + less (negℤ (pos q)) * c
+    → plusℤ (negℤ (pos q)) * c + a ≤ 0 + minusℤ (negℤ (pos q)) * c
 negative-below a c zero lo hi P = omega arith
 negative-below a c (suc q) lo hi P = omega arith
 
 negative-above : (a c q : ℕ) → q * c ≤ a + (c - 1) → a + (c - 1) < suc q * c → 0 < c
-    → 0 + less (negℤ (pos q)) * c < a + plus (negℤ (pos q)) * c + c
+    → 0 + minusℤ (negℤ (pos q)) * c < a + plusℤ (negℤ (pos q)) * c + c
 negative-above a c zero lo hi P = omega arith
 negative-above a c (suc q) lo hi P = omega arith
 
 -- ---- floor x ≤ x < floor x + 1, over the denominator of x = ±(m * up e) / down e
 pub floor-below : (s : Bool) (m : ℕ) (e : ℤ)
-    → plus (floorℤ (fin s m e)) * down e + cond s (m * up e) 0 ≤ cond s 0 (m * up e) + less (floorℤ (fin s m e)) * down
-    e
+    → plusℤ (floorℤ (fin s m e)) * down e + cond s (m * up e) 0 ≤ cond s 0 (m * up e) + minusℤ (floorℤ (fin s m e)) *
+    down e
 unfolding floorℤ
 floor-below false m e = let h = div-mul-le-self (m * up e) (down e) in omega arith
 floor-below true m e = negative-below (m * up e) (down e) (ceilDiv (m * up e) (down e))
@@ -46,8 +40,8 @@ floor-below true m e = negative-below (m * up e) (down e) (ceilDiv (m * up e) (d
     (down-pos e)
 
 pub floor-above : (s : Bool) (m : ℕ) (e : ℤ)
-    → cond s 0 (m * up e) + less (floorℤ (fin s m e)) * down e < cond s (m * up e) 0 + plus (floorℤ (fin s m e)) * down
-    e + down e
+    → cond s 0 (m * up e) + minusℤ (floorℤ (fin s m e)) * down e < cond s (m * up e) 0 + plusℤ (floorℤ (fin s m e)) *
+    down e + down e
 unfolding floorℤ
 floor-above false m e = let h = div-below (m * up e) (down e) (down-pos e) in omega arith
 floor-above true m e = negative-above (m * up e) (down e) (ceilDiv (m * up e) (down e))
@@ -55,10 +49,6 @@ floor-above true m e = negative-above (m * up e) (down e) (ceilDiv (m * up e) (d
     (down-pos e)
 
 -- ---- its size
-abs-neg : (q : ℕ) → natAbs (negℤ (pos q)) ≡ q
-abs-neg zero = refl
-abs-neg (suc q) = refl
-
 pub floor-size : (x : Float) → T (inDomain x) → natAbs (floorℤ x) ≤ 2147483648
 unfolding floorℤ inDomain
 floor-size nan d = absurd d
@@ -70,18 +60,10 @@ floor-size (fin false m e) d =
 floor-size (fin true m e) d =
     let h = leb→le (m * up e) (2147483648 * down e) d in
     let p = down-pos e in
-    subst (λ (q : ℕ). q ≤ 2147483648) (sym (abs-neg (ceilDiv (m * up e) (down e))))
+    subst (λ (q : ℕ). q ≤ 2147483648) (sym (natAbs-neg (pos (ceilDiv (m * up e) (down e)))))
     (le-of-suc-le-suc (div-lt-iff-lt-mul (down-pos e) .1 (omega arith)))
 
 -- ---- the two answers, in the domain and outside it
-yes-of : {A : Type 0} (b : Bool) (x y : A) → T b → cond b x y ≡ x
-yes-of true x y t = refl
-yes-of false x y t = absurd t
-
-no-of : {A : Type 0} (b : Bool) (x y : A) → T (not b) → cond b x y ≡ y
-no-of true x y t = absurd t
-no-of false x y t = refl
-
 module _ (x : Float) where
   pub floor-integer : T (inDomain x) → floorI64 x ≡ floorℤ x
   unfolding floorI64

@@ -2,14 +2,14 @@
 -- with the sign's bit taken off. By the cases of a value. Assumes nothing.
 use mathlib.Core.Path.{_≡_, refl, sym, ap, _∙_}
 use mathlib.Core.Bool.{Bool, true, false, cond}
-use Prim.Native.Nat.{ℕ, zero, suc, _+_, _-_, _/_, _%_, _<_}
-use native.Mathlib.Nat.{mul-pos, zero-lt-suc, mod-lt, mod-eq-of-lt, mod-mod-of-dvd, dvd-mul-right}
+use Prim.Native.Nat.{ℕ, zero, suc, _+_, _-_, _/_, _%_}
+use native.Mathlib.Nat.{mod-lt, mod-eq-of-lt, mod-mod-of-dvd, dvd-mul-right}
 use lib.Dec.{T, leb, eqb}
-use lib.Pow.{pow-pos}
 use lib.Ieee.{Float, nan, inf, fin, Format, neg, le, fits, isNan, prec, low, odd, hid, ones, top, ofFields, ofBits}
 use lib.Ieee.Exact.{HasValue}
 use lib.Ieee.Scale.{finite}
 use borrow.Author.Tests.{lt-leb}
+use Rattle.exact.proofs.Formats.{top-pos}
 use Rattle.number.specs.Magnitude.{abs}
 
 pub abs-fits : (f : Format) (x : Float) → T (fits f x) → T (fits f (abs x))
@@ -87,6 +87,3 @@ abs-bits f n =
     (sym (lt-leb (top f) (n % top f) (mod-lt n (top-pos f))))
     ∙ (λ i. ofFields f (leb (top f) (n % top f)) (sym (mod-eq-of-lt (mod-lt n (top-pos f))) i / hid f)
     (sym (mod-mod-of-dvd (hid f) n (dvd-mul-right (hid f) (suc (ones f)))) i))
-  where
-    top-pos : (f : Format) → 0 < top f
-    top-pos f = mul-pos (pow-pos (prec f - 1)) (zero-lt-suc (ones f))

@@ -1,16 +1,17 @@
 -- Where the test of the samples finds none that is large, each is a number of at most 65,536, and its pattern is at
 -- most that number's: one that is not would have made the test true for good, since no turn makes it false again.
 -- Provides: `all-within` (of the values), `limited-by` (of the patterns). Assumes nothing.
-use mathlib.Core.Path.{_≡_, refl, sym, ap, _∙_, subst}
-use mathlib.Core.Bool.{Bool, true, false, not, _||_, true≢false}
+use mathlib.Core.Path.{_≡_, sym, _∙_, subst}
+use mathlib.Core.Bool.{Bool, true, false, not, _||_}
 use mathlib.Core.List.{List}
-use Prim.Native.Nat.{ℕ, _+_, _*_, _%_, _≤_, _<_, zero-le}
+use Prim.Native.Nat.{ℕ, _+_, _*_, _%_, _≤_, _<_}
 use native.Mathlib.Omega.{arith}
+use borrow.Author.Tests.{not-false}
 use lib.Dec.{T, leb→le, lit≤}
 use lib.ListN.{length}
 use lib.Ieee.{Float, binary32, ofBits}
 use Rattle.exact.specs.Loop.{upTo}
-use Rattle.exact.proofs.Loop.{upTo-next, upTo-keep, upTo-join}
+use Rattle.exact.proofs.Any.{none-each}
 use Rattle.endian.specs.Bytes.{u32At, sampleAt}
 use Rattle.number.specs.Magnitude.{within}
 use Rattle.number.proofs.MagnitudeTests.{within-bits}
@@ -19,30 +20,15 @@ use Rattle.picture.specs.Pixel.{Limited}
 abbrev limit : Float
 limit = ofBits binary32 0x4780_0000
 
-or-true : (b : Bool) → (b || true) ≡ true
-or-true true = refl
-or-true false = refl
-
 module _ (bytes : List ℕ) where
   -- the test of one sample more
   abbrev pub step : ℕ → Bool → Bool
   step k t = t || not (within limit (sampleAt bytes k))
 
-  -- a large sample, and all later turns
-  spoilt : (k n : ℕ) → k < n → within limit (sampleAt bytes k) ≡ false → upTo step 0 n false ≡ true
-  spoilt k n h bad =
-      upTo-join step 0 false (k + 1) n zero-le (omega arith)
-      ∙ upTo-keep step (k + 1) (upTo step 0 (k + 1) false) (λ (b : Bool). b ≡ true) n (omega arith)
-      (λ j y a b p. ap (λ (t : Bool). t || not (within limit (sampleAt bytes j))) p)
-      (sym (upTo-next step 0 false k zero-le refl) ∙ ap (λ (t : Bool). upTo step 0 k false || not t) bad
-      ∙ or-true (upTo step 0 k false))
-
   pub all-within : (n : ℕ) → upTo step 0 n false ≡ false → (k : ℕ) → k < n → within limit (sampleAt bytes k) ≡ true
-  all-within n fine k h = go (within limit (sampleAt bytes k)) refl
-    where
-      go : (g : Bool) → within limit (sampleAt bytes k) ≡ g → g ≡ true
-      go true e = refl
-      go false e = absurd (true≢false (sym (spoilt k n h e) ∙ fine))
+  all-within n fine k h =
+      not-false (within limit (sampleAt bytes k))
+      (none-each (λ (j : ℕ). not (within limit (sampleAt bytes j))) n fine k h)
 
   pub limited-by : (n : ℕ) → length bytes ≡ n * 4 → upTo step 0 n false ≡ false → Limited bytes
   limited-by n e fine = record {

@@ -1,15 +1,17 @@
 -- A float whose value is at most 2^30 in magnitude passes the test of a usable coordinate: the float comparison of
 -- finite floats is that of their values. Assumes nothing.
-use mathlib.Core.Path.{_≡_, refl, sym, ap, _∙_, subst, subst⁻¹}
-use mathlib.Core.Bool.{Bool, true, false, _&&_, false≢true}
+use mathlib.Core.Path.{_≡_, sym, ap, _∙_, subst, subst⁻¹}
+use mathlib.Core.Bool.{Bool, true, _&&_}
 use Prim.Native.Nat.{ℕ, _+_, _*_}
 use native.Mathlib.Nat.{le-refl}
 use lib.Dec.{T, lit≤}
 use lib.Ieee.{Float, nan, inf, fin, up, down, ofBits, le}
+use lib.Ieee.Bits.{is-true}
 use lib.Ieee.Scale.{finite}
 use lib.Ieee.Fits.{down-pos}
 use Rattle.exact.specs.Fraction.{Fraction, frac, value, _≤F_, absF}
 use Rattle.exact.specs.Rounds.{Close}
+use Rattle.exact.proofs.Booleans.{both}
 use Rattle.exact.proofs.Scale.{at-le, at-ratio}
 use Rattle.exact.proofs.Near.{le-trans}
 use Rattle.exact.proofs.Magnitude.{sized-signed, abs-sized}
@@ -29,10 +31,6 @@ abs-fraction (fin s m e) t =
     let B = abs-sized (down e) (down-pos e) s a (sized-signed s a (down e) (down-pos e)) in
     (at-le (down e) (down-pos e) A B (le-refl (a + 0)), at-le (down e) (down-pos e) B A (le-refl (a + 0)))
 
-true-of : (t : Bool) → T t → t ≡ true
-true-of true h = refl
-true-of false h = absurd h
-
 limit-number : T (finite limit)
 unfolding ofBits
 limit-number = tt
@@ -40,7 +38,7 @@ limit-number = tt
 pub within-limit : (x : Float) → T (finite x) → absF (value x) ≤F value limit → within limit x ≡ true
 unfolding within
 within-limit x t h =
-    true-of (le (abs x) limit)
+    is-true (le (abs x) limit)
     (le-value (abs x) limit (subst T (sym (abs-finite x)) t) limit-number .1
     (le-trans (value (abs x)) (absF (value x)) (value limit) (abs-fraction x t .0) h))
 
@@ -57,10 +55,6 @@ usable-close {u} {v} c d =
     ∙ within-limit v (d .number) (le-trans (absF (value v)) (frac 16385 1) (value limit) (d .small) room)
 
 -- ---- and the other way: what is usable is a number, at most 2^30 in magnitude
-both : (a b : Bool) → a && b ≡ true → (a ≡ true) × (b ≡ true)
-both true b h = (refl, h)
-both false b h = absurd (false≢true h)
-
 limit-value : value limit ≤F frac 1073741824 1
 unfolding ofBits
 limit-value = record { le = lit≤ tt }

@@ -3,6 +3,7 @@
 use mathlib.Core.Path.{_≡_, refl, sym, ap, _∙_}
 use mathlib.Core.Bool.{Bool, true, false, cond}
 use lib.Ieee.{Float, nan, le}
+use Rattle.exact.proofs.Booleans.{either}
 use Rattle.number.specs.Magnitude.{abs, within}
 use Rattle.point.specs.declared.point.Point.{Point}
 use Rattle.point.specs.Point.{usable, point, none, pointUnless, Whole}
@@ -26,10 +27,6 @@ none-whole = record { whole = sym none-is }
 pub by-number : (t : Bool) (u v : Float) → point (cond t nan u) (cond t nan v) ≡ pointUnless t u v
 by-number true u v = none-is
 by-number false u v = refl
-
-pub either : {A : Type 0} (P : A → Type 0) (t : Bool) {x y : A} → P x → P y → P (cond t x y)
-either P true p q = p
-either P false p q = q
 
 pub unless-whole : (t : Bool) (u v : Float) → Whole (pointUnless t u v)
 unless-whole t u v = either Whole t none-whole (point-whole u v)

@@ -1,15 +1,12 @@
 -- Lengths that are not wrong hold as many answers as points are asked for. Assumes nothing.
-use mathlib.Core.Path.{_≡_, refl}
-use mathlib.Core.Bool.{Bool, true, false, not, _||_, true≢false}
+use mathlib.Core.Path.{_≡_}
+use mathlib.Core.Bool.{false, not, _||_}
 use Prim.Native.Nat.{ℕ, _*_, _/_, _%_, _≤_}
 use native.Mathlib.Omega.{arith}
 use lib.Dec.{eqb}
 use borrow.Author.Tests.{eqb-true, not-false}
+use Rattle.exact.proofs.Booleans.{or-false}
 use Rattle.probe_points.specs.Points.{wrongLengths}
-
-or-false : (a b : Bool) → (a || b) ≡ false → (a ≡ false) × (b ≡ false)
-or-false true b h = absurd (true≢false h)
-or-false false b h = (refl, h)
 
 pub lengths-fit : (points out : ℕ) → wrongLengths points out ≡ false → (points / 16 * 24 ≤ out)
     × (points / 16 * 16 ≤ points)

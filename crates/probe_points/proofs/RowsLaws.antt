@@ -1,8 +1,8 @@
 -- The laws of rows: the tests are the definition's, lengths and limits that are not wrong are those that the loops
 -- ask for, a span's coordinates are written as its points, and a span more makes the row longer. Assumes
 -- nothing.
-use mathlib.Core.Path.{_≡_, refl, sym, ap, _∙_}
-use mathlib.Core.Bool.{Bool, true, false, cond, not, _||_, true≢false}
+use mathlib.Core.Path.{_≡_, sym, ap, _∙_}
+use mathlib.Core.Bool.{Bool, true, false, cond, not, _||_}
 use mathlib.Core.List.{List}
 use Prim.Native.Nat.{ℕ, _+_, _-_, _*_, _≤_, _<_}
 use native.Mathlib.Nat.{mul-le-mul}
@@ -13,6 +13,7 @@ use lib.IntN.{ℤ, natAbs}
 use lib.Ieee.{Float}
 use Rattle.exact.specs.Loop.{upTo}
 use Rattle.exact.specs.Sums.{asked}
+use Rattle.exact.proofs.Booleans.{or-false}
 use Rattle.exact.proofs.Loop.{upTo-join, upTo-same}
 use Rattle.exact.specs.Vector.{Vector}
 use Rattle.inverse.specs.Inverse.{inverse}
@@ -21,10 +22,6 @@ use Rattle.window.specs.Extent.{goodOffset}
 use Rattle.fast_points.specs.Points.{Points}
 use Rattle.probe_points.specs.Pointed.{storePoint}
 use Rattle.probe_points.specs.Rows.{storeKept, storeColumn, wrongRows}
-
-or-false : (a b : Bool) → (a || b) ≡ false → (a ≡ false) × (b ≡ false)
-or-false true b h = absurd (true≢false h)
-or-false false b h = (refl, h)
 
 -- ---- the tests
 module _ (width : ℕ) (x y : ℤ) (first rows out : ℕ) where

@@ -7,9 +7,10 @@ use Prim.Native.Nat.{ℕ, zero, suc, _+_, _*_, _/_, _%_, _≤_, _<_, zero-le}
 use native.Mathlib.Nat.{div-add-mod', div-lt-iff-lt-mul, mod-lt}
 use native.Mathlib.Omega.{arith}
 use Rattle.exact.specs.Loop.{upTo}
+use Rattle.exact.proofs.Any.{each-none, none-each}
+use Rattle.exact.proofs.Booleans.{or-false, both-false, same-false}
 use Rattle.exact.proofs.Loop.{upTo-join}
 use Rattle.sample_limit.specs.Samples.{beyond, large, apart, parted}
-use Rattle.sample_limit.proofs.AnyLaws.{same-false, both-false, or-false, each-none, none-each}
 
 -- what holds of the eight
 eighth : (P : ℕ → Type 0) → P 0 → P 1 → P 2 → P 3 → P 4 → P 5 → P 6 → P 7 → (s : ℕ) → s < 8 → P s

@@ -32,8 +32,6 @@ use Rattle.number.specs.Floor.{floorℤ, inDomain, isZero, floorI64, floorF64}
 use Rattle.number.specs.Magnitude.{abs, within}
 use Rattle.number.specs.Narrow.{narrow}
 use Rattle.number.proofs.FloorLaws.{
-  plus,
-  less,
   floor-below,
   floor-above,
   floor-size,
@@ -47,14 +45,6 @@ use Rattle.taps.proofs.CellLaws.{reached-number, reached-domain}
 use Rattle.cubic.proofs.Sizes.{abs-magnitude}
 
 -- ---- the floor of a float and of its value
-plus-is : (z : ℤ) → plus z ≡ plusℤ z
-plus-is (pos n) = refl
-plus-is (negsuc n) = refl
-
-less-is : (z : ℤ) → less z ≡ minusℤ z
-less-is (pos n) = refl
-less-is (negsuc n) = refl
-
 module _ (s : Bool) (m : ℕ) (e : ℤ) where
   k : ℤ
   k = floorℤ (fin s m e)
@@ -65,11 +55,7 @@ module _ (s : Bool) (m : ℕ) (e : ℤ) where
   lower : whole k ≤F value (fin s m e)
   unfolding k
   lower =
-      at-le (down e) (down-pos e) (at-whole (down e) (floorℤ (fin s m e))) own
-      (subst (λ (p : ℕ). p * down e + cond s (m * up e) 0 ≤ cond s 0 (m * up e) + minusℤ (floorℤ (fin s m e)) * down e)
-      (plus-is (floorℤ (fin s m e)))
-      (subst (λ (q : ℕ). plus (floorℤ (fin s m e)) * down e + cond s (m * up e) 0 ≤ cond s 0 (m * up e) + q * down e)
-      (less-is (floorℤ (fin s m e))) (floor-below s m e)))
+      at-le (down e) (down-pos e) (at-whole (down e) (floorℤ (fin s m e))) own (floor-below s m e)
 
   upper : value (fin s m e) <F whole (sucℤ k)
   unfolding k
@@ -77,11 +63,7 @@ module _ (s : Bool) (m : ℕ) (e : ℤ) where
       lt-le-trans
       (at-lt (down e) (down-pos e) own (at-add (at-whole (down e) (floorℤ (fin s m e))) (at-one (down e)))
       (turned (cond s 0 (m * up e)) (cond s (m * up e) 0) (plusℤ (floorℤ (fin s m e)) * down e)
-      (minusℤ (floorℤ (fin s m e)) * down e) (down e)
-      (subst (λ (p : ℕ). cond s 0 (m * up e) + minusℤ (floorℤ (fin s m e)) * down e < cond s (m * up e) 0 + p * down e
-      + down e) (plus-is (floorℤ (fin s m e)))
-      (subst (λ (q : ℕ). cond s 0 (m * up e) + q * down e < cond s (m * up e) 0 + plus (floorℤ (fin s m e)) * down e +
-      down e) (less-is (floorℤ (fin s m e))) (floor-above s m e)))))
+      (minusℤ (floorℤ (fin s m e)) * down e) (down e) (floor-above s m e)))
       (Near.eq-le (whole (floorℤ (fin s m e)) +F frac 1 1) (whole (sucℤ (floorℤ (fin s m e))))
       (back (whole-next (floorℤ (fin s m e)))))
     where
@@ -93,6 +75,11 @@ unfolding k
 floor-value nan n = absurd n
 floor-value (inf s) n = absurd n
 floor-value (fin s m e) n = floor-only (value (fin s m e)) (floorℤ (fin s m e)) (lower s m e) (upper s m e)
+
+pub finite-number : (x : Float) → T (finite x) → T (not (isNan x))
+finite-number nan h = absurd h
+finite-number (inf s) h = absurd h
+finite-number (fin s m e) h = unfold isNan in tt
 
 -- ---- narrowing is one rounding
 pub narrow-rounds : (x : Float) → T (finite x) → Rounds binary32 (narrow x) (value x)
@@ -158,11 +145,6 @@ module _ (x : Float) (r : Reached x) where
   pub rest-number : T (not (isNan (x ⊖ floorF64 x)))
   rest-number = finite-number (x ⊖ floorF64 x)
       (cell-rest x (floorF64 x) (reached-number x r) (float-floor .0) (float-floor .1) .0)
-    where
-      finite-number : (y : Float) → T (finite y) → T (not (isNan y))
-      finite-number nan h = absurd h
-      finite-number (inf s) h = absurd h
-      finite-number (fin s m e) h = unfold isNan in tt
 
   pub cell-law : Cell x (floorI64 x) (fraction x)
   cell-law =

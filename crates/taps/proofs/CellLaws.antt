@@ -7,7 +7,7 @@ use mathlib.Core.Bool.{Bool, true, false, cond}
 use Prim.Native.Nat.{ℕ, zero, suc, _+_, _-_, _*_, _^_, _≤_, _<_}
 use native.Mathlib.Nat.{le-trans}
 use native.Mathlib.Omega.{arith}
-use lib.IntN.{ℤ, pos, negsuc, natAbs, predℤ, subℕ, _+ℤ_, _-ℤ_, -ℤ-one}
+use lib.IntN.{ℤ, pos, negsuc, predℤ, subℕ, _+ℤ_, _-ℤ_, -ℤ-one}
 use lib.Signed.{mag}
 use lib.Dec.{T, ltb, le→leb, lit≤}
 use lib.Ieee.{Float, nan, inf, fin, binary64, up, down, ofBits}
@@ -17,6 +17,7 @@ use Rattle.exact.specs.Double.{_⊕_}
 use Rattle.exact.specs.Fraction.{Fraction, frac, value, _≤F_, _≈_, _+F_, absF}
 use Rattle.exact.specs.Rounds.{Close}
 use Rattle.exact.specs.Warp.{half}
+use Rattle.exact.proofs.Integer.{mag-le}
 use Rattle.exact.proofs.Near.{eq-le}
 use Rattle.exact.proofs.Near as Near
 use Rattle.exact.proofs.Products.{eq-refl, back, le-same}
@@ -103,13 +104,9 @@ rounded-domain x h = let c = sum in in-domain (x ⊕ half) (c .number) (c .small
         (unfold _+F_ in record { le = lit≤ tt }))
 
 -- ---- sizes
-mag-abs : (z : ℤ) → mag z ≤ natAbs z
-mag-abs (pos n) = omega arith
-mag-abs (negsuc n) = omega arith
-
 floor-mag : (x : Float) → T (inDomain x) → mag (floorI64 x) ≤ 2147483648
 floor-mag x d = subst (λ (z : ℤ). mag z ≤ 2147483648) (sym (floor-integer x d))
-    (le-trans (mag-abs (floorℤ x)) (floor-size x d))
+    (le-trans (mag-le (floorℤ x)) (floor-size x d))
 
 pub floor-small : (x : Float) → Reached x → mag (floorI64 x) ≤ 2147483648
 floor-small x h = floor-mag x (reached-domain x h)

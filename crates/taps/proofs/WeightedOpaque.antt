@@ -3,7 +3,7 @@
 -- blend, and alpha is 1. Provides: `four`, `summed-four`, `opaque-four` (the mean is these quotients);
 -- `blended-opaque`, `opaque-mean`, `opaque-blend` (of `weighted` itself), `halfway` (an example). Assumes nothing.
 use mathlib.Core.Path.{_≡_, refl, sym, ap, _∙_, subst}
-use mathlib.Core.Bool.{Bool, true, false, cond}
+use mathlib.Core.Bool.{false, cond}
 use mathlib.Core.List.{List, [], _∷_}
 use Prim.Native.Nat.{ℕ}
 use lib.IntN.{ℤ}
@@ -12,6 +12,7 @@ use lib.Ieee.{Float, fin, add, sub, sum, mul, div, neg, round, ofBits, lt}
 use Rattle.exact.specs.Loop.{upTo, turns}
 use Rattle.exact.specs.Single.{_⊗_, _⊘_}
 use Rattle.exact.specs.Weighted.{w00, w10, w01, w11, fourSum, weightSum, alphaSum, colourSum, colour, alpha, Unit32}
+use Rattle.exact.proofs.Booleans.{yes-of}
 use Rattle.exact.proofs.Ones.{positive-sign}
 use Rattle.exact.proofs.Weighted.{alpha-sum, weight-sum, alpha-one, colour-near}
 use Rattle.number.specs.Magnitude.{abs}
@@ -44,15 +45,11 @@ unfolding upTo turns
 summed-four taps weights = refl
 
 -- ---- the quotients
-picked : {A : Type 0} (t : Bool) (y z : A) → T t → cond t y z ≡ y
-picked true y z h = refl
-picked false y z h = absurd h
-
 -- a divisor above the least is its own magnitude
 over-positive : (x y : Float) → T (lt least y) → (m : ℕ) × (e : ℤ) × (y ≡ fin false m e) → quotient x y ≡ x ⊘ y
 unfolding quotient abs
 over-positive x y h (m, e, k) = ap (λ (z : Float). cond (lt least z) (x ⊘ y) zero) (ap abs k ∙ sym k)
-    ∙ picked (lt least y) (x ⊘ y) zero h
+    ∙ yes-of (lt least y) (x ⊘ y) zero h
 
 module _ (tx ty : Float) (x : Unit32 tx) (y : Unit32 ty) where
   by-weight : (z : Float) → quotient z (weightSum tx ty) ≡ z ⊘ weightSum tx ty

@@ -1,14 +1,16 @@
 -- The ceiling is the floor of -x, negated, with the same domain; so it has the floor's size. Assumes nothing.
 use mathlib.Core.Path.{_≡_, refl, sym, ap, _∙_, subst}
-use Prim.Native.Nat.{ℕ, zero, suc, _*_, _^_, _≤_, _<_}
-use native.Mathlib.Nat.{le-refl, le-trans, le-suc, lt-of-le-of-lt}
-use mathlib.Core.Bool.{Bool, true, false, not, cond}
+use Prim.Native.Nat.{ℕ, _*_, _^_, _≤_, _<_}
+use native.Mathlib.Nat.{le-trans, lt-of-le-of-lt}
+use mathlib.Core.Bool.{Bool, true, false, not}
 use lib.IntN.{ℤ, pos, negsuc, negℤ, natAbs, negℤ-negℤ}
 use lib.Signed.{mag, leZ, _≤ℤ_}
 use lib.Dec.{T, le→leb, lit<}
 use lib.Ieee.{Float, nan, inf, fin, up, down, neg}
 use mir.Syntax.{w64}
 use mir.Val.{SFits}
+use Rattle.exact.proofs.Booleans.{yes-of, no-of}
+use Rattle.exact.proofs.Integer.{natAbs-neg, mag-le}
 use Rattle.number.specs.Floor.{ceilDiv, floorℤ, inDomain, floorI64}
 use Rattle.number.proofs.FloorLaws.{floor-size, floor-integer, floor-integer-out}
 use Rattle.window.specs.Ceil.{ceilℤ, ceilI64}
@@ -27,19 +29,10 @@ domain-neg (inf s) = refl
 domain-neg (fin s m e) = refl
 
 -- ---- sizes
-natAbs-neg : (z : ℤ) → natAbs (negℤ z) ≡ natAbs z
-natAbs-neg (pos zero) = refl
-natAbs-neg (pos (suc n)) = refl
-natAbs-neg (negsuc n) = refl
-
 pub ceil-size : (x : Float) → T (inDomain x) → natAbs (ceilℤ x) ≤ 2147483648
 ceil-size x d =
     subst (λ (n : ℕ). n ≤ 2147483648) (sym (natAbs-neg (floorℤ (neg x))) ∙ ap natAbs (ceil-floor x))
     (floor-size (neg x) (subst T (sym (domain-neg x)) d))
-
-mag-le : (z : ℤ) → mag z ≤ natAbs z
-mag-le (pos n) = le-refl n
-mag-le (negsuc n) = le-suc n
 
 -- a number of at most 31 digits fits an i64
 pub small-fits : (z : ℤ) → natAbs z ≤ 2147483648 → mag z < 2 ^ 63
@@ -52,19 +45,11 @@ by-test false f g = g tt
 -- ---- the two answers
 pub ceil-in : (x : Float) → T (inDomain x) → ceilI64 x ≡ ceilℤ x
 unfolding ceilI64
-ceil-in x d = go (inDomain x) d
-  where
-    go : (b : Bool) → T b → cond b (ceilℤ x) (negsuc 9223372036854775807) ≡ ceilℤ x
-    go true t = refl
-    go false t = absurd t
+ceil-in x d = yes-of (inDomain x) (ceilℤ x) (negsuc 9223372036854775807) d
 
 pub ceil-out : (x : Float) → T (not (inDomain x)) → ceilI64 x ≡ negsuc 9223372036854775807
 unfolding ceilI64
-ceil-out x d = go (inDomain x) d
-  where
-    go : (b : Bool) → T (not b) → cond b (ceilℤ x) (negsuc 9223372036854775807) ≡ negsuc 9223372036854775807
-    go true t = absurd t
-    go false t = refl
+ceil-out x d = no-of (inDomain x) (ceilℤ x) (negsuc 9223372036854775807) d
 
 -- ---- what fits an i64
 pub floor-fits : (x : Float) → SFits w64 (floorI64 x)

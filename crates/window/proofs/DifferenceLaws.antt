@@ -9,15 +9,11 @@ use mathlib.Core.Bool.{Bool, true, false, true≢false}
 use lib.IntN.{ℤ, pos, negsuc, natAbs, subℕ, _-ℤ_}
 use lib.Signed.{leZ}
 use lib.Dec.{leb, leb·suc-suc}
+use Rattle.exact.proofs.Floor.{plusℤ}
 use Rattle.number.proofs.FloorNear.{sub-split}
 use Rattle.window.specs.Extent.{atLeastOne}
 
--- what is not negative of z
-abbrev pub plus : ℤ → ℕ
-plus (pos n) = n
-plus (negsuc n) = 0
-
--- ---- y - z: at most 0 where y ≤ z, and else a count that is p = plus y, but for n = |z| at most
+-- ---- y - z: at most 0 where y ≤ z, and else a count that is p = plusℤ y, but for n = |z| at most
 pub record Count (δ : ℤ) (p n : ℕ) : Type 0 where
   pub d : ℕ
   pub is : δ ≡ pos (suc d)
@@ -58,7 +54,7 @@ zero-less a = elim (sub-split 0 (suc a)) [
     none : (a j : ℕ) → 0 ≡ suc a + j → ⊥
     none a j e = omega arith
 
-pub diff : (y z : ℤ) → Diff (leZ y z) (y -ℤ z) (plus y) (natAbs z)
+pub diff : (y z : ℤ) → Diff (leZ y z) (y -ℤ z) (plusℤ y) (natAbs z)
 diff (pos zero) (pos zero) = inl (refl, one-zero)
 diff (pos (suc a)) (pos zero) =
     inr (
@@ -87,7 +83,7 @@ diff-low y z h = elim (diff y z) [
   | inr (e, c) ↦ absurd (true≢false (sym h ∙ e))
 ]
 
-pub diff-high : (y z : ℤ) → leZ y z ≡ false → Count (y -ℤ z) (plus y) (natAbs z)
+pub diff-high : (y z : ℤ) → leZ y z ≡ false → Count (y -ℤ z) (plusℤ y) (natAbs z)
 diff-high y z h = elim (diff y z) [
   | inl (e, i) ↦ absurd (true≢false (sym e ∙ h))
   | inr (e, c) ↦ c

@@ -11,6 +11,7 @@ use lib.Dec.{T, leb, ltb, leb→le, le→leb, nleb→lt, ltb→lt, nltb→le, no
 use lib.Ieee.{Float, nan, inf, fin, binary64, up, down, lt, le, ofBits}
 use lib.Ieee.Fits.{down-pos}
 use lib.Ieee.Scale.{finite}
+use Rattle.exact.proofs.Integer.{natAbs-neg}
 use Rattle.exact.proofs.Operands.{same-test}
 use Rattle.exact.proofs.Order.{le-flip}
 use Rattle.number.specs.Floor.{ceilDiv, floorℤ, inDomain, floorI64}
@@ -29,10 +30,6 @@ module _ (a c : ℕ) (P : 0 < c) (h : 2147483648 * c < a) where
   rounded-up : 2147483648 ≤ ceilDiv a c
   rounded-up = le-div-iff-mul-le P .1 (omega arith)
 
-abs-neg : (q : ℕ) → natAbs (negℤ (pos q)) ≡ q
-abs-neg zero = refl
-abs-neg (suc q) = refl
-
 outside : (s : Bool) (m : ℕ) (e : ℤ) → T (not (inDomain (fin s m e))) → 2147483648 * down e < m * up e
 unfolding inDomain
 outside s m e d = nleb→lt (m * up e) (2147483648 * down e) d
@@ -40,7 +37,7 @@ outside s m e d = nleb→lt (m * up e) (2147483648 * down e) d
 floor-far : (s : Bool) (m : ℕ) (e : ℤ) → T (not (inDomain (fin s m e))) → 2147483648 ≤ natAbs (floorℤ (fin s m e))
 unfolding floorℤ
 floor-far false m e d = rounded-down (m * up e) (down e) (down-pos e) (outside false m e d)
-floor-far true m e d = subst (λ (q : ℕ). 2147483648 ≤ q) (sym (abs-neg (ceilDiv (m * up e) (down e))))
+floor-far true m e d = subst (λ (q : ℕ). 2147483648 ≤ q) (sym (natAbs-neg (pos (ceilDiv (m * up e) (down e)))))
     (rounded-up (m * up e) (down e) (down-pos e) (outside true m e d))
 
 -- ---- the low edge

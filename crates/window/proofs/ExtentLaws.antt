@@ -7,6 +7,7 @@ use mathlib.Core.Bool.{Bool, true, false, _&&_, cond}
 use lib.IntN.{ℤ, pos, negsuc, natAbs, _-ℤ_}
 use lib.Signed.{leZ}
 use lib.Dec.{T, leb, ltb, leb→le, leb·suc-suc}
+use Rattle.exact.proofs.Booleans.{and-true}
 use Rattle.window.specs.declared.extent.Extent.the-variants.{Of, Out}
 use Rattle.window.specs.Extent.{goodOffset, goodLength, held, atLeastOne, reach}
 use Rattle.window.proofs.DifferenceLaws.{Count, one-positive, diff-low, diff-high}
@@ -16,10 +17,6 @@ pub offset-tests : (z : ℤ) → (leZ (negsuc 1048575) z && leZ z (pos 1048576))
 unfolding goodOffset
 offset-tests (pos n) = refl
 offset-tests (negsuc n) = and-true (leb n 1048575) ∙ sym (leb·suc-suc n 1048575)
-  where
-    and-true : (b : Bool) → (b && true) ≡ b
-    and-true true = refl
-    and-true false = refl
 
 pub offset-le : (z : ℤ) → goodOffset z ≡ true → natAbs z ≤ 1048576
 unfolding goodOffset

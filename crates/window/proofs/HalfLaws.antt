@@ -4,7 +4,7 @@ use mathlib.Core.Path.{_≡_, refl, sym, subst}
 use Prim.Native.Nat.{ℕ, _+_, _*_, _<_}
 use native.Mathlib.Nat.{le-refl}
 use native.Mathlib.Omega.{arith}
-use mathlib.Core.Bool.{Bool, true, false}
+use mathlib.Core.Bool.{Bool, false}
 use lib.IntN.{ℤ, negsuc}
 use lib.Dec.{T, le→leb, lit≤}
 use lib.Ieee.{
@@ -31,7 +31,7 @@ use lib.Ieee.{
   ofFields,
   toBits,
 }
-use lib.Ieee.Bits.{ofBits-toBits}
+use lib.Ieee.Bits.{ofBits-toBits, is-true}
 use lib.Ieee.Fits.{down-pos}
 use lib.Ieee.Scale.{finite}
 use Rattle.exact.specs.Double.{_⊕_, _⊖_}
@@ -50,10 +50,6 @@ use Rattle.exact.proofs.FloatPatterns.{finite-bits}
 use Rattle.number.proofs.MagnitudeLaws.{abs-fits}
 use Rattle.number.specs.Magnitude.{abs}
 use Rattle.window.specs.Extent.{half}
-
-true-of : (b : Bool) → T b → b ≡ true
-true-of true t = refl
-true-of false t = absurd t
 
 -- the largest number
 abbrev most : Float
@@ -109,7 +105,7 @@ pub less-half : (x : Float) → T (fits binary64 x) → finite (x ⊖ half) ≡ 
 less-half nan t = unfold sub add in refl
 less-half (inf s) t = unfold sub add neg ofBits in refl
 less-half (fin s m e) t =
-    true-of (finite (fin s m e ⊖ half))
+    is-true (finite (fin s m e ⊖ half))
     (no-more (sub-rounds binary64 (fin s m e) half tt half-number)
     (abs-sub (value (fin s m e)) (value half) (value most) (value half) (size-most s m e t) half-own))
 
@@ -117,6 +113,6 @@ pub more-half : (x : Float) → T (fits binary64 x) → finite (x ⊕ half) ≡ 
 more-half nan t = unfold add in refl
 more-half (inf s) t = unfold add ofBits in refl
 more-half (fin s m e) t =
-    true-of (finite (fin s m e ⊕ half))
+    is-true (finite (fin s m e ⊕ half))
     (no-more (add-rounds binary64 (fin s m e) half tt half-number)
     (abs-add (value (fin s m e)) (value half) (value most) (value half) (size-most s m e t) half-own))

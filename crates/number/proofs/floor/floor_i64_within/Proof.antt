@@ -1,26 +1,22 @@
 -- `number::floor::floor_i64_within` meets its contract: the floor is a whole number of at most 31 digits, so that its
 -- float casts to it. Assumes nothing.
 use mathlib.Core.Path.{_≡_, sym, ap, _∙_, subst}
-use Prim.Native.Nat.{_^_, _≤_, _<_}
-use native.Mathlib.Nat.{le-refl, le-suc, le-trans, lt-of-le-of-lt}
+use Prim.Native.Nat.{_^_, _<_}
+use native.Mathlib.Nat.{le-trans, lt-of-le-of-lt}
 use borrow.Author.Needs.{needs}
 use mir.Syntax.{w64}
 use mir.Val.{toZ, ofZ}
 use mir.ValLaws.{toZ-ofZ}
-use lib.IntN.{ℤ, pos, negsuc, natAbs}
+use lib.IntN.{ℤ}
 use lib.Signed.{mag}
 use lib.Dec.{T, lit<}
 use lib.Ieee.{Float, binary64, ofInt, inSigned, toSigned}
-use Rattle.exact.proofs.Integer.{ofInt-back}
+use Rattle.exact.proofs.Integer.{mag-le, ofInt-back}
 use Rattle.number.specs.Floor.{inDomain, floorℤ, floorI64}
 use Rattle.number.proofs.FloorLaws.{floor-size, floor-integer}
 use Rattle.number.proofs.FloorValue.{floor-counted}
 use Rattle.number.proofs.floor.floor_i64_within.Statement.{statement}
 use Rattle.number.proofs.floor.floor_i64_within.Tie as tie
-
-mag-le : (z : ℤ) → mag z ≤ natAbs z
-mag-le (pos n) = le-refl n
-mag-le (negsuc n) = le-suc n
 
 module _ (x f : Float) (e : f ≡ ofInt binary64 (floorℤ x)) (d : T (inDomain x)) where
   word : mag (floorℤ x) < 2 ^ 63

@@ -3,10 +3,11 @@
 use mathlib.Core.Path.{_≡_, refl, ap, _∙_}
 use Prim.Native.Nat.{ℕ, _*_}
 use native.Mathlib.Nat.{mul-one}
-use mathlib.Core.Bool.{Bool, true, false, not, _&&_}
+use mathlib.Core.Bool.{true, false, not, _&&_}
 use lib.IntN.{pos}
 use lib.Dec.{ltb, leb}
 use lib.Ieee.{Float, nan, inf, fin, binary64, up, down, le, neg, ofBits}
+use Rattle.exact.proofs.Booleans.{and-true}
 use Rattle.exact.proofs.Order.{le-flip, not-above}
 use Rattle.number.specs.Floor.{inDomain}
 use Rattle.number.proofs.floor.in_domain.Statement.{statement}
@@ -17,10 +18,6 @@ edge = ofBits binary64 0x41e0_0000_0000_0000
 
 turned : (a b : ℕ) → not (ltb b (a * 1)) ≡ leb a b
 turned a b = ap (λ (n : ℕ). not (ltb b n)) (mul-one a) ∙ not-above a b
-
-and-true : (b : Bool) → (b && true) ≡ b
-and-true true = refl
-and-true false = refl
 
 tests : (x : Float) → (le (neg edge) x && le x edge) ≡ inDomain x
 unfolding le neg ofBits inDomain

@@ -1,18 +1,13 @@
 -- `number::root::settles` meets its contract: the products fit, and where all tests pass no difference wrapped, so that
 -- the last one says that q is the nearest root (`RootSettle.antt`). Assumes nothing.
-use mathlib.Core.Path.{_≡_, refl}
-use mathlib.Core.Bool.{Bool, true, false, _&&_, false≢true}
 use Prim.Native.Nat.{ℕ, _*_, _/_, _%_, _^_, _≤_, _<_}
 use native.Mathlib.Omega.{arith}
 use borrow.Author.Needs.{needs}
 use borrow.Author.Tests.{ltb-true}
+use Rattle.exact.proofs.Booleans.{both}
 use Rattle.number.proofs.RootSettle.{product-le, settled}
 use Rattle.number.proofs.root.settles.Statement.{statement}
 use Rattle.number.proofs.root.settles.Tie as tie
-
-both : (a b : Bool) → a && b ≡ true → (a ≡ true) × (b ≡ true)
-both true b h = (refl, h)
-both false b h = absurd (false≢true h)
 
 -- the halves of q, and the sizes of their products
 high : (q : ℕ) → q ≤ 2 ^ 53 → q / 134217728 ≤ 2 ^ 26

@@ -12,8 +12,9 @@ use lib.Dec.{T, leb→le}
 use mir.Syntax.{w64}
 use mir.Val.{Fits, SFits, ofZ, toZ}
 use mir.ValLaws.{toZ-ofZ}
+use Rattle.exact.proofs.Floor.{plusℤ}
 use Rattle.window.specs.Extent.{goodOffset, held, atLeastOne, reach}
-use Rattle.window.proofs.DifferenceLaws.{plus, Count, one-positive, diff-low, diff-high}
+use Rattle.window.proofs.DifferenceLaws.{Count, one-positive, diff-low, diff-high}
 use Rattle.window.proofs.ExtentLaws.{offset-le, reach-off}
 use Rattle.window.proofs.extent.reach.Statement.{statement}
 use Rattle.window.proofs.extent.reach.Tie as tie
@@ -21,7 +22,7 @@ use Rattle.window.proofs.extent.reach.Tie as tie
 abbrev read : ℤ → ℤ
 read z = toZ w64 (ofZ w64 z)
 
-plus-most : (y : ℤ) → y ≤ℤ pos 2147483648 → plus y ≤ 2147483648
+plus-most : (y : ℤ) → y ≤ℤ pos 2147483648 → plusℤ y ≤ 2147483648
 plus-most (pos n) h = leb→le n 2147483648 (h .le)
 plus-most (negsuc n) h = omega arith
 
@@ -39,7 +40,7 @@ module _ (z y : ℤ) (fz : SFits w64 z) (fy : SFits w64 y) where
 
   -- it is above
   module _ (p : y ≤ℤ pos 2147483648) (g : goodOffset z ≡ true) (h : leZ (read y) (read z) ≡ false) where
-    count : Count (y -ℤ z) (plus y) (natAbs z)
+    count : Count (y -ℤ z) (plusℤ y) (natAbs z)
     count = diff-high y z (sym tested ∙ h)
 
     small : suc (count .d) < 2 ^ 63

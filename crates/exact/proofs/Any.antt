@@ -2,29 +2,11 @@
 -- turn takes a true back. Assumes nothing.
 use mathlib.Core.Path.{_≡_, refl, sym, ap, _∙_}
 use mathlib.Core.Bool.{Bool, true, false, _||_, true≢false}
-use Prim.Native.Nat.{ℕ, _+_, _≤_, _<_, zero-le}
+use Prim.Native.Nat.{ℕ, _+_, _<_, zero-le}
 use native.Mathlib.Omega.{arith}
 use Rattle.exact.specs.Loop.{upTo}
+use Rattle.exact.proofs.Booleans.{or-true, both-false}
 use Rattle.exact.proofs.Loop.{upTo-next, upTo-keep, upTo-join}
-
-or-true : (b : Bool) → (b || true) ≡ true
-or-true true = refl
-or-true false = refl
-
--- an answer that is false where another is, and the other way round, is the other
-pub same-false : (a b : Bool) → (a ≡ false → b ≡ false) → (b ≡ false → a ≡ false) → a ≡ b
-same-false true true f g = refl
-same-false true false f g = g refl
-same-false false true f g = sym (f refl)
-same-false false false f g = refl
-
-pub both-false : (a b : Bool) → a ≡ false → b ≡ false → (a || b) ≡ false
-both-false true b p q = p
-both-false false b p q = q
-
-pub or-false : (a b : Bool) → (a || b) ≡ false → (a ≡ false) × (b ≡ false)
-or-false true b h = absurd (true≢false h)
-or-false false b h = (refl, h)
 
 module _ (f : ℕ → Bool) where
   pub each-none : (n : ℕ) → ((k : ℕ) → k < n → f k ≡ false) → upTo (λ (k : ℕ) (t : Bool). t || f k) 0 n false ≡ false

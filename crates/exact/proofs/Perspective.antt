@@ -13,7 +13,7 @@ use lib.Ieee.{Float, binary64, ofBits, le}
 use lib.Ieee.Scale.{finite}
 use Rattle.exact.specs.Fraction.{Fraction, frac, value, _≤F_, _<F_, _+F_, _*F_, _/F_, absF, Within}
 use Rattle.exact.specs.Rounds.{Close}
-use Rattle.exact.specs.Double.{_⊘_}
+use Rattle.exact.specs.Double.{_⊘_, leastDivisor}
 use Rattle.exact.specs.Sums.{linear, linearF, Coordinate, Linear}
 use Rattle.exact.proofs.Scale.{at-le, le-at, at-add, common}
 use Rattle.exact.proofs.Near.{le-refl, le-trans, within-open, within-more}
@@ -52,21 +52,21 @@ module _ {d : Float} {D s : Fraction} (c : Close d D f s) (h : frac 1 1024 ≤F 
       (le-trans (frac 1 1024) D (value d +F f) h (within-open (value d) D f (c .near) .1)))
 
   -- the code's test `wq <= 1e-12` fails
-  pub denominator-passes : le d (ofBits binary64 0x3d71_9799_812d_ea11) ≡ false
-  denominator-passes = go (le d (ofBits binary64 0x3d71_9799_812d_ea11))
-      (λ t. le-value d (ofBits binary64 0x3d71_9799_812d_ea11) (c .number) tiny .0 t)
+  pub denominator-passes : le d leastDivisor ≡ false
+  denominator-passes = go (le d leastDivisor)
+      (λ t. le-value d leastDivisor (c .number) tiny .0 t)
     where
-      tiny : T (finite (ofBits binary64 0x3d71_9799_812d_ea11))
+      tiny : T (finite leastDivisor)
       tiny = unfold ofBits in tt
 
-      under : value (ofBits binary64 0x3d71_9799_812d_ea11) <F b
+      under : value leastDivisor <F b
       under = unfold ofBits in record { lt = lit< tt }
 
-      far : b ≤F value (ofBits binary64 0x3d71_9799_812d_ea11) → ⊥
+      far : b ≤F value leastDivisor → ⊥
       far h = lt-irrefl _ (lt-le-trans under h .lt)
 
-      go : (t : Bool) → (T t → value d ≤F value (ofBits binary64 0x3d71_9799_812d_ea11)) → t ≡ false
-      go true k = absurd (far (le-trans b (value d) (value (ofBits binary64 0x3d71_9799_812d_ea11)) denominator-least
+      go : (t : Bool) → (T t → value d ≤F value leastDivisor) → t ≡ false
+      go true k = absurd (far (le-trans b (value d) (value leastDivisor) denominator-least
           (k tt)))
       go false k = refl
 
@@ -120,7 +120,7 @@ module _ {n d : Float} {N D r s : Fraction} (top : Close n N e r) (under : Close
 -- of two sums of three terms
 module _ {x y : Float} {X Y : Fraction} (c : Coordinate x X) (d : Coordinate y Y) {m n o : Float}
     (L : Linear m n o X Y (frac 4 1)) (h : frac 1 1024 ≤F linearF m n o X Y) where
-  pub perspective-passes : le (linear m n o x y) (ofBits binary64 0x3d71_9799_812d_ea11) ≡ false
+  pub perspective-passes : le (linear m n o x y) leastDivisor ≡ false
   perspective-passes = denominator-passes (linear-small c d L) h
 
   pub perspective-close : {m' n' o' : Float} → Linear m' n' o' X Y (frac 16384 1)

@@ -13,7 +13,7 @@ use lib.Ieee.{Float, binary64, ofBits, ofInt}
 use lib.Ieee.Scale.{finite, overflow}
 use Rattle.exact.specs.Fraction.{frac, whole, value, _≈_, _+F_}
 use Rattle.exact.specs.Rounds.{signed}
-use Rattle.exact.specs.Double.{_⊕_}
+use Rattle.exact.specs.Double.{_⊕_, half}
 use Rattle.exact.specs.Sums.{Coordinate, asked, askedF}
 use Rattle.exact.proofs.Scale.{at-le, at-more, at-ratio}
 use Rattle.exact.proofs.Near.{add-same}
@@ -70,10 +70,6 @@ half-most (negsuc n) h = omega arith
 half-units : (s : Bool) (q : ℕ) → signed s q 2 ≈ signed s (q * 2 ^ 1073) (2 ^ 1074)
 half-units s q = signed-scale s q 2 (q * 2 ^ 1073) (2 ^ 1074) (zero-lt-suc 1) (pow-pos 1074)
     (sym (mul-assoc q (2 ^ 1073) 2))
-
--- 0.5
-abbrev half : Float
-half = ofBits binary64 0x3fe0_0000_0000_0000
 
 half-is : T (finite half) × (value half ≈ frac 1 2)
 unfolding ofBits

@@ -3,10 +3,10 @@
 use Prim.Native.Nat.{ℕ, zero, suc, _*_, _^_}
 use lib.Dec.{T}
 use lib.IntN.{ℤ, pos}
-use lib.Ieee.{Float, binary64, ofBits, ofInt}
+use lib.Ieee.{Float, binary64, ofInt}
 use lib.Ieee.Scale.{finite}
 use Rattle.exact.specs.Loop.{upTo}
-use Rattle.exact.specs.Double.{_⊕_, _⊗_}
+use Rattle.exact.specs.Double.{_⊕_, _⊗_, half, one}
 use Rattle.exact.specs.Fraction.{Fraction, frac, whole, value, _≤F_, _≈_, _+F_, _*F_, absF, Within}
 
 -- t 0 + t 1 + .. + t (n - 1), from z, each sum rounded
@@ -18,7 +18,7 @@ summedF t n = upTo (λ (k : ℕ) (s : Fraction). s +F t k) 0 n (frac 0 1)
 
 -- x to the exponents 0 to 5, by repeated squaring. One above 5 counts as 5.
 unfoldable pub raised : Float → ℕ → Float
-raised x zero = ofBits binary64 0x3ff0_0000_0000_0000  -- 1.0
+raised x zero = one
 raised x (suc zero) = x
 raised x (suc (suc zero)) = x ⊗ x
 raised x (suc (suc (suc zero))) = x ⊗ (x ⊗ x)
@@ -50,7 +50,7 @@ pub record Coordinate (x : Float) (X : Fraction) : Type 0 where
 -- ---- the sums of the source points
 -- pixel i asks at i + offset + 0.5, the last constant
 abbrev pub asked : ℕ → ℤ → Float
-asked i o = ofInt binary64 (pos i) ⊕ ofInt binary64 o ⊕ ofBits binary64 0x3fe0_0000_0000_0000
+asked i o = ofInt binary64 (pos i) ⊕ ofInt binary64 o ⊕ half
 
 abbrev pub askedF : ℕ → ℤ → Fraction
 askedF i o = whole (pos i) +F whole o +F frac 1 2

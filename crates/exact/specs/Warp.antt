@@ -4,14 +4,12 @@
 use Prim.Native.Nat.{_^_}
 use mathlib.Core.Path.{_≡_}
 use lib.IntN.{ℤ, sucℤ}
-use lib.Ieee.{Float, binary64, ofBits}
+use lib.Ieee.{Float}
+pub use Rattle.exact.specs.Double.{half}
 use Rattle.exact.specs.Fraction.{Fraction, frac, whole, value, _+F_, _*F_, Within}
 use Rattle.exact.specs.Rounds.{Close}
 use Rattle.exact.specs.Surface.{floorF, partF}
 use Rattle.exact.specs.Weighted.{e00, e10, e01, e11, units24, Unit32}
-
-abbrev pub half : Float
-half = ofBits binary64 0x3fe0_0000_0000_0000  -- 0.5
 
 -- half an ulp of f32 and of f64, below 1: the narrowing and the difference from the floor
 abbrev pub cellError : Fraction

@@ -6,13 +6,11 @@ use lib.Dec.{T}
 use lib.Ieee.{Float, binary32, ofBits, fits}
 use lib.Ieee.Scale.{finite}
 use Rattle.exact.specs.Fraction.{Fraction, frac, value, _-F_, _*F_, Within, Unit01}
-use Rattle.exact.specs.Single.{_⊕_, _⊖_, _⊗_, _⊘_}
-
-abbrev pub one : Float
-one = ofBits binary32 0x3f80_0000  -- 1.0
+use Rattle.exact.specs.Single.{_⊕_, _⊖_, _⊗_, _⊘_, zero}
+pub use Rattle.exact.specs.Single.{one}
 
 abbrev pub start : Float
-start = ofBits binary32 0  -- 0.0
+start = zero
 
 -- each tap's weight, at the fractions tx and ty of the point in its cell
 abbrev pub w00 : Float → Float → Float

@@ -6,7 +6,7 @@ use mathlib.Core.List.{List}
 use Prim.Native.Nat.{ℕ, _+_, _<_, zero-le}
 use native.Mathlib.Omega.{arith}
 use lib.Dec.{T}
-use lib.Ieee.{Float, binary64, ofBits}
+use lib.Ieee.{Float, ofBits}
 use lib.Ieee.Scale.{finite}
 use borrow.Author.Tests.{not-false}
 use Rattle.exact.specs.Loop.{upTo}
@@ -15,7 +15,7 @@ use Rattle.endian.specs.Bytes.{argumentAt}
 use Rattle.number.specs.Magnitude.{within}
 use Rattle.number.proofs.MagnitudeLaws.{abs-limited}
 use Rattle.arguments.specs.Store.{countOf}
-use Rattle.arguments.specs.Refusal.{goodNumber, stillGood, badNumber}
+use Rattle.arguments.specs.Refusal.{argumentLimit, goodNumber, stillGood, badNumber}
 
 and-false : (b : Bool) → (b && false) ≡ false
 and-false true = refl
@@ -45,4 +45,4 @@ module _ (bytes : List ℕ) where
 
 pub good-finite : (x : Float) → goodNumber x ≡ true → T (finite x)
 unfolding goodNumber within ofBits
-good-finite x e = abs-limited x (ofBits binary64 0x4130_0000_0000_0000) tt (subst T (sym e) tt)
+good-finite x e = abs-limited x argumentLimit tt (subst T (sym e) tt)

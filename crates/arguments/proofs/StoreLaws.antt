@@ -6,7 +6,8 @@ use mathlib.Core.List.{List}
 use Prim.Native.Nat.{ℕ, _+_, _*_, _≤_, _<_, zero-le}
 use native.Mathlib.Omega.{arith}
 use lib.Dec.{eqb, lit<}
-use lib.Ieee.{Float, binary64, ofBits}
+use lib.Ieee.{Float}
+use Rattle.exact.specs.Double.{nought}
 use lib.ListN.{length, getD, length-set, getD-replicate}
 use lib.Seq.{getD-set-same, getD-set-other}
 use borrow.Author.Tests.{eqb-true, eqb-false}
@@ -54,12 +55,12 @@ value-at bytes k d h =
     (omega (arith, after bytes k, held-room bytes)))
 
 pub value-past : (bytes : List ℕ) (k : ℕ) (d : Float) → heldOf bytes ≤ k → k < 257
-    → getD (valuesOf bytes) k d ≡ ofBits binary64 0
+    → getD (valuesOf bytes) k d ≡ nought
 unfolding valuesOf keep zeros
 value-past bytes k d h r =
-    upTo-keep (keep bytes) 0 zeros (λ (l : List Float). getD l k d ≡ ofBits binary64 0) (heldOf bytes) zero-le
+    upTo-keep (keep bytes) 0 zeros (λ (l : List Float). getD l k d ≡ nought) (heldOf bytes) zero-le
     (λ j l a b p. getD-set-other l j k (argumentAt bytes j) d (λ e. omega arith) ∙ p)
-    (getD-replicate 257 k (ofBits binary64 0) d r)
+    (getD-replicate 257 k nought d r)
 
 -- a polynomial's order is the store's first number, whatever the bytes
 pub order-value : (bytes : List ℕ) (d : Float) → orderOf bytes ≡ getD (valuesOf bytes) 0 d
@@ -67,6 +68,6 @@ unfolding orderOf
 order-value bytes d = go (eqb (countOf bytes) 0) refl
   where
     go : (b : Bool) → eqb (countOf bytes) 0 ≡ b
-        → cond b (ofBits binary64 0) (argumentAt bytes 0) ≡ getD (valuesOf bytes) 0 d
+        → cond b nought (argumentAt bytes 0) ≡ getD (valuesOf bytes) 0 d
     go true e = sym (value-past bytes 0 d (held-none bytes (eqb-true (countOf bytes) 0 e)) (lit< tt))
     go false e = sym (value-at bytes 0 d (held-some bytes (eqb-false (countOf bytes) 0 e)))

@@ -42,9 +42,13 @@ unfoldable pub badCount : ℕ → List ℕ → Bool
 badCount m bytes = not (eqb (length bytes % 8) 0) || ltb mostArguments (countOf bytes) || badFor m (countOf bytes)
 
 -- ---- 5, number
--- finite and at most 1,048,576 in magnitude
+-- the largest argument in magnitude
+abbrev pub argumentLimit : Float
+argumentLimit = ofBits binary64 0x4130_0000_0000_0000  -- 1048576.0
+
+-- finite and at most that in magnitude
 unfoldable pub goodNumber : Float → Bool
-goodNumber x = within (ofBits binary64 0x4130_0000_0000_0000) x  -- 1048576.0
+goodNumber x = within argumentLimit x
 
 unfoldable pub stillGood : List ℕ → ℕ → Bool → Bool
 stillGood bytes k good = good && goodNumber (argumentAt bytes k)

@@ -5,7 +5,8 @@ use mathlib.Core.Bool.{cond}
 use mathlib.Core.List.{List}
 use lib.Dec.{eqb}
 use lib.ListN.{length, set, replicate}
-use lib.Ieee.{Float, ofBits, binary64}
+use lib.Ieee.{Float}
+use Rattle.exact.specs.Double.{nought}
 use Rattle.exact.specs.Loop.{upTo}
 use Rattle.endian.specs.Bytes.{argumentAt}
 
@@ -23,15 +24,15 @@ heldOf bytes = min (countOf bytes) mostArguments
 
 -- its numbers, zero at first
 unfoldable pub zeros : List Float
-zeros = replicate mostArguments (ofBits binary64 0)  -- 0.0
+zeros = replicate mostArguments nought
 
 unfoldable pub keep : List ℕ → ℕ → List Float → List Float
 keep bytes k values = set values k (argumentAt bytes k)
 
 -- the store's numbers
 unfoldable pub valuesOf : List ℕ → List Float
-valuesOf bytes = upTo (keep bytes) 0 (heldOf bytes) (replicate mostArguments (ofBits binary64 0))  -- 0.0
+valuesOf bytes = upTo (keep bytes) 0 (heldOf bytes) (replicate mostArguments nought)
 
 -- the first argument, which is a polynomial's order; 0.0 where there is none
 unfoldable pub orderOf : List ℕ → Float
-orderOf bytes = cond (eqb (countOf bytes) 0) (ofBits binary64 0) (argumentAt bytes 0)  -- 0.0
+orderOf bytes = cond (eqb (countOf bytes) 0) nought (argumentAt bytes 0)

@@ -62,3 +62,10 @@ sampleAt s k = f32At s (4 * k)
 
 abbrev pub argumentAt : List ℕ → ℕ → Float
 argumentAt s k = f64At s (8 * k)
+
+-- the largest sample in magnitude, and its pattern
+abbrev pub samplePattern : ℕ
+samplePattern = 0x4780_0000
+
+abbrev pub sampleLimit : Float
+sampleLimit = ofBits binary32 samplePattern  -- 65536.0

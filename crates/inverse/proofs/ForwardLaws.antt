@@ -4,8 +4,8 @@ use mathlib.Core.Path.{_≡_, refl, sym, ap, _∙_}
 use mathlib.Core.Bool.{true, false}
 use Prim.Native.Nat.{ℕ, _+_, _≤_, _<_}
 use native.Mathlib.Omega.{arith}
-use lib.Ieee.{Float, binary64, ofBits, lt}
-use Rattle.exact.specs.Double.{_⊕_, _⊖_}
+use lib.Ieee.{Float, lt}
+use Rattle.exact.specs.Double.{_⊕_, _⊖_, leastDivisor}
 use Rattle.exact.specs.Loop.{upTo}
 use Rattle.exact.proofs.Loop.{upTo-next, upTo-last, upTo-stay}
 use Rattle.number.specs.Magnitude.{abs}
@@ -13,22 +13,22 @@ use Rattle.exact.specs.Vector.{Vector}
 use Rattle.point.specs.declared.point.Point.{Point}
 use Rattle.point.specs.Point.{point, none}
 use Rattle.point.specs.Course.{Course, on, out, turn, ended}
-use Rattle.inverse.specs.Forward.{det, du, dv, newton, newtonTurn, bilinearForward}
+use Rattle.inverse.specs.Forward.{lastStep, det, du, dv, newton, newtonTurn, bilinearForward}
 
 -- a step, by its two tests; d, p and q are what the code's calls of `abs` gave
 module _ (c : Vector) (x y u v d : Float) (ed : d ≡ abs (det c x y u v)) where
-  pub newton-none : lt d (ofBits binary64 0x3d71_9799_812d_ea11) ≡ true → newton c x y u v ≡ out none
+  pub newton-none : lt d leastDivisor ≡ true → newton c x y u v ≡ out none
   unfolding newton
   newton-none t = rw (← ed, t)
 
   module _ (p q : Float) (ep : p ≡ abs (du c x y u v)) (eq : q ≡ abs (dv c x y u v))
-      (t : lt d (ofBits binary64 0x3d71_9799_812d_ea11) ≡ false) where
-    pub newton-out : lt (p ⊕ q) (ofBits binary64 0x3e11_2e0b_e826_d695) ≡ true
+      (t : lt d leastDivisor ≡ false) where
+    pub newton-out : lt (p ⊕ q) lastStep ≡ true
         → newton c x y u v ≡ out (point (u ⊖ du c x y u v) (v ⊖ dv c x y u v))
     unfolding newton
     newton-out s = rw (← ed, t, ← ep, ← eq, s)
 
-    pub newton-on : lt (p ⊕ q) (ofBits binary64 0x3e11_2e0b_e826_d695) ≡ false
+    pub newton-on : lt (p ⊕ q) lastStep ≡ false
         → newton c x y u v ≡ on (u ⊖ du c x y u v, v ⊖ dv c x y u v)
     unfolding newton
     newton-on s = rw (← ed, t, ← ep, ← eq, s)

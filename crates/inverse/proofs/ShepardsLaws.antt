@@ -4,8 +4,8 @@ use mathlib.Core.Path.{_≡_, refl, sym, ap, _∙_}
 use mathlib.Core.Bool.{true, false}
 use Prim.Native.Nat.{ℕ, _+_, _*_, _≤_, _<_}
 use native.Mathlib.Omega.{arith}
-use lib.Ieee.{Float, binary64, ofBits, lt}
-use Rattle.exact.specs.Double.{_⊕_, _⊖_, _⊗_}
+use lib.Ieee.{Float, lt}
+use Rattle.exact.specs.Double.{_⊕_, _⊖_, _⊗_, leastDivisor}
 use Rattle.exact.specs.Loop.{upTo}
 use Rattle.exact.proofs.Loop.{upTo-next, upTo-last, upTo-stay}
 use Rattle.exact.specs.Vector.{Vector, at}
@@ -20,7 +20,7 @@ module _ (c : Vector) (x y : Float) (s : Sums) (j : ℕ) (h : on s ≡ upTo (pai
   unfolding pairTurn turn
   next e = sym e ∙ upTo-next (pairTurn c x y) 0 (on zeroSums) j (omega arith) h
 
-  pub pair-adds : lt (d2 c x y (4 * j)) (ofBits binary64 0x3d71_9799_812d_ea11) ≡ false
+  pub pair-adds : lt (d2 c x y (4 * j)) leastDivisor ≡ false
       → on (record {
         su = s .su ⊕ wgt c x y (4 * j) ⊗ (at c (4 * j) ⊖ at c (4 * j + 2));
         sv = s .sv ⊕ wgt c x y (4 * j) ⊗ (at c (4 * j + 1) ⊖ at c (4 * j + 3));
@@ -29,7 +29,7 @@ module _ (c : Vector) (x y : Float) (s : Sums) (j : ℕ) (h : on s ≡ upTo (pai
   unfolding addPair
   pair-adds t = next (rw t)
 
-  pub pair-leaves : (n : ℕ) → j < n → lt (d2 c x y (4 * j)) (ofBits binary64 0x3d71_9799_812d_ea11) ≡ true
+  pub pair-leaves : (n : ℕ) → j < n → lt (d2 c x y (4 * j)) leastDivisor ≡ true
       → point (at c (4 * j)) (at c (4 * j + 1)) ≡ ofPairs c x y n
   unfolding ofPairs ended addPair pairTurn turn
   pair-leaves n l t =

@@ -3,8 +3,8 @@
 use mathlib.Core.Bool.{Bool}
 use Prim.Native.Nat.{ℕ, _+_, _*_, zero-le}
 use lib.Dec.{eqb}
-use lib.Ieee.{Float, binary64, ofBits, le, lt}
-use Rattle.exact.specs.Double.{_⊕_, _⊖_, _⊘_}
+use lib.Ieee.{Float, le, lt}
+use Rattle.exact.specs.Double.{_⊕_, _⊖_, _⊘_, leastDivisor}
 use Rattle.exact.specs.Sums.{linear}
 use Rattle.exact.proofs.Loop.{upTo-keep}
 use Rattle.number.specs.Magnitude.{abs}
@@ -32,7 +32,7 @@ use Rattle.point.proofs.WholeLaws.{
   ended-whole,
 }
 use Rattle.inverse.specs.Perspective.{wq, perspective}
-use Rattle.inverse.specs.Forward.{det, du, dv, newton, newtonTurn, bilinearForward}
+use Rattle.inverse.specs.Forward.{lastStep, det, du, dv, newton, newtonTurn, bilinearForward}
 use Rattle.inverse.specs.Shepards.{Sums, d2, addPair, pairTurn, zeroSums, shift, ofPairs, pairsOf}
 use Rattle.inverse.specs.Affine.{affine}
 use Rattle.inverse.specs.Polynomial.{polynomial}
@@ -44,8 +44,8 @@ use Rattle.number.specs.Root.{root}
 newton-leaves : (c : Vector) (x y u v : Float) → Leaves (newton c x y u v)
 unfolding newton
 newton-leaves c x y u v =
-    either Leaves (lt (abs (det c x y u v)) (ofBits binary64 0x3d71_9799_812d_ea11)) (left none-whole)
-    (either Leaves (lt (abs (du c x y u v) ⊕ abs (dv c x y u v)) (ofBits binary64 0x3e11_2e0b_e826_d695))
+    either Leaves (lt (abs (det c x y u v)) leastDivisor) (left none-whole)
+    (either Leaves (lt (abs (du c x y u v) ⊕ abs (dv c x y u v)) lastStep)
     (left (point-whole (u ⊖ du c x y u v) (v ⊖ dv c x y u v)))
     (goes _))
 
@@ -61,7 +61,7 @@ forward-whole c x y =
 pair-leaves : (c : Vector) (x y : Float) (k : ℕ) (s : Sums) → Leaves (addPair c x y k s)
 unfolding addPair
 pair-leaves c x y k s =
-    either Leaves (lt (d2 c x y k) (ofBits binary64 0x3d71_9799_812d_ea11))
+    either Leaves (lt (d2 c x y k) leastDivisor)
     (left (point-whole (at c k) (at c (k + 1)))) (goes _)
 
 pairs-whole : (c : Vector) (x y : Float) (n : ℕ) → Whole (ofPairs c x y n)
@@ -78,7 +78,7 @@ affine-whole m x y = point-whole _ _
 pub perspective-whole : (m : Vector) (x y : Float) → Whole (perspective m x y)
 unfolding perspective
 perspective-whole m x y =
-    unless-whole (le (wq m x y) (ofBits binary64 0x3d71_9799_812d_ea11))
+    unless-whole (le (wq m x y) leastDivisor)
     (linear (at m 0) (at m 1) (at m 2) x y ⊘ wq m x y)
     (linear (at m 3) (at m 4) (at m 5) x y ⊘ wq m x y)
 
@@ -92,7 +92,7 @@ barrel-whole c dy dx r = point-whole _ _
 
 pub barrel-inverse-whole : (c : Vector) (dy dx r : Float) → Whole (barrelInverseFrom c dy dx r)
 unfolding barrelInverseFrom
-barrel-inverse-whole c dy dx r = unless-whole (lt (abs (factor c r)) (ofBits binary64 0x3d71_9799_812d_ea11)) _ _
+barrel-inverse-whole c dy dx r = unless-whole (lt (abs (factor c r)) leastDivisor) _ _
 
 -- ---- by the kind
 pub inverse-whole : (kind order count : ℕ) (coef : Vector) (x y : Float) → Whole (inverse kind order count coef x y)

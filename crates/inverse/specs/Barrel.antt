@@ -1,8 +1,8 @@
 -- Barrel and BarrelInverse: the offset from the centre times a factor that depends on the radius. The coefficients are
 -- the factor's four, the centre's two and the radius that counts as 1. Specification 7. Assumes nothing.
 use mathlib.Core.Bool.{cond}
-use lib.Ieee.{Float, binary64, ofBits, lt}
-use Rattle.exact.specs.Double.{_⊕_, _⊖_, _⊗_, _⊘_}
+use lib.Ieee.{Float, lt}
+use Rattle.exact.specs.Double.{_⊕_, _⊖_, _⊗_, _⊘_, leastDivisor}
 use Rattle.number.specs.Magnitude.{abs}
 use Rattle.number.specs.Power.{one}
 use Rattle.number.specs.Root.{root}
@@ -36,7 +36,7 @@ barrelFrom c dy dx r = scaled c dx dy (factor c r)
 -- no point where the factor is too small
 unfoldable pub barrelInverseFrom : Vector → Float → Float → Float → Point
 barrelInverseFrom c dy dx r =
-    cond (lt (abs (factor c r)) (ofBits binary64 0x3d71_9799_812d_ea11))  -- 1e-12
+    cond (lt (abs (factor c r)) leastDivisor)
     none
     (scaled c dx dy (one ⊘ factor c r))
 

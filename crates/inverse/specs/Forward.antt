@@ -3,13 +3,17 @@
 use Prim.Native.Nat.{ℕ}
 use mathlib.Core.Bool.{cond}
 use lib.Ieee.{Float, binary64, ofBits, lt}
-use Rattle.exact.specs.Double.{_⊕_, _⊖_, _⊗_, _⊘_}
+use Rattle.exact.specs.Double.{_⊕_, _⊖_, _⊗_, _⊘_, leastDivisor}
 use Rattle.exact.specs.Loop.{upTo}
 use Rattle.number.specs.Magnitude.{abs}
 use Rattle.exact.specs.Vector.{Vector, at}
 use Rattle.point.specs.declared.point.Point.{Point}
 use Rattle.point.specs.Point.{point, none}
 use Rattle.point.specs.Course.{Course, on, out, turn, ended}
+
+-- a step below it is the last
+abbrev pub lastStep : Float
+lastStep = ofBits binary64 0x3e11_2e0b_e826_d695  -- 1e-9
 
 -- how far (u, v) is from the target, and the Jacobian there
 module _ (c : Vector) (x y u v : Float) where
@@ -43,9 +47,9 @@ module _ (c : Vector) (x y u v : Float) where
   -- no point where the determinant is too small; the end where the step is below 1e-9. A NaN is neither.
   unfoldable pub newton : Course (Float × Float)
   newton =
-      cond (lt (abs det) (ofBits binary64 0x3d71_9799_812d_ea11))  -- 1e-12
+      cond (lt (abs det) leastDivisor)
       (out none)
-      (cond (lt (abs du ⊕ abs dv) (ofBits binary64 0x3e11_2e0b_e826_d695))  -- 1e-9
+      (cond (lt (abs du ⊕ abs dv) lastStep)
       (out (point (u ⊖ du) (v ⊖ dv)))
       (on (u ⊖ du, v ⊖ dv)))
 

@@ -2,8 +2,8 @@
 -- gives its own u, v. A pair is four coefficients: u, v, x, y. Specification 7. Assumes nothing.
 use Prim.Native.Nat.{ℕ, _+_, _*_, _/_, min}
 use mathlib.Core.Bool.{cond}
-use lib.Ieee.{Float, binary64, ofBits, lt}
-use Rattle.exact.specs.Double.{_⊕_, _⊖_, _⊗_, _⊘_}
+use lib.Ieee.{Float, lt}
+use Rattle.exact.specs.Double.{_⊕_, _⊖_, _⊗_, _⊘_, leastDivisor}
 use Rattle.exact.specs.Loop.{upTo}
 use Rattle.number.specs.Power.{one}
 use Rattle.exact.specs.Vector.{Vector, at}
@@ -28,7 +28,7 @@ module _ (c : Vector) (x y : Float) (k : ℕ) where
 
   unfoldable pub addPair : Sums → Course Sums
   addPair s =
-      cond (lt d2 (ofBits binary64 0x3d71_9799_812d_ea11))  -- 1e-12
+      cond (lt d2 leastDivisor)
       (out (point (at c k) (at c (k + 1))))
       (on (record {
         su = s .su ⊕ wgt ⊗ (at c k ⊖ at c (k + 2));

@@ -4,8 +4,8 @@ use mathlib.Core.Bool.{Bool, true, false, cond}
 use mathlib.Core.List.{List, []}
 use mathlib.Core.Option.{Option, none, some}
 use lib.ListN.{getD, set}
-use lib.Ieee.{Float, nan, binary64, ofBits, lt}
-use Rattle.exact.specs.Double.{_⊖_, _⊗_, _⊘_}
+use lib.Ieee.{Float, nan, lt}
+use Rattle.exact.specs.Double.{_⊖_, _⊗_, _⊘_, leastDivisor}
 use Rattle.exact.specs.Loop.{upTo}
 use Rattle.number.specs.Magnitude.{abs, reaching}
 use Rattle.exact.specs.Vector.{at}
@@ -19,9 +19,6 @@ better a col row best = cond (reaching (entry a best col) (entry a row col)) row
 
 abbrev pub pivot : Matrix → ℕ → ℕ → ℕ
 pivot a col n = upTo (better a col) (col + 1) n col
-
-abbrev pub least : Float
-least = ofBits binary64 0x3d71_9799_812d_ea11  -- 1e-12
 
 -- ---- rows changed for one another, and a multiple of the pivot's row taken from each below
 
@@ -52,7 +49,7 @@ clearBelow n col s = upTo (clearRow n col) (col + 1) n s
 
 unfoldable pub column : ℕ → ℕ → System → Option System
 column n col s =
-    cond (lt (abs (entry (s .0) (pivot (s .0) col n) col)) least)
+    cond (lt (abs (entry (s .0) (pivot (s .0) col n) col)) leastDivisor)
     none
     (some (clearBelow n col (swap col (pivot (s .0) col n) s)))
 

@@ -4,7 +4,7 @@ use mathlib.Core.Bool.{true, false, cond}
 use mathlib.Core.List.{[], _∷_}
 use lib.ListN.{replicate}
 use lib.Ieee.{Float, binary64, ofBits, lt, neg}
-use Rattle.exact.specs.Double.{_⊕_, _⊖_, _⊗_, _⊘_}
+use Rattle.exact.specs.Double.{_⊕_, _⊖_, _⊗_, _⊘_, leastDivisor}
 use Rattle.number.specs.Magnitude.{abs}
 use Rattle.linear.specs.declared.invert.AffineInverse.{AffineInverse}
 use Rattle.linear.specs.declared.invert.Inverse.{Inverse}
@@ -23,7 +23,7 @@ affineRows m a b c d = a ∷ b ∷ neg (a ⊗ at m 2 ⊕ b ⊗ at m 5) ∷ c ∷
 
 unfoldable pub invertAffine : Vector → AffineInverse
 invertAffine m =
-    cond (lt (abs (det2 m)) (ofBits binary64 0x3d71_9799_812d_ea11))  -- 1e-12
+    cond (lt (abs (det2 m)) leastDivisor)
     (record { found = false; m = replicate 6 nought })
     (record {
       found = true;
@@ -53,8 +53,12 @@ adjugate m i =
     ∷ ((at m 0 ⊗ at m 4 ⊖ at m 1 ⊗ at m 3) ⊗ i)
     ∷ []
 
+-- a homography's own limit
+abbrev pub leastDet3 : Float
+leastDet3 = ofBits binary64 0x3cd2_03af_9ee7_5616  -- 1e-15
+
 unfoldable pub invert3 : Vector → Inverse
 invert3 m =
-    cond (lt (abs (det3 m)) (ofBits binary64 0x3cd2_03af_9ee7_5616))  -- 1e-15
+    cond (lt (abs (det3 m)) leastDet3)
     (record { found = false; m = replicate 9 nought })
     (record { found = true; m = adjugate m (one ⊘ det3 m) })

@@ -3,7 +3,8 @@
 use Prim.Native.Nat.{ℕ}
 use mathlib.Core.List.{List, []}
 use lib.ListN.{getD, set, replicate}
-use lib.Ieee.{Float, binary64, ofBits}
+use lib.Ieee.{Float}
+pub use Rattle.exact.specs.Double.{nought}
 use Rattle.exact.specs.Vector.{Vector, at}
 
 abbrev pub Matrix : Type 0
@@ -24,9 +25,6 @@ entry a i k = at (rowAt a i) k
 -- a[i][k] = x
 abbrev pub put : Matrix → ℕ → ℕ → Float → Matrix
 put a i k x = set a i (set (rowAt a i) k x)
-
-abbrev pub nought : Float
-nought = ofBits binary64 0  -- +0.0
 
 abbrev pub zeros : Vector
 zeros = replicate 21 nought

@@ -4,7 +4,7 @@ use Prim.Native.Nat.{ℕ, _+_, _-_, _*_, _/_, _^_}
 use mathlib.Core.Bool.{Bool, true, false, cond}
 use lib.Dec.{leb, eqb}
 use lib.IntN.{ℤ, pos, negsuc, negℤ}
-use lib.Ieee.{Float, nan, inf, fin, binary64, up, down, ofInt}
+use lib.Ieee.{Float, nan, inf, fin, binary64, up, down, ofBits, ofInt}
 
 -- a / c, rounded up
 abbrev pub ceilDiv : ℕ → ℕ → ℕ
@@ -22,6 +22,10 @@ unfoldable pub inDomain : Float → Bool
 inDomain nan = false
 inDomain (inf s) = false
 inDomain (fin s m e) = leb (m * up e) (2 ^ 31 * down e)
+
+-- the largest number of the domain
+abbrev pub domainEnd : Float
+domainEnd = ofBits binary64 0x41e0_0000_0000_0000  -- 2^31
 
 unfoldable pub isZero : Float → Bool
 isZero nan = false

@@ -1,11 +1,9 @@
 -- Powers by repeated squaring, as the run-time routine behind Rust's `powi` makes them: x⁵ is x times (x²)². A
 -- product's value does not turn on the order of its two factors. Specification 4. Assumes nothing.
 use Prim.Native.Nat.{ℕ, zero, suc}
-use lib.Ieee.{Float, binary64, ofBits}
+use lib.Ieee.{Float}
 use Rattle.exact.specs.Double.{_⊗_}
-
-abbrev pub one : Float
-one = ofBits binary64 0x3ff0_0000_0000_0000  -- 1.0
+pub use Rattle.exact.specs.Double.{one}
 
 abbrev pub square : Float → Float
 square x = x ⊗ x

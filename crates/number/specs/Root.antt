@@ -3,7 +3,7 @@
 use Prim.Native.Nat.{ℕ, zero, suc, _+_, _-_, _*_, _/_, _^_, _<_}
 use mathlib.Core.Bool.{Bool, true, false, cond}
 use lib.Dec.{leb, ltb}
-use Rattle.exact.specs.Double.{_⊕_, _⊖_, _⊗_}
+use Rattle.exact.specs.Double.{_⊕_, _⊖_, _⊗_, nought, half, one}
 use lib.Ieee.{Float, nan, inf, fin, binary64, up, down, size, round, ofBits, toBits, lt}
 use lib.Ieee.Positive.{num, den}
 
@@ -71,19 +71,19 @@ leading g = g ⊗ ofBits binary64 0x41a0_0000_0200_0000 ⊖ (g ⊗ ofBits binary
 
 -- from the leading digits on, with half of 1 / √x
 abbrev pub stepped : Float → Float → Float → Float
-stepped d top half = top ⊕ (d ⊕ d ⊗ d ⊗ half)
+stepped d top h = top ⊕ (d ⊕ d ⊗ d ⊗ h)
 
 -- from y, near 1 / √x, on
 abbrev pub guessed : Float → Float → Float
 guessed x y =
     let p = towardOne (x ⊗ y ⊗ y) in
     let top = leading (x ⊗ y ⊗ p) in
-    let half = ofBits binary64 0x3fe0_0000_0000_0000 ⊗ y ⊗ p in  -- 0.5
-    stepped ((x ⊖ top ⊗ top) ⊗ half) top half
+    let h = half ⊗ y ⊗ p in
+    stepped ((x ⊖ top ⊗ top) ⊗ h) top h
 
 -- what it starts from: x, or 1 where x is not above 0
 abbrev pub seed : Float → Float
-seed x = cond (lt (ofBits binary64 0) x) x (ofBits binary64 0x3ff0_0000_0000_0000)  -- 1.0
+seed x = cond (lt nought x) x one
 
 unfoldable pub guess : Float → Float
 guess x = guessed (seed x) (ofBits binary64 (0x5fe6_b000_0000_0000 - toBits binary64 (seed x) / 2))

@@ -3,12 +3,13 @@
 -- Specification 7. Assumes nothing.
 use mathlib.Core.Path.{_≡_}
 use mathlib.Core.Bool.{Bool, false, cond, _&&_}
-use lib.Ieee.{Float, nan, binary64, ofBits}
+use lib.Ieee.{Float, nan}
+use Rattle.exact.specs.Double.{usableLimit}
 use Rattle.number.specs.Magnitude.{within}
 use Rattle.point.specs.declared.point.Point.{Point}
 
 abbrev pub limit : Float
-limit = ofBits binary64 0x41d0_0000_0000_0000  -- 2^30
+limit = usableLimit
 
 -- neither is a NaN or above 2^30 in magnitude
 unfoldable pub usable : Float → Float → Bool

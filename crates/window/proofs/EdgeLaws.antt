@@ -8,13 +8,13 @@ use native.Mathlib.Omega.{arith}
 use mathlib.Core.Bool.{Bool, true, false, not, _&&_, cond, true≢false}
 use lib.IntN.{ℤ, pos, negsuc, negℤ, natAbs}
 use lib.Dec.{T, leb, ltb, leb→le, le→leb, nleb→lt, ltb→lt, nltb→le, not-T, lit≤, lit<}
-use lib.Ieee.{Float, nan, inf, fin, binary64, up, down, lt, le, ofBits}
+use lib.Ieee.{Float, nan, inf, fin, up, down, lt, le, ofBits}
 use lib.Ieee.Fits.{down-pos}
 use lib.Ieee.Scale.{finite}
 use Rattle.exact.proofs.Integer.{natAbs-neg}
 use Rattle.exact.proofs.Operands.{same-test}
 use Rattle.exact.proofs.Order.{le-flip}
-use Rattle.number.specs.Floor.{ceilDiv, floorℤ, inDomain, floorI64}
+use Rattle.number.specs.Floor.{ceilDiv, floorℤ, inDomain, domainEnd, floorI64}
 use Rattle.number.proofs.FloorLaws.{floor-integer, floor-integer-out}
 use Rattle.window.specs.declared.extent.Extent.the-variants.{Out}
 use Rattle.window.specs.Ceil.{ceilℤ, ceilI64}
@@ -62,23 +62,20 @@ low-edge (fin s m e) y =
     beyond n h = omega arith
 
 -- ---- the high edge, that is a number and at most 2^31, or not
-abbrev pub edge : Float
-edge = ofBits binary64 0x41e0_0000_0000_0000  -- 2147483648.0
-
 turned : (a b : ℕ) → not (ltb b (a * 1)) ≡ leb a b
 turned a b =
     same-test (not (ltb b (a * 1))) (leb a b) (λ t. let h = nltb→le b (a * 1) t in le→leb a b (omega arith))
     (λ t. let h = leb→le a b t in not-T (ltb b (a * 1)) (λ u. let g = ltb→lt b (a * 1) u in omega arith))
 
-le-edge : (m : ℕ) (e : ℤ) → le (fin false m e) edge ≡ inDomain (fin false m e)
+le-edge : (m : ℕ) (e : ℤ) → le (fin false m e) domainEnd ≡ inDomain (fin false m e)
 unfolding ofBits inDomain lt
 le-edge m e = le-flip false false m 1 e (pos 31) ∙ turned (m * up e) (2147483648 * down e)
 
-under-edge : (m : ℕ) (e : ℤ) → le (fin true m e) edge ≡ true
+under-edge : (m : ℕ) (e : ℤ) → le (fin true m e) domainEnd ≡ true
 unfolding ofBits lt
 under-edge m e = le-flip true false m 1 e (pos 31)
 
-pub high-refused : (x : Float) (z : ℤ) → (finite x && le x edge) ≡ false → cond (finite x) (reach z (ceilℤ x)) Out ≡ Out
+pub high-refused : (x : Float) (z : ℤ) → (finite x && le x domainEnd) ≡ false → cond (finite x) (reach z (ceilℤ x)) Out ≡ Out
 high-refused nan z h = refl
 high-refused (inf s) z h = refl
 high-refused (fin true m e) z h = absurd (true≢false (sym (under-edge m e) ∙ h))
@@ -100,7 +97,7 @@ reach-far z zero h = absurd (none h)
     none h = omega arith
 reach-far z (suc k) h = reach-low z 9223372036854775807 k (lit≤ tt) (omega arith)
 
-pub high-edge : (x : Float) (z : ℤ) → (finite x && le x edge) ≡ true
+pub high-edge : (x : Float) (z : ℤ) → (finite x && le x domainEnd) ≡ true
     → reach z (ceilI64 x) ≡ cond (finite x) (reach z (ceilℤ x)) Out
 high-edge nan z h = absurd (true≢false (sym h))
 high-edge (inf s) z h = absurd (true≢false (sym h))

@@ -2,8 +2,8 @@
 -- mapping f, and the box around them. Specification 6. Assumes nothing.
 use Prim.Native.Nat.{ℕ, _+_}
 use mathlib.Core.Bool.{Bool, _||_}
-use lib.Ieee.{Float, binary64, ofBits, lt}
-use Rattle.exact.specs.Double.{_⊕_, _⊗_, _⊘_}
+use lib.Ieee.{Float, lt}
+use Rattle.exact.specs.Double.{_⊕_, _⊗_, _⊘_, leastDivisor}
 use Rattle.number.specs.Magnitude.{abs}
 use Rattle.exact.specs.Vector.{Vector, at}
 use Rattle.linear.specs.Matrix.{nought}
@@ -30,7 +30,7 @@ abbrev pub wq : Vector → Float → Float → Float
 wq f u v = form f 6 u v
 
 abbrev pub lost : Vector → Float → Float → Bool
-lost f u v = lt (abs (wq f u v)) (ofBits binary64 0x3d71_9799_812d_ea11)  -- 1e-12
+lost f u v = lt (abs (wq f u v)) leastDivisor
 
 abbrev pub anyLost : Vector → Float → Float → Bool
 anyLost f w h = lost f nought nought || lost f w nought || lost f nought h || lost f w h

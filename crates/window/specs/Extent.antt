@@ -4,9 +4,10 @@ use Prim.Native.Nat.{ℕ, zero, suc}
 use mathlib.Core.Bool.{Bool, _&&_, cond}
 use lib.Dec.{leb, ltb}
 use lib.IntN.{ℤ, pos, negsuc, natAbs, _-ℤ_}
-use lib.Ieee.{Float, binary64, ofBits}
+use lib.Ieee.{Float}
 use lib.Ieee.Scale.{finite}
 use Rattle.exact.specs.Double.{_⊕_, _⊖_}
+pub use Rattle.exact.specs.Double.{half}
 use Rattle.number.specs.Floor.{floorℤ}
 use Rattle.window.specs.declared.extent.Extent.{Extent}
 use Rattle.window.specs.declared.extent.Extent.the-variants.{Of, Out}
@@ -22,9 +23,6 @@ unfoldable pub held : ℤ → ℕ → Extent
 held from length = cond (goodOffset from && goodLength length) (Of from length) Out
 
 -- ---- from the edges of a box
-
-abbrev pub half : Float
-half = ofBits binary64 0x3fe0_0000_0000_0000  -- 0.5
 
 -- a count of at least 1
 unfoldable pub atLeastOne : ℤ → ℕ

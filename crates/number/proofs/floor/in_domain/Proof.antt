@@ -6,20 +6,17 @@ use native.Mathlib.Nat.{mul-one}
 use mathlib.Core.Bool.{true, false, not, _&&_}
 use lib.IntN.{pos}
 use lib.Dec.{ltb, leb}
-use lib.Ieee.{Float, nan, inf, fin, binary64, up, down, le, neg, ofBits}
+use lib.Ieee.{Float, nan, inf, fin, up, down, le, neg, ofBits}
 use Rattle.exact.proofs.Booleans.{and-true}
 use Rattle.exact.proofs.Order.{le-flip, not-above}
-use Rattle.number.specs.Floor.{inDomain}
+use Rattle.number.specs.Floor.{inDomain, domainEnd}
 use Rattle.number.proofs.floor.in_domain.Statement.{statement}
 use Rattle.number.proofs.floor.in_domain.Tie as tie
-
-abbrev edge : Float
-edge = ofBits binary64 0x41e0_0000_0000_0000
 
 turned : (a b : ℕ) → not (ltb b (a * 1)) ≡ leb a b
 turned a b = ap (λ (n : ℕ). not (ltb b n)) (mul-one a) ∙ not-above a b
 
-tests : (x : Float) → (le (neg edge) x && le x edge) ≡ inDomain x
+tests : (x : Float) → (le (neg domainEnd) x && le x domainEnd) ≡ inDomain x
 unfolding le neg ofBits inDomain
 tests nan = refl
 tests (inf true) = refl

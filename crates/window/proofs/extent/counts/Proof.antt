@@ -4,12 +4,12 @@ use mathlib.Core.Path.{_≡_, refl}
 use mathlib.Core.Bool.{true, false, _&&_}
 use lib.Ieee.{Float, nan, inf, fin, binary64, lt, eq, le, neg, div, ofBits}
 use lib.Ieee.Scale.{finite}
-use Rattle.window.proofs.EdgeLaws.{edge}
+use Rattle.number.specs.Floor.{domainEnd}
 use Rattle.window.proofs.extent.counts.Statement.{statement}
 use Rattle.window.proofs.extent.counts.Tie as tie
 
 tests : (x : Float) → (lt (div binary64 (neg (ofBits binary64 0x3ff0_0000_0000_0000)) (ofBits binary64 0)) x
-    && le x edge) ≡ (finite x && le x edge)
+    && le x domainEnd) ≡ (finite x && le x domainEnd)
 unfolding lt eq le neg div ofBits
 tests nan = refl
 tests (inf true) = refl

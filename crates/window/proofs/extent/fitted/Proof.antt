@@ -13,14 +13,14 @@ use mir.Syntax.{w64}
 use mir.Val.{ofZ, toZ}
 use mir.ValLaws.{toZ-ofZ}
 use Rattle.exact.specs.Double.{_⊕_, _⊖_}
-use Rattle.number.specs.Floor.{floorℤ, floorI64}
+use Rattle.number.specs.Floor.{floorℤ, domainEnd, floorI64}
 use Rattle.window.specs.declared.extent.Extent.{Extent}
 use Rattle.window.specs.declared.extent.Extent.the-variants.{Out}
 use Rattle.window.specs.Ceil.{ceilℤ, ceilI64}
 use Rattle.window.specs.Extent.{half, reach, fitted}
 use Rattle.window.proofs.HalfLaws.{less-half, more-half}
 use Rattle.window.proofs.CeilLaws.{floor-fits, ceil-fits, ceil-most}
-use Rattle.window.proofs.EdgeLaws.{edge, low-edge, high-refused, high-edge}
+use Rattle.window.proofs.EdgeLaws.{low-edge, high-refused, high-edge}
 use Rattle.window.proofs.extent.fitted.Statement.{statement}
 use Rattle.window.proofs.extent.fitted.Tie as tie
 
@@ -44,7 +44,7 @@ module _ (low high : Float) (l : T (fits binary64 low)) (g : T (fits binary64 hi
   tested : (s : Extent) → cond (finite bottom) (cond (finite top) s Out) Out ≡ cond (finite low && finite high) s Out
   tested s = both (finite bottom) (finite top) s ∙ (λ i. cond (less-half low l i && more-half high g i) s Out)
 
-  refused : (finite top && le top edge) ≡ false → Out ≡ fitted low high
+  refused : (finite top && le top domainEnd) ≡ false → Out ≡ fitted low high
   unfolding fitted
   refused h =
       sym (either (finite bottom))
@@ -63,7 +63,7 @@ module _ (low high : Float) (l : T (fits binary64 low)) (g : T (fits binary64 hi
     most = subst (λ (z : ℤ). z ≤ℤ pos 2147483648) (sym read-to) (ceil-most top)
 
     answer : (r : Extent) → r ≡ reach (toZ w64 (ofZ w64 from)) (toZ w64 (ofZ w64 to))
-        → (finite top && le top edge) ≡ true → r ≡ fitted low high
+        → (finite top && le top domainEnd) ≡ true → r ≡ fitted low high
     unfolding fitted
     answer r e h =
         e ∙ (λ i. reach (read-from i) (read-to i))

@@ -1,20 +1,15 @@
 -- Where refusal 4 does not apply, the number of arguments is what the method asks. A method is one of a few codes, and
 -- at a code the definition computes to that method's test. Assumes nothing.
 use mathlib.Core.Path.{_≡_, refl, sym, ap, _∙_, subst}
-use mathlib.Core.Logic.{_⊎_, inl, inr, ⊎-elim}
+use mathlib.Core.Logic.{⊎-elim}
 use mathlib.Core.Bool.{Bool, true, false, not, _||_, false≢true}
 use Prim.Native.Nat.{ℕ, _-_, _*_, _/_, _%_, _≤_}
 use native.Mathlib.Omega.{arith}
 use lib.Dec.{eqb, ltb}
 use borrow.Author.Tests.{ltb-false, eqb-true, eqb-false, not-false}
-use Rattle.exact.proofs.Booleans.{or-false}
+use Rattle.exact.proofs.Booleans.{or-false, one-of}
 use Rattle.arguments.specs.Method.{pairMethod, skip}
 use Rattle.arguments.specs.Refusal.{badValues, badFor}
-
--- ---- tests joined by ||
-pub either : (a b : Bool) → (a || b) ≡ true → (a ≡ true) ⊎ (b ≡ true)
-either true b e = inl refl
-either false b e = inr e
 
 -- ---- the values of a pair method
 pub values-count : (n : ℕ) → badValues n ≡ false → (n ≡ 4 * (n / 4)) × ((1 ≤ n / 4) × (n / 4 ≤ 64))
@@ -46,7 +41,7 @@ ordered n e = let t = or-false (eqb n 0) (badValues (n - 1)) e in (some n (eqb-f
 
 -- one more code that the method may be
 or-at : (m n : ℕ) (b : Bool) (k : ℕ) → (b ≡ true → After m n) → After k n → (b || eqb m k) ≡ true → After m n
-or-at m n b k f p e = ⊎-elim f (λ q. subst (λ (x : ℕ). After x n) (sym (eqb-true m k q)) p) (either b (eqb m k) e)
+or-at m n b k f p e = ⊎-elim f (λ q. subst (λ (x : ℕ). After x n) (sym (eqb-true m k q)) p) (one-of b (eqb m k) e)
 
 pub pairs-after : (m n : ℕ) → pairMethod m ≡ true → After m n
 unfolding pairMethod badFor skip

@@ -1,7 +1,8 @@
 -- Laws of tests: what two that are joined tell of each, and what a test chooses. Provides: `or-true`, `or-false`,
--- `both-false` (||); `and-true`, `both`, `both-pass` (&&); `same-false` (two that fail together are one); `yes-of`,
--- `no-of`, `either` (what `cond` is, and what holds of it). Assumes nothing.
+-- `one-of`, `both-false` (||); `and-true`, `both`, `both-pass` (&&); `same-false` (two that fail together are
+-- one); `yes-of`, `no-of`, `either` (what `cond` is, and what holds of it). Assumes nothing.
 use mathlib.Core.Path.{_≡_, refl, sym}
+use mathlib.Core.Logic.{_⊎_, inl, inr}
 use mathlib.Core.Bool.{Bool, true, false, not, cond, _&&_, _||_, true≢false, false≢true}
 use lib.Dec.{T}
 
@@ -13,6 +14,10 @@ or-true false = refl
 pub or-false : (a b : Bool) → (a || b) ≡ false → (a ≡ false) × (b ≡ false)
 or-false true b h = absurd (true≢false h)
 or-false false b h = (refl, h)
+
+pub one-of : (a b : Bool) → (a || b) ≡ true → (a ≡ true) ⊎ (b ≡ true)
+one-of true b h = inl refl
+one-of false b h = inr h
 
 pub both-false : (a b : Bool) → a ≡ false → b ≡ false → (a || b) ≡ false
 both-false true b p q = p

@@ -1,10 +1,10 @@
 -- Where the tests of sides, channels and length fail, the sizes are a picture's and its samples are few enough to
--- count; where the test of the samples fails, too, the bytes are a picture. Provides: `neither`, `either` (of two
--- tests); `side-fit`, `channels-fit`, `channels-range`, `size-fit`, `stock-whole` (what each test leaves);
--- `area-small`, `samples-small`, `counted` (the products); `picture-fit`, `one-pixel`. Assumes nothing.
+-- count; where the test of the samples fails, too, the bytes are a picture. Provides: `side-fit`, `channels-fit`,
+-- `channels-range`, `size-fit`, `stock-whole` (what each test leaves); `area-small`, `samples-small`, `counted`
+-- (the products); `picture-fit`, `one-pixel`. Assumes nothing.
 use mathlib.Core.Path.{_≡_, refl}
-use mathlib.Core.Logic.{_⊎_, inl, inr, ⊎-elim}
-use mathlib.Core.Bool.{Bool, true, false, not, _||_, true≢false}
+use mathlib.Core.Logic.{inl, inr, ⊎-elim}
+use mathlib.Core.Bool.{Bool, true, false, not, _||_}
 use mathlib.Core.List.{List}
 use Prim.Native.Nat.{ℕ, _*_, _≤_, _<_}
 use native.Mathlib.Nat.{mul-le-mul}
@@ -13,22 +13,15 @@ use lib.Dec.{eqb, ltb, lit≤}
 use lib.ListN.{length}
 use borrow.Author.Tests.{eqb-true, eqb-false, ltb-false, not-false}
 use Rattle.exact.specs.Loop.{upTo}
+use Rattle.exact.proofs.Booleans.{or-false, one-of}
 use Rattle.picture.specs.Pixel.{Sizes, Picture, Channels, Inside}
 use Rattle.picture.specs.Size.{badSide, badChannels, badSize, badStock}
 use Rattle.picture.proofs.LimitedLaws.{step, limited-by}
 
-pub neither : (a b : Bool) → (a || b) ≡ false → (a ≡ false) × (b ≡ false)
-neither true b e = absurd (true≢false e)
-neither false b e = (refl, e)
-
-pub either : (a b : Bool) → (a || b) ≡ true → (a ≡ true) ⊎ (b ≡ true)
-either true b e = inl refl
-either false b e = inr e
-
 -- ---- the sizes
 pub side-fit : (n : ℕ) → badSide n ≡ false → (0 < n) × (n ≤ 4096)
 unfolding badSide
-side-fit n h = let t = neither (eqb n 0) (ltb 4096 n) h in (above n (eqb-false n 0 (t .0)), ltb-false 4096 n (t .1))
+side-fit n h = let t = or-false (eqb n 0) (ltb 4096 n) h in (above n (eqb-false n 0 (t .0)), ltb-false 4096 n (t .1))
   where
     above : (n : ℕ) → (n ≡ 0 → ⊥) → 0 < n
     above n k = omega arith
@@ -37,8 +30,8 @@ pub channels-fit : (n : ℕ) → badChannels n ≡ false → Channels n
 unfolding badChannels
 channels-fit n h =
     ⊎-elim (λ e. inl (eqb-true n 1 e))
-    (λ t. inr (⊎-elim (λ e. inl (eqb-true n 3 e)) (λ e. inr (eqb-true n 4 e)) (either (eqb n 3) (eqb n 4) t)))
-    (either (eqb n 1) (eqb n 3 || eqb n 4) (not-false (eqb n 1 || (eqb n 3 || eqb n 4)) h))
+    (λ t. inr (⊎-elim (λ e. inl (eqb-true n 3 e)) (λ e. inr (eqb-true n 4 e)) (one-of (eqb n 3) (eqb n 4) t)))
+    (one-of (eqb n 1) (eqb n 3 || eqb n 4) (not-false (eqb n 1 || (eqb n 3 || eqb n 4)) h))
 
 pub channels-range : (n : ℕ) → Channels n → (0 < n) × (n ≤ 4)
 channels-range n = ⊎-elim (is 1 (lit≤ tt) (lit≤ tt)) (⊎-elim (is 3 (lit≤ tt) (lit≤ tt)) (is 4 (lit≤ tt) (lit≤ tt)))
@@ -53,8 +46,8 @@ pub record Sized (width height channels : ℕ) : Type 0 where
 pub size-fit : (width height channels : ℕ) → badSize width height channels ≡ false → Sized width height channels
 unfolding badSize
 size-fit width height channels h =
-    let t = neither (badSide width) (badSide height || badChannels channels) h in
-    let u = neither (badSide height) (badChannels channels) (t .1) in
+    let t = or-false (badSide width) (badSide height || badChannels channels) h in
+    let u = or-false (badSide height) (badChannels channels) (t .1) in
     let across = side-fit width (t .0) in
     let down = side-fit height (u .0) in
     record {

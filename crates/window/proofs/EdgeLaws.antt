@@ -75,7 +75,8 @@ under-edge : (m : ℕ) (e : ℤ) → le (fin true m e) domainEnd ≡ true
 unfolding ofBits lt
 under-edge m e = le-flip true false m 1 e (pos 31)
 
-pub high-refused : (x : Float) (z : ℤ) → (finite x && le x domainEnd) ≡ false → cond (finite x) (reach z (ceilℤ x)) Out ≡ Out
+pub high-refused : (x : Float) (z : ℤ) → (finite x && le x domainEnd) ≡ false
+    → cond (finite x) (reach z (ceilℤ x)) Out ≡ Out
 high-refused nan z h = refl
 high-refused (inf s) z h = refl
 high-refused (fin true m e) z h = absurd (true≢false (sym (under-edge m e) ∙ h))

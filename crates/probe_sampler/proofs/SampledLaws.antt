@@ -13,7 +13,8 @@ use Rattle.taps.specs.Cell.{reach, Reached}
 use Rattle.picture.specs.Pixel.{Shaped, Inside}
 use Rattle.picture.specs.Size.{badSize, badStock}
 use Rattle.picture.specs.declared.shape.Shape.{Shape}
-use Rattle.picture.proofs.SizeLaws.{neither, picture-fit, one-pixel}
+use Rattle.picture.proofs.SizeLaws.{picture-fit, one-pixel}
+use Rattle.exact.proofs.Booleans.{or-false}
 use Rattle.number.specs.Magnitude.{within}
 
 pub shape-fit : (bytes : List ℕ) (s : Shape) → wrongPicture bytes s ≡ false
@@ -21,7 +22,7 @@ pub shape-fit : (bytes : List ℕ) (s : Shape) → wrongPicture bytes s ≡ fals
     × (badStock bytes (s .width) (s .height) (s .channels) ≡ false)
 unfolding wrongPicture
 shape-fit bytes s f =
-    neither (badSize (s .width) (s .height) (s .channels)) (badStock bytes (s .width) (s .height) (s .channels)) f
+    or-false (badSize (s .width) (s .height) (s .channels)) (badStock bytes (s .width) (s .height) (s .channels)) f
 
 pub reached : (x : ℕ) → beyond x ≡ false → Reached (ofBits binary64 x)
 unfolding beyond
@@ -41,11 +42,11 @@ outside-fit bytes s policy code background x y f =
     let r : Bool = beyond x || beyond y in
     let q : Bool = large background 4 || r in
     let p : Bool = large bytes (samples s) || q in
-    let t = neither (wrongPicture bytes s) (wrongCodes policy code || p) f in
-    let u = neither (wrongCodes policy code) p (t .1) in
-    let v = neither (large bytes (samples s)) q (u .1) in
-    let k = neither (large background 4) r (v .1) in
-    let l = neither (beyond x) (beyond y) (k .1) in
+    let t = or-false (wrongPicture bytes s) (wrongCodes policy code || p) f in
+    let u = or-false (wrongCodes policy code) p (t .1) in
+    let v = or-false (large bytes (samples s)) q (u .1) in
+    let k = or-false (large background 4) r (v .1) in
+    let l = or-false (beyond x) (beyond y) (k .1) in
     let z = shape-fit bytes s (t .0) in (
       picture-fit bytes (s .width) (s .height) (s .channels) (z .0) (z .1) (v .0),
       (λ e. one-pixel background e (k .0), (reached x (l .0), reached y (l .1))),

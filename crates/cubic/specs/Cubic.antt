@@ -4,18 +4,10 @@ use mathlib.Core.Bool.{Bool, not, cond, _&&_}
 use mathlib.Core.List.{List, [], _∷_}
 use lib.Ieee.{Float, binary32, neg, ofBits, lt}
 use Rattle.exact.specs.Single.{_⊕_, _⊖_, _⊗_, _⊘_}
+pub use Rattle.exact.specs.Single.{zero, half, one}
 use Rattle.number.specs.Magnitude.{abs}
 
--- ---- the constants
-abbrev pub zero : Float
-zero = ofBits binary32 0x0000_0000  -- 0.0
-
-abbrev pub half : Float
-half = ofBits binary32 0x3f00_0000  -- 0.5
-
-abbrev pub one : Float
-one = ofBits binary32 0x3f80_0000  -- 1.0
-
+-- ---- the other constants
 abbrev pub two : Float
 two = ofBits binary32 0x4000_0000  -- 2.0
 

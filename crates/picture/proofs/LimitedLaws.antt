@@ -9,32 +9,30 @@ use native.Mathlib.Omega.{arith}
 use borrow.Author.Tests.{not-false}
 use lib.Dec.{T, leb→le, lit≤}
 use lib.ListN.{length}
-use lib.Ieee.{Float, binary32, ofBits}
+use lib.Ieee.{binary32}
 use Rattle.exact.specs.Loop.{upTo}
 use Rattle.exact.proofs.Any.{none-each}
-use Rattle.endian.specs.Bytes.{u32At, sampleAt}
+use Rattle.endian.specs.Bytes.{u32At, sampleAt, samplePattern, sampleLimit}
 use Rattle.number.specs.Magnitude.{within}
 use Rattle.number.proofs.MagnitudeTests.{within-bits}
 use Rattle.picture.specs.Pixel.{Limited}
 
-abbrev limit : Float
-limit = ofBits binary32 0x4780_0000
-
 module _ (bytes : List ℕ) where
   -- the test of one sample more
   abbrev pub step : ℕ → Bool → Bool
-  step k t = t || not (within limit (sampleAt bytes k))
+  step k t = t || not (within sampleLimit (sampleAt bytes k))
 
-  pub all-within : (n : ℕ) → upTo step 0 n false ≡ false → (k : ℕ) → k < n → within limit (sampleAt bytes k) ≡ true
+  pub all-within : (n : ℕ) → upTo step 0 n false ≡ false → (k : ℕ) → k < n
+      → within sampleLimit (sampleAt bytes k) ≡ true
   all-within n fine k h =
-      not-false (within limit (sampleAt bytes k))
-      (none-each (λ (j : ℕ). not (within limit (sampleAt bytes j))) n fine k h)
+      not-false (within sampleLimit (sampleAt bytes k))
+      (none-each (λ (j : ℕ). not (within sampleLimit (sampleAt bytes j))) n fine k h)
 
   pub limited-by : (n : ℕ) → length bytes ≡ n * 4 → upTo step 0 n false ≡ false → Limited bytes
   limited-by n e fine = record {
     sample = λ k h.
-        leb→le (u32At bytes (4 * k) % 0x8000_0000) 0x4780_0000
-        (subst T (sym (within-bits binary32 (u32At bytes (4 * k)) 0x4780_0000 (lit≤ tt)
+        leb→le (u32At bytes (4 * k) % 0x8000_0000) samplePattern
+        (subst T (sym (within-bits binary32 (u32At bytes (4 * k)) samplePattern (lit≤ tt)
         ∙ all-within n fine k (below k h))) tt);
   }
     where

@@ -2,16 +2,8 @@
 -- 8, 10. Assumes nothing.
 use lib.Ieee.{Float, binary32, ofBits}
 use Rattle.exact.specs.Single.{_⊕_, _⊗_}
+pub use Rattle.exact.specs.Single.{zero, half, one}
 use Rattle.picture.specs.declared.colour.Rgba.{Rgba}
-
-abbrev pub zero : Float
-zero = ofBits binary32 0x0000_0000  -- 0.0
-
-abbrev pub half : Float
-half = ofBits binary32 0x3f00_0000  -- 0.5
-
-abbrev pub one : Float
-one = ofBits binary32 0x3f80_0000  -- 1.0
 
 abbrev pub grey : Float → Float → Rgba
 grey v alpha = record { r = v; g = v; b = v; a = alpha }

@@ -7,7 +7,7 @@ use mathlib.Core.List.{List}
 use mathlib.Core.Logic.{_⊎_}
 use lib.Dec.{eqb}
 use lib.ListN.{length}
-use Rattle.endian.specs.Bytes.{u32At, sampleAt}
+use Rattle.endian.specs.Bytes.{u32At, sampleAt, samplePattern}
 use Rattle.picture.specs.Colour.{one, grey}
 use Rattle.picture.specs.declared.colour.Rgba.{Rgba}
 use Rattle.picture.specs.declared.shape.Shape.{Shape}
@@ -15,7 +15,7 @@ pub use Rattle.policies.specs.Named.{Sizes}
 
 -- each sample's pattern, its sign aside, is at most that of 65,536: it is a number's, and no NaN's
 pub record Limited (bytes : List ℕ) : Type 0 where
-  pub sample : (k : ℕ) → (k + 1) * 4 ≤ length bytes → u32At bytes (4 * k) % 0x8000_0000 ≤ 0x4780_0000
+  pub sample : (k : ℕ) → (k + 1) * 4 ≤ length bytes → u32At bytes (4 * k) % 0x8000_0000 ≤ samplePattern
 
 -- the bytes are those of a picture of these sizes, and of numbers
 pub record Picture (bytes : List ℕ) (width height channels : ℕ) : Type 0 where

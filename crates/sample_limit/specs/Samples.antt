@@ -3,14 +3,13 @@
 use Prim.Native.Nat.{ℕ, _+_, _*_}
 use mathlib.Core.Bool.{Bool, false, not, _||_}
 use mathlib.Core.List.{List}
-use lib.Ieee.{binary32, ofBits}
 use Rattle.exact.specs.Loop.{upTo}
-use Rattle.endian.specs.Bytes.{sampleAt}
+use Rattle.endian.specs.Bytes.{sampleAt, sampleLimit}
 use Rattle.number.specs.Magnitude.{within}
 
 -- the sample numbered k is
 abbrev pub beyond : List ℕ → ℕ → Bool
-beyond bytes k = not (within (ofBits binary32 0x4780_0000) (sampleAt bytes k))  -- 65536.0
+beyond bytes k = not (within sampleLimit (sampleAt bytes k))
 
 -- one of the first n is
 unfoldable pub large : List ℕ → ℕ → Bool

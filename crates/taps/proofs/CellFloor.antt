@@ -12,7 +12,7 @@ use lib.Dec.{T, le→leb, lt→ltb, eqb→eq, lit≤}
 use lib.Ieee.{Float, nan, inf, fin, binary32, binary64, up, down, round, ofInt, inFloat, isNan, ofBits}
 use lib.Ieee.Fits.{down-pos}
 use lib.Ieee.Scale.{finite}
-use Rattle.exact.specs.Double.{_⊖_}
+use Rattle.exact.specs.Double.{_⊖_, usableLimit}
 use Rattle.exact.specs.Fraction.{Fraction, frac, whole, value, _≤F_, _<F_, _≈_, _+F_, _-F_, absF}
 use Rattle.exact.specs.Rounds.{Rounds, Close}
 use Rattle.exact.specs.Surface.{floorF}
@@ -165,14 +165,10 @@ unfolding within
 reached-of x n h = let m = abs-magnitude x n in
     le-value (abs x) reach (m .0) reach-number .1 (le-same (back (m .1)) reach-value h)
 
--- the limit of a usable coordinate, 2^30
-abbrev pub usable : Float
-usable = ofBits binary64 0x41d0_0000_0000_0000
-
-usable-number : T (finite usable)
+usable-number : T (finite usableLimit)
 usable-number = unfold ofBits in tt
 
-usable-value : value usable ≈ frac 1073741824 1
+usable-value : value usableLimit ≈ frac 1073741824 1
 usable-value = unfold ofBits in record { eq = refl }
 
 half-number : T (finite half)
@@ -199,10 +195,11 @@ module _ (u : Float) (b : ℕ) (n : T (finite u)) (size : absF (value u) ≤F fr
           (Near.le-trans (absF (value u -F value half)) (frac b 1 +F frac 1 2) (frac 2147483648 1) less-size
           (unfold _+F_ in record { le = omega arith }))
 
-pub usable-reached : (u : Float) → T (within usable u) → Reached (u ⊖ half)
+pub usable-reached : (u : Float) → T (within usableLimit u) → Reached (u ⊖ half)
 unfolding within
 usable-reached u h =
-    let n = abs-limited u usable usable-number h in
+    let n = abs-limited u usableLimit usable-number h in
     let m = abs-magnitude u n in
-    less-half-reached u 1073741824 n (le-same (m .1) usable-value (le-value (abs u) usable (m .0) usable-number .0 h))
+    less-half-reached u 1073741824 n
+    (le-same (m .1) usable-value (le-value (abs u) usableLimit (m .0) usable-number .0 h))
     (lit≤ tt)

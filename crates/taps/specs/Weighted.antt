@@ -5,12 +5,13 @@ use mathlib.Core.Path.{_≡_}
 use mathlib.Core.Bool.{cond}
 use mathlib.Core.List.{List, [], _∷_}
 use lib.ListN.{getD}
-use lib.Ieee.{Float, nan, binary32, ofBits, lt}
+use lib.Ieee.{Float, nan, lt}
 use Rattle.exact.specs.Blend.{blend}
 use Rattle.exact.specs.Fraction.{Fraction, value}
 use Rattle.exact.specs.Loop.{upTo}
 use Rattle.exact.specs.Single.{_⊕_, _⊗_, _⊘_}
 use Rattle.exact.specs.Weighted.{w00, w10, w01, w11, Unit32, Sample, blendError}
+pub use Rattle.exact.specs.Weighted.{least}
 use Rattle.number.specs.Magnitude.{abs}
 pub use Rattle.cubic.specs.Bounded.{Bounded}
 use Rattle.picture.specs.Colour.{zero, one, grey}
@@ -31,11 +32,7 @@ added p w s = record {
   weight = s .weight ⊕ w;
 }
 
--- 1e-9, which a divisor has to be above in magnitude
-abbrev pub least : Float
-least = ofBits binary32 0x3089_705f
-
--- x / y, or 0 where y is too small
+-- x / y, or 0 where y is at most `least` in magnitude
 unfoldable pub quotient : Float → Float → Float
 quotient x y = cond (lt least (abs y)) (x ⊘ y) zero
 

@@ -3,7 +3,7 @@
 -- half a pixel back into index space. Specification 10. Assumes nothing.
 use Prim.Native.Nat.{ℕ, _+_, _*_}
 use mathlib.Core.Path.{_≡_}
-use mathlib.Core.Bool.{Bool, cond}
+use mathlib.Core.Bool.{Bool, true, false, cond}
 use mathlib.Core.List.{List, _++_}
 use lib.Ieee.{Float}
 use lib.IntN.{ℤ}
@@ -43,6 +43,15 @@ pub record Source : Type 0 where
   pub background : Rgba
   pub matte : Rgba
 
+abbrev pub sourceOf : Image → ℕ → ℕ → Rgba → Rgba → Source
+sourceOf image policy interpolation background matte = record {
+  image = image;
+  policy = policy;
+  interpolation = interpolation;
+  background = background;
+  matte = matte;
+}
+
 -- both by the records that the code hands on, with the lists that it lends
 abbrev pub framed : Vector → Frame → Mapped
 framed coef f =
@@ -53,13 +62,7 @@ abbrev pub mapped : Mapping → ℤ → ℤ → Mapped
 mapped m x y = record { kind = m .kind; order = m .order; count = m .count; coef = m .coef; x = x; y = y }
 
 abbrev pub sourced : List ℕ → Shape → Look → Source
-sourced bytes s l = record {
-  image = shapedImage bytes s;
-  policy = l .policy;
-  interpolation = l .interpolation;
-  background = l .background;
-  matte = l .matte;
-}
+sourced bytes s l = sourceOf (shapedImage bytes s) (l .policy) (l .interpolation) (l .background) (l .matte)
 
 -- ---- one pixel, at column i and row j of the window
 abbrev pub pointAt : Mapped → ℕ → ℕ → Point
@@ -89,25 +92,30 @@ keptMatte u v = cond (usable u v) 0 1
 abbrev pub pixelBytes : ℕ → Rgba → List ℕ
 pixelBytes channels c = storePixel (replicate (channels * 4) 0) channels 0 c
 
--- ---- a span of n pixels whose source points have the coordinates us and vs, put from the pixel numbered `pixel` on
--- what bytes become by it
+-- ---- a span of n pixels, put from the pixel numbered `pixel` on
+-- what bytes become by it, where the k-th pixel has the colour numbered k
+abbrev pub putPixels : ℕ → (ℕ → Rgba) → ℕ → ℕ → List ℕ → List ℕ
+putPixels channels colour n pixel bytes =
+    take (pixel * channels * 4) bytes ++ joined (λ (k : ℕ). pixelBytes channels (colour k)) n
+    ++ drop ((pixel + n) * channels * 4) bytes
+
+-- and where the source points have the coordinates us and vs
 abbrev pub spanBytes : Source → ℕ → List Float → List Float → ℕ → ℕ → List ℕ → List ℕ
 spanBytes s channels us vs n pixel bytes =
-    take (pixel * channels * 4) bytes ++ joined (λ (k : ℕ). pixelBytes channels (keptColour s (at us k) (at vs k))) n
-    ++ drop ((pixel + n) * channels * 4) bytes
+    putPixels channels (λ (k : ℕ). keptColour s (at us k) (at vs k)) n pixel bytes
 
 -- where all of it lies inside: whatever the colours outside, and none is matte
 abbrev pub Inner : Image → ℕ → ℕ → List Float → List Float → ℕ → ℕ → List ℕ → List ℕ → Type 0
 Inner image interpolation channels us vs n pixel before after =
     (policy : ℕ) (background matte : Rgba)
     → (0 ≡ totalled (λ (k : ℕ). keptMatte (at us k) (at vs k)) n)
-    × (after ≡ spanBytes (record {
-      image = image;
-      policy = policy;
-      interpolation = interpolation;
-      background = background;
-      matte = matte;
-    }) channels us vs n pixel before)
+    × (after ≡ spanBytes (sourceOf image policy interpolation background matte) channels us vs n pixel before)
+
+-- what the answer of a way that puts such spans alone says: true, it was one; false, nothing was put
+abbrev pub InnerOrUntouched : Bool → Image → ℕ → ℕ → List Float → List Float → ℕ → ℕ → List ℕ → List ℕ → Type 0
+InnerOrUntouched answer image interpolation channels us vs n pixel before after =
+    (answer ≡ true → Inner image interpolation channels us vs n pixel before after)
+    × (answer ≡ false → after ≡ before)
 
 -- ---- row j, and then rows from `first` on, of a window of this width
 unfoldable pub rowBytes : Source → Mapped → ℕ → ℕ → ℕ → List ℕ

@@ -8,7 +8,8 @@ ghost use Rattle.picture.specs.Pixel.{Picture};
 ghost use Rattle.picture.specs.Store.{storePixel};
 ghost use Rattle.point.specs.Point as Points;
 ghost use Rattle.band.specs.Band as Band;
-ghost use Rattle.band.specs.Band.{keptColour, keptMatte};
+ghost use Rattle.band.specs.Band.{sourceOf, keptColour, keptMatte};
+ghost use Rattle.band.specs.Image.{imageOf};
 use picture::colour::Rgba;
 use picture::store::store_pixel;
 use point::point::Point;
@@ -30,19 +31,8 @@ fn shown(
     requires { ⌜ Picture (now picture) width height channels ⌝ }
     requires { ⌜ Points.Whole p ⌝ }
     ensures { λ r.
-        ⌜ r ≡ Band.shown (record {
-          image = record {
-            bytes = now (picture .entry);
-            width = width;
-            height = height;
-            channels = channels;
-          };
-          policy = policy;
-          interpolation = interpolation;
-          background = background;
-          matte =
-              matte;
-        }) p ⌝ }
+        ⌜ r ≡ Band.shown
+        (sourceOf (imageOf (now (picture .entry)) width height channels) policy interpolation background matte) p ⌝ }
 {
     if p.usable {
         return interpolate(
@@ -87,19 +77,8 @@ pub fn store_one(
     requires { ⌜ (0 < «out_channels») × ((pixel * «out_channels» + «out_channels») * 4 ≤ length (now band)) ⌝ }
     ensures { λ r.
         ⌜ (r ≡ keptMatte u v) × (now (band .exit) ≡ storePixel (now (band .entry)) «out_channels» pixel
-        (keptColour (record {
-          image = record {
-            bytes = now (picture .entry);
-            width = width;
-            height = height;
-            channels = channels;
-          };
-          policy = policy;
-          interpolation = interpolation;
-          background = background;
-          matte =
-              matte;
-        }) u v)) ⌝ }
+        (keptColour (sourceOf (imageOf (now (picture .entry)) width height channels) policy interpolation background
+        matte) u v)) ⌝ }
 {
     let p = point(u, v);
     store_pixel(

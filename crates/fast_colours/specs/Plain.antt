@@ -9,7 +9,7 @@ use Rattle.exact.specs.Weighted.{Unit32}
 use Rattle.exact.specs.Vector.{at}
 use Rattle.picture.specs.Store.{Numbers}
 use Rattle.picture.specs.declared.colour.Rgba.{Rgba}
-use Rattle.sampler.specs.TwoByTwo.{Weighed, mixed}
+use Rattle.sampler.specs.TwoByTwo.{Weighed, mixed, blend}
 
 -- the first n places lie inside: their columns and rows
 pub record Within (width height n : ℕ) (columns rows : List ℕ) : Type 0 where
@@ -24,6 +24,11 @@ pub record Inside (width height n : ℕ) (columns rows : List ℕ) : Type 0 wher
 -- the first n fractions are f32 numbers from 0 to 1
 pub record Fractions (n : ℕ) (ts : List Float) : Type 0 where
   pub unit : (k : ℕ) → k < n → Unit32 (at ts k)
+
+-- the colour of the k-th cell at its point's fractions
+abbrev pub blendAt : List ℕ → ℕ → ℕ → List ℕ → List ℕ → List Float → List Float → ℕ → Rgba
+blendAt bytes width channels columns rows xs ys k =
+    blend bytes width channels (getD columns k 0) (getD rows k 0) (at xs k) (at ys k)
 
 -- ---- how it is worked out
 -- m lists of 64 places
@@ -40,7 +45,7 @@ pub record Weights (n : ℕ) (xs ys : List Float) (w : List (List Float)) : Type
   pub weighed : (k : ℕ) → k < n
       → Weighed (at xs k) (at ys k) (weight w 0 k) (weight w 1 k) (weight w 2 k) (weight w 3 k) (weight w 4 k)
 
--- the colour of the k-th cell
+-- its colour by them
 abbrev pub mixedAt : List ℕ → ℕ → ℕ → List ℕ → List ℕ → List (List Float) → ℕ → Rgba
 mixedAt bytes width channels columns rows w k =
     mixed bytes width channels (getD columns k 0) (getD rows k 0) (weight w 0 k) (weight w 1 k) (weight w 2 k)

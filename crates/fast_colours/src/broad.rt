@@ -4,15 +4,11 @@
 // are such a picture's, that there is a pixel to the right of each cell, and that the band has room for the span.
 ghost use mathlib.Core.Path.{_≡_};
 ghost use mathlib.Core.Bool.{true};
-ghost use mathlib.Core.List.{_++_};
 ghost use Prim.Native.Nat.{ℕ, _+_, _*_, _≤_, _<_};
-ghost use lib.ListN.{length, take, drop, getD};
-ghost use Rattle.exact.specs.Vector as Vectors;
+ghost use lib.ListN.{length, getD};
 ghost use Rattle.picture.specs.Pixel.{Picture, Shaped, Channels};
-ghost use Rattle.band.specs.Band.{pixelBytes};
-ghost use Rattle.band.specs.Joined.{joined};
-ghost use Rattle.sampler.specs.TwoByTwo.{blend};
-ghost use Rattle.fast_colours.specs.Plain.{Inside, Fractions, mixedAt, Mixable};
+ghost use Rattle.band.specs.Band.{putPixels};
+ghost use Rattle.fast_colours.specs.Plain.{Inside, Fractions, mixedAt, blendAt, Mixable};
 ghost use Rattle.fast_colours.specs.Broad as Broad;
 ghost use Rattle.fast_colours.specs.Broad.{fourSums, Covered, Beside};
 use crate::plain::weigh;
@@ -113,10 +109,9 @@ fn store_first(
     requires { ⌜ Beside (now picture) (shape .width) (shape .height) m (now columns) (now rows) (now w) ⌝ }
     requires { ⌜ (pixel + m) * 3 * 4 + 4 ≤ length (now band) ⌝ }
     ensures { λ _.
-        ⌜ Covered (now (band .exit)) (take (pixel * 3 * 4) (now (band .entry))
-        ++ joined (λ (k : ℕ). pixelBytes 3
-        (mixedAt (now (picture .entry)) (shape .width) 3 (now (columns .entry)) (now (rows .entry)) (now (w .entry)) k))
-        m ++ drop ((pixel + m) * 3 * 4) (now (band .entry))) ((pixel + m) * 3) ⌝ }
+        ⌜ Covered (now (band .exit)) (putPixels 3
+        (mixedAt (now (picture .entry)) (shape .width) 3 (now (columns .entry)) (now (rows .entry)) (now (w .entry)))
+        m pixel (now (band .entry))) ((pixel + m) * 3) ⌝ }
 {
     let width = shape.width;
     let height = shape.height;
@@ -158,10 +153,9 @@ fn store_broad(
     requires { ⌜ Mixable (now picture) (shape .width) 3 (m + 1) (now columns) (now rows) (now w) ⌝ }
     requires { ⌜ (pixel + (m + 1)) * 3 * 4 ≤ length (now band) ⌝ }
     ensures { λ _.
-        ⌜ now (band .exit) ≡ take (pixel * 3 * 4) (now (band .entry))
-        ++ joined (λ (k : ℕ). pixelBytes 3
-        (mixedAt (now (picture .entry)) (shape .width) 3 (now (columns .entry)) (now (rows .entry)) (now (w .entry)) k))
-        (m + 1) ++ drop ((pixel + (m + 1)) * 3 * 4) (now (band .entry)) ⌝ }
+        ⌜ now (band .exit) ≡ putPixels 3
+        (mixedAt (now (picture .entry)) (shape .width) 3 (now (columns .entry)) (now (rows .entry)) (now (w .entry)))
+        (m + 1) pixel (now (band .entry)) ⌝ }
 {
     store_first(picture, shape, columns, rows, w, m, pixel, band);
     store_number_pixel(
@@ -217,11 +211,9 @@ fn store_three(
     requires { ⌜ Fractions (span .n) (now xs) × Fractions (span .n) (now ys) ⌝ }
     requires { ⌜ (span .pixel + span .n) * 3 * 4 ≤ length (now band) ⌝ }
     ensures { λ _.
-        ⌜ now (band .exit) ≡ take (span .pixel * 3 * 4) (now (band .entry))
-        ++ joined (λ (k : ℕ). pixelBytes 3
-        (blend (now (picture .entry)) (shape .width) 3 (getD (now (columns .entry)) k 0)
-        (getD (now (rows .entry)) k 0) (Vectors.at (now (xs .entry)) k) (Vectors.at (now (ys .entry)) k))) (span .n)
-        ++ drop ((span .pixel + span .n) * 3 * 4) (now (band .entry)) ⌝ }
+        ⌜ now (band .exit) ≡ putPixels 3
+        (blendAt (now (picture .entry)) (shape .width) 3 (now (columns .entry)) (now (rows .entry)) (now (xs .entry))
+        (now (ys .entry))) (span .n) (span .pixel) (now (band .entry)) ⌝ }
 {
     let mut w = [[0.0; 64]; 5];
     weigh(xs, ys, span.n, &mut w);
@@ -255,11 +247,9 @@ pub fn store_cells(
     requires { ⌜ Fractions (span .n) (now xs) × Fractions (span .n) (now ys) ⌝ }
     requires { ⌜ (span .pixel + span .n) * shape .channels * 4 ≤ length (now band) ⌝ }
     ensures { λ _.
-        ⌜ now (band .exit) ≡ take (span .pixel * shape .channels * 4) (now (band .entry))
-        ++ joined (λ (k : ℕ). pixelBytes (shape .channels)
-        (blend (now (picture .entry)) (shape .width) (shape .channels) (getD (now (columns .entry)) k 0)
-        (getD (now (rows .entry)) k 0) (Vectors.at (now (xs .entry)) k) (Vectors.at (now (ys .entry)) k))) (span .n)
-        ++ drop ((span .pixel + span .n) * shape .channels * 4) (now (band .entry)) ⌝ }
+        ⌜ now (band .exit) ≡ putPixels (shape .channels)
+        (blendAt (now (picture .entry)) (shape .width) (shape .channels) (now (columns .entry)) (now (rows .entry))
+        (now (xs .entry)) (now (ys .entry))) (span .n) (span .pixel) (now (band .entry)) ⌝ }
 {
     if shape.channels == 3 {
         if 0 < span.n {

@@ -2,15 +2,12 @@
 // the loop over the pixels reads, sums and puts, and asks for nothing but the channels. Assumes that the bytes are a
 // picture's and that the band has room for the span.
 ghost use mathlib.Core.Path.{_≡_};
-ghost use mathlib.Core.List.{_++_};
 ghost use Prim.Native.Nat.{ℕ, _+_, _*_, _≤_, _<_};
-ghost use lib.ListN.{length, take, drop, getD};
-ghost use Rattle.exact.specs.Vector as Vectors;
-ghost use Rattle.sampler.specs.TwoByTwo.{blend, mixed};
+ghost use lib.ListN.{length, getD};
+ghost use Rattle.sampler.specs.TwoByTwo.{mixed};
 ghost use Rattle.picture.specs.Pixel.{Picture, Shaped, Channels, pixelAt};
-ghost use Rattle.band.specs.Band.{pixelBytes};
-ghost use Rattle.band.specs.Joined.{joined};
-ghost use Rattle.fast_colours.specs.Plain.{Within, Inside, Fractions, Sized, Weights, mixedAt, Mixable};
+ghost use Rattle.band.specs.Band.{putPixels};
+ghost use Rattle.fast_colours.specs.Plain.{Within, Inside, Fractions, Sized, Weights, mixedAt, blendAt, Mixable};
 use band::span::Span;
 use picture::colour::Rgba;
 use picture::pixel::pixel_at;
@@ -93,11 +90,9 @@ fn store_plain(
     requires { ⌜ Mixable (now picture) (shape .width) (shape .channels) (span .n) (now columns) (now rows) (now w) ⌝ }
     requires { ⌜ (span .pixel + span .n) * shape .channels * 4 ≤ length (now band) ⌝ }
     ensures { λ _.
-        ⌜ now (band .exit) ≡ take (span .pixel * shape .channels * 4) (now (band .entry))
-        ++ joined (λ (k : ℕ). pixelBytes (shape .channels)
+        ⌜ now (band .exit) ≡ putPixels (shape .channels)
         (mixedAt (now (picture .entry)) (shape .width) (shape .channels) (now (columns .entry)) (now (rows .entry))
-        (now (w .entry)) k)) (span .n)
-        ++ drop ((span .pixel + span .n) * shape .channels * 4) (now (band .entry)) ⌝ }
+        (now (w .entry))) (span .n) (span .pixel) (now (band .entry)) ⌝ }
 {
     let width = shape.width;
     let height = shape.height;
@@ -144,11 +139,9 @@ pub fn store_cells(
     requires { ⌜ Fractions (span .n) (now xs) × Fractions (span .n) (now ys) ⌝ }
     requires { ⌜ (span .pixel + span .n) * shape .channels * 4 ≤ length (now band) ⌝ }
     ensures { λ _.
-        ⌜ now (band .exit) ≡ take (span .pixel * shape .channels * 4) (now (band .entry))
-        ++ joined (λ (k : ℕ). pixelBytes (shape .channels)
-        (blend (now (picture .entry)) (shape .width) (shape .channels) (getD (now (columns .entry)) k 0)
-        (getD (now (rows .entry)) k 0) (Vectors.at (now (xs .entry)) k) (Vectors.at (now (ys .entry)) k))) (span .n)
-        ++ drop ((span .pixel + span .n) * shape .channels * 4) (now (band .entry)) ⌝ }
+        ⌜ now (band .exit) ≡ putPixels (shape .channels)
+        (blendAt (now (picture .entry)) (shape .width) (shape .channels) (now (columns .entry)) (now (rows .entry))
+        (now (xs .entry)) (now (ys .entry))) (span .n) (span .pixel) (now (band .entry)) ⌝ }
 {
     let mut w = [[0.0; 64]; 5];
     weigh(xs, ys, span.n, &mut w);
@@ -170,11 +163,9 @@ pub fn store_places(
     requires { ⌜ Within (shape .width) (shape .height) (span .n) (now columns) (now rows) ⌝ }
     requires { ⌜ (span .pixel + span .n) * shape .channels * 4 ≤ length (now band) ⌝ }
     ensures { λ _.
-        ⌜ now (band .exit) ≡ take (span .pixel * shape .channels * 4) (now (band .entry))
-        ++ joined (λ (k : ℕ). pixelBytes (shape .channels)
-        (pixelAt (now (picture .entry)) (shape .width) (shape .channels) (getD (now (columns .entry)) k 0)
-        (getD (now (rows .entry)) k 0))) (span .n)
-        ++ drop ((span .pixel + span .n) * shape .channels * 4) (now (band .entry)) ⌝ }
+        ⌜ now (band .exit) ≡ putPixels (shape .channels)
+        (λ (k : ℕ). pixelAt (now (picture .entry)) (shape .width) (shape .channels) (getD (now (columns .entry)) k 0)
+        (getD (now (rows .entry)) k 0)) (span .n) (span .pixel) (now (band .entry)) ⌝ }
 {
     let width = shape.width;
     let channels = shape.channels;

@@ -1,15 +1,14 @@
 // Spans by `Catrom` and `Spline`: cells, fractions and weights are worked out first, several pixels at a time, where
 // every square of taps lies inside. Assumes that the bytes are a picture's and that the band has room for the span.
 ghost use mathlib.Core.Path.{_≡_};
-ghost use mathlib.Core.Bool.{true, false};
-ghost use mathlib.Core.List.{[], _∷_, _++_};
+ghost use mathlib.Core.Bool.{true};
+ghost use mathlib.Core.List.{[], _∷_};
 ghost use Prim.Native.Nat.{ℕ, _+_, _*_, _≤_, _<_};
-ghost use lib.ListN.{length, take, drop, getD};
+ghost use lib.ListN.{length, getD};
 ghost use Rattle.picture.specs.Pixel.{Picture, Shaped, Channels};
 ghost use Rattle.taps.specs.Interpolation.{Cubic};
-ghost use Rattle.band.specs.Band.{pixelBytes, Inner};
+ghost use Rattle.band.specs.Band.{putPixels, InnerOrUntouched};
 ghost use Rattle.band.specs.Image.{shapedImage};
-ghost use Rattle.band.specs.Joined.{joined};
 ghost use Rattle.fast_cubic.specs.Kernels.{ofFour};
 ghost use Rattle.fast_cubic.specs.FourByFours.{FourByFours, Past, Standing, fourByFour};
 use crate::kernels::both_kernels;
@@ -79,11 +78,10 @@ fn store_four_by_fours(
     requires { ⌜ FourByFours (shape .width) (shape .height) (span .n) (now columns) (now rows) ⌝ }
     requires { ⌜ (span .pixel + span .n) * shape .channels * 4 ≤ length (now band) ⌝ }
     ensures { λ _.
-        ⌜ now (band .exit) ≡ take (span .pixel * shape .channels * 4) (now (band .entry))
-        ++ joined (λ (k : ℕ). pixelBytes (shape .channels)
-        (fourByFour (now (picture .entry)) (shape .width) (shape .channels) (getD (now (columns .entry)) k 0)
-        (getD (now (rows .entry)) k 0) (ofFour (now (wx .entry)) k) (ofFour (now (wy .entry)) k))) (span .n)
-        ++ drop ((span .pixel + span .n) * shape .channels * 4) (now (band .entry)) ⌝ }
+        ⌜ now (band .exit) ≡ putPixels (shape .channels)
+        (λ (k : ℕ). fourByFour (now (picture .entry)) (shape .width) (shape .channels)
+        (getD (now (columns .entry)) k 0) (getD (now (rows .entry)) k 0) (ofFour (now (wx .entry)) k)
+        (ofFour (now (wy .entry)) k)) (span .n) (span .pixel) (now (band .entry)) ⌝ }
 {
     let width = shape.width;
     let height = shape.height;
@@ -160,9 +158,8 @@ pub fn store_cubic(
     requires { ⌜ span .n ≤ 64 ⌝ }
     requires { ⌜ (span .pixel + span .n) * shape .channels * 4 ≤ length (now band) ⌝ }
     ensures { λ r.
-        ⌜ (r ≡ true → Inner (shapedImage (now (picture .entry)) shape) code (shape .channels) (now (us .entry))
-        (now (vs .entry)) (span .n) (span .pixel) (now (band .entry)) (now (band .exit)))
-        × (r ≡ false → now (band .exit) ≡ now (band .entry)) ⌝ }
+        ⌜ InnerOrUntouched r (shapedImage (now (picture .entry)) shape) code (shape .channels) (now (us .entry))
+        (now (vs .entry)) (span .n) (span .pixel) (now (band .entry)) (now (band .exit)) ⌝ }
 {
     let mut columns = [0; 64];
     let mut rows = [0; 64];

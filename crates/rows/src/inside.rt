@@ -1,13 +1,11 @@
 // The spans that lie inside, put with as many samples a pixel as the picture has: by places, cells and squares that are
 // worked out first. Where one pixel does not lie inside nothing is put. Assumes that the bytes are a picture's and that
 // the band has room for the span.
-ghost use mathlib.Core.Path.{_≡_};
-ghost use mathlib.Core.Bool.{true, false};
 ghost use Prim.Native.Nat.{_+_, _*_, _≤_};
 ghost use lib.ListN.{length};
 ghost use Rattle.picture.specs.Pixel.{Shaped, Channels};
 ghost use Rattle.taps.specs.Interpolation.{Single, bilinearCode};
-ghost use Rattle.band.specs.Band.{Inner};
+ghost use Rattle.band.specs.Band.{InnerOrUntouched};
 ghost use Rattle.band.specs.Image.{shapedImage};
 use crate::ahead::ahead;
 use band::span::Span;
@@ -39,9 +37,8 @@ fn store_single(
     requires { ⌜ span .n ≤ 64 ⌝ }
     requires { ⌜ (span .pixel + span .n) * shape .channels * 4 ≤ length (now band) ⌝ }
     ensures { λ r.
-        ⌜ (r ≡ true → Inner (shapedImage (now (picture .entry)) shape) code (shape .channels) (now (us .entry))
-        (now (vs .entry)) (span .n) (span .pixel) (now (band .entry)) (now (band .exit)))
-        × (r ≡ false → now (band .exit) ≡ now (band .entry)) ⌝ }
+        ⌜ InnerOrUntouched r (shapedImage (now (picture .entry)) shape) code (shape .channels) (now (us .entry))
+        (now (vs .entry)) (span .n) (span .pixel) (now (band .entry)) (now (band .exit)) ⌝ }
 {
     let mut columns = [0; 64];
     let mut rows = [0; 64];
@@ -70,9 +67,8 @@ fn store_bilinear(
     requires { ⌜ span .n ≤ 64 ⌝ }
     requires { ⌜ (span .pixel + span .n) * shape .channels * 4 ≤ length (now band) ⌝ }
     ensures { λ r.
-        ⌜ (r ≡ true → Inner (shapedImage (now (picture .entry)) shape) bilinearCode (shape .channels) (now (us .entry))
-        (now (vs .entry)) (span .n) (span .pixel) (now (band .entry)) (now (band .exit)))
-        × (r ≡ false → now (band .exit) ≡ now (band .entry)) ⌝ }
+        ⌜ InnerOrUntouched r (shapedImage (now (picture .entry)) shape) bilinearCode (shape .channels) (now (us .entry))
+        (now (vs .entry)) (span .n) (span .pixel) (now (band .entry)) (now (band .exit)) ⌝ }
 {
     let mut columns = [0; 64];
     let mut rows = [0; 64];
@@ -115,9 +111,8 @@ pub fn store_inside(
     requires { ⌜ span .n ≤ 64 ⌝ }
     requires { ⌜ (span .pixel + span .n) * shape .channels * 4 ≤ length (now band) ⌝ }
     ensures { λ r.
-        ⌜ (r ≡ true → Inner (shapedImage (now (picture .entry)) shape) code (shape .channels) (now (us .entry))
-        (now (vs .entry)) (span .n) (span .pixel) (now (band .entry)) (now (band .exit)))
-        × (r ≡ false → now (band .exit) ≡ now (band .entry)) ⌝ }
+        ⌜ InnerOrUntouched r (shapedImage (now (picture .entry)) shape) code (shape .channels) (now (us .entry))
+        (now (vs .entry)) (span .n) (span .pixel) (now (band .entry)) (now (band .exit)) ⌝ }
 {
     if code == BILINEAR {
         return store_bilinear(picture, shape, us, vs, span, band);

@@ -2,11 +2,9 @@
 // coordinates, and whose colours come then. So each of the two is a loop that does one thing. Assumes that the bytes
 // are a picture's and that the band has room for the span.
 ghost use mathlib.Core.Path.{_≡_};
-ghost use mathlib.Core.Bool.{true, false};
-ghost use mathlib.Core.List.{_++_};
 ghost use Prim.Native.Nat.{ℕ, _+_, _*_, _≤_};
 ghost use lib.IntN.{natAbs};
-ghost use lib.ListN.{length, take, drop};
+ghost use lib.ListN.{length};
 ghost use Rattle.exact.specs.Vector as Vectors;
 ghost use Rattle.picture.specs.Pixel.{Shaped, Channels};
 ghost use Rattle.band.specs.Band.{
@@ -15,12 +13,12 @@ ghost use Rattle.band.specs.Band.{
   colourAt,
   matteAt,
   keptMatte,
-  pixelBytes,
+  putPixels,
   spanBytes,
-  Inner,
+  InnerOrUntouched,
 };
 ghost use Rattle.band.specs.Image.{shapedImage};
-ghost use Rattle.band.specs.Joined.{joined, totalled};
+ghost use Rattle.band.specs.Joined.{totalled};
 use crate::inside::store_inside;
 use band::any::store_any;
 use band::look::Look;
@@ -46,9 +44,8 @@ fn store_alike(
     requires { ⌜ span .n ≤ 64 ⌝ }
     requires { ⌜ (span .pixel + span .n) * «out_channels» * 4 ≤ length (now band) ⌝ }
     ensures { λ r.
-        ⌜ (r ≡ true → Inner (shapedImage (now (picture .entry)) shape) interpolation «out_channels» (now (us .entry))
-        (now (vs .entry)) (span .n) (span .pixel) (now (band .entry)) (now (band .exit)))
-        × (r ≡ false → now (band .exit) ≡ now (band .entry)) ⌝ }
+        ⌜ InnerOrUntouched r (shapedImage (now (picture .entry)) shape) interpolation «out_channels» (now (us .entry))
+        (now (vs .entry)) (span .n) (span .pixel) (now (band .entry)) (now (band .exit)) ⌝ }
 {
     if shape.channels == out_channels {
         return store_inside(picture, shape, interpolation, us, vs, span, band);
@@ -109,11 +106,9 @@ pub fn store_span(
     requires { ⌜ (span .pixel + span .n) * «out_channels» * 4 ≤ length (now band) ⌝ }
     ensures { λ r.
         ⌜ (r ≡ totalled (λ (k : ℕ). matteAt (framed (now (coef .entry)) frame) (span .first + k) (span .j)) (span .n))
-        × (now (band .exit) ≡ take (span .pixel * «out_channels» * 4) (now (band .entry))
-        ++ joined (λ (k : ℕ). pixelBytes «out_channels»
-        (colourAt (sourced (now (picture .entry)) shape look) (framed (now (coef .entry)) frame) (span .first + k)
-        (span .j))) (span .n)
-        ++ drop ((span .pixel + span .n) * «out_channels» * 4) (now (band .entry))) ⌝ }
+        × (now (band .exit) ≡ putPixels «out_channels»
+        (λ (k : ℕ). colourAt (sourced (now (picture .entry)) shape look) (framed (now (coef .entry)) frame)
+        (span .first + k) (span .j)) (span .n) (span .pixel) (now (band .entry))) ⌝ }
 {
     let mut us = [0.0; 64];
     let mut vs = [0.0; 64];

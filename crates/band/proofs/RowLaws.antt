@@ -9,7 +9,7 @@ use native.Mathlib.Omega.{arith}
 use lib.ListN.{length, take, drop, drop-of-length-le}
 use Rattle.picture.specs.Store.{storePixel}
 use Rattle.picture.specs.declared.colour.Rgba.{Rgba}
-use Rattle.band.specs.Band.{pixelBytes}
+use Rattle.band.specs.Band.{pixelBytes, putPixels}
 use Rattle.band.specs.Joined.{joined, totalled}
 use Rattle.band.proofs.JoinedLaws.{joined-none, joined-next, totalled-none, totalled-next}
 use Rattle.band.proofs.PixelLaws.{Channels, SoFar, so-far-from, so-far-next, so-far-length, pixel-next}
@@ -89,11 +89,8 @@ module _ (out-channels out-width pixel : ℕ) (f : ℕ → Rgba) (b : List ℕ)
         grouped = append-assoc (take (pixel * out-channels * 4) b) (joined g i) (pixelBytes out-channels (f i))
             ∙ ap (λ (x : List ℕ). take (pixel * out-channels * 4) b ++ x) (sym (joined-next g i))
 
-    done-all : i ≡ out-width → now ≡ take (pixel * out-channels * 4) b
-        ++ joined (λ (k : ℕ). pixelBytes out-channels (f k)) out-width
-        ++ drop ((pixel + out-width) * out-channels * 4) b
-    done-all e = F .is ∙ ap (λ (n : ℕ). take (pixel * out-channels * 4) b
-        ++ joined (λ (k : ℕ). pixelBytes out-channels (f k)) n ++ drop ((pixel + n) * out-channels * 4) b) e
+    done-all : i ≡ out-width → now ≡ putPixels out-channels f out-width pixel b
+    done-all e = F .is ∙ ap (λ (n : ℕ). putPixels out-channels f n pixel b) e
 
     same : i ≤ out-width → length now ≡ length b
     same h = so-far-length F (before-room i h)
@@ -146,9 +143,7 @@ module _ {out-channels out-width pixel : ℕ} {f : ℕ → Rgba} {g : ℕ → �
           more : {m i r : ℕ} → m ≤ i → r ≤ 1 → m + r ≤ i + 1
           more h l = omega arith
 
-      pub row-done : i ≡ out-width → now ≡ take (pixel * out-channels * 4) b
-          ++ joined (λ (k : ℕ). pixelBytes out-channels (f k)) out-width
-          ++ drop ((pixel + out-width) * out-channels * 4) b
+      pub row-done : i ≡ out-width → now ≡ putPixels out-channels f out-width pixel b
       row-done e = done-all out-channels out-width pixel f b room i (H .far) e
 
 -- the places in the band are below its length

@@ -43,6 +43,7 @@ pub record Source : Type 0 where
   pub background : Rgba
   pub matte : Rgba
 
+-- by its parts
 abbrev pub sourceOf : Image → ℕ → ℕ → Rgba → Rgba → Source
 sourceOf image policy interpolation background matte = record {
   image = image;
@@ -93,7 +94,7 @@ abbrev pub pixelBytes : ℕ → Rgba → List ℕ
 pixelBytes channels c = storePixel (replicate (channels * 4) 0) channels 0 c
 
 -- ---- a span of n pixels, put from the pixel numbered `pixel` on
--- what bytes become by it, where the k-th pixel has the colour numbered k
+-- what bytes become by it, where the k-th pixel has the colour `colour k`
 abbrev pub putPixels : ℕ → (ℕ → Rgba) → ℕ → ℕ → List ℕ → List ℕ
 putPixels channels colour n pixel bytes =
     take (pixel * channels * 4) bytes ++ joined (λ (k : ℕ). pixelBytes channels (colour k)) n

@@ -7,14 +7,14 @@ use mathlib.Core.List.{List, _++_}
 use Prim.Native.Nat.{ℕ, zero, suc, _+_, _*_, _/_, _%_, _≤_, _<_, zero-le}
 use native.Mathlib.Omega.{arith}
 use lib.Ieee.{Float, binary32, toBits}
-use lib.ListN.{length, set, take, drop, replicate, length-append, length-replicate}
+use lib.ListN.{length, set, take, replicate, length-append, length-replicate}
 use lib.Seq.{set-set, length-take-le}
 use Rattle.endian.specs.Bytes.{storeNumber}
 use Rattle.endian.proofs.BytesLaws.{store-length, store-comm}
 use Rattle.picture.specs.declared.colour.Rgba.{Rgba}
 use Rattle.picture.specs.Store.{storeSample, storeRgb, narrowed, storePixel}
 use Rattle.picture.proofs.StoreLaws.{store-pixel-length}
-use Rattle.band.specs.Band.{pixelBytes}
+use Rattle.band.specs.Band.{pixelBytes, putPixels}
 use Rattle.band.specs.Joined.{joined, totalled}
 use Rattle.band.proofs.JoinedLaws.{joined-length, totalled-most}
 use Rattle.band.proofs.RowLaws.{RowHolds, row-start, row-next, row-done}
@@ -83,20 +83,16 @@ module _ {m pixel : ℕ} {f : ℕ → Rgba} {b : List ℕ} (room : (pixel + m) *
       rgb-long = store-length 4 _ _ _ ∙ store-length 4 _ _ _ ∙ store-length 4 _ _ _
 
   pub covered-last : {now : List ℕ} {i : ℕ} → Overlaid m pixel f b now i → i ≡ m
-      → Covered now (take (pixel * 3 * 4) b ++ joined (λ (k : ℕ). pixelBytes 3 (f k)) m
-      ++ drop ((pixel + m) * 3 * 4) b) ((pixel + m) * 3)
+      → Covered now (putPixels 3 f m pixel b) ((pixel + m) * 3)
   covered-last {now} {i} H e =
       subst (λ (c : List ℕ). Covered now c ((pixel + m) * 3)) (row-done room (H .holds) e)
       (subst (λ (k : ℕ). Covered now (H .clean) ((pixel + k) * 3)) e (H .covered))
 
 -- ---- the last pixel
 pub covered-done : (m pixel : ℕ) (f : ℕ → Rgba) (b : List ℕ) → (pixel + (m + 1)) * 3 * 4 ≤ length b
-    → {now after : List ℕ}
-    → Covered now (take (pixel * 3 * 4) b ++ joined (λ (k : ℕ). pixelBytes 3 (f k)) m ++ drop ((pixel + m) * 3 * 4) b)
-    ((pixel + m) * 3)
+    → {now after : List ℕ} → Covered now (putPixels 3 f m pixel b) ((pixel + m) * 3)
     → after ≡ storePixel now 3 (pixel + m) (f m)
-    → after ≡ take (pixel * 3 * 4) b ++ joined (λ (k : ℕ). pixelBytes 3 (f k)) (m + 1)
-    ++ drop ((pixel + (m + 1)) * 3 * 4) b
+    → after ≡ putPixels 3 f (m + 1) pixel b
 unfolding storePixel narrowed
 covered-done m pixel f b room C e =
     row-done room (row-next room holds (inr (inl refl)) (omega arith) refl (e ∙ rgb-covered (f m) C)) refl
@@ -118,8 +114,7 @@ covered-done m pixel f b room C e =
         summed : (p m : ℕ) → p * 3 * 4 + m * 12 ≡ (p + m) * 3 * 4
         summed p m = omega arith
 
-    holds : RowHolds 3 (m + 1) pixel f (λ (k : ℕ). 0) b (take (pixel * 3 * 4) b
-        ++ joined (λ (k : ℕ). pixelBytes 3 (f k)) m ++ drop ((pixel + m) * 3 * 4) b) 0 m
+    holds : RowHolds 3 (m + 1) pixel f (λ (k : ℕ). 0) b (putPixels 3 f m pixel b) 0 m
     holds = record {
       far = record { is = refl; long = long };
       count = none;

@@ -1,13 +1,12 @@
 -- A span inside: the mean in a point's own cell is what `interpolate` shows there. Provides: `are-sized`, `put`,
--- `Weighing`, `weigh-none`, `weigh-more`, `weigh-last` (the loop over weights); `blend-all`, `mixable` (the colours of
--- cells); `cells-inside`, `cells-units`, `cells-mattes`, `cells-colours`, `places-within`, `places-mattes`,
--- `places-colours` (from cells and places to the band's definition), `marked`, `no-matte`, `no-mattes` (points that can
--- be used). Assumes nothing.
-use mathlib.Core.Path.{_≡_, refl, sym, ap, _∙_}
+-- `Weighing`, `weigh-none`, `weigh-more`, `weigh-last` (the loop over weights); `marked` (a point that can be used);
+-- `blend-all`, `mixable` (the colours of cells); `cells-inside`, `cells-units`, `cells-shown`, `places-within`,
+-- `places-shown` (from cells and places to the band's definition). Assumes nothing.
+use mathlib.Core.Path.{_≡_, refl, sym, _∙_}
 use mathlib.Core.Logic.{_≢_}
-use mathlib.Core.Bool.{Bool, true, false, cond, _&&_}
+use mathlib.Core.Bool.{Bool, true, false, _&&_}
 use mathlib.Core.List.{List, [], _∷_}
-use Prim.Native.Nat.{ℕ, zero, suc, _+_, _-_, _*_, _≤_, _<_}
+use Prim.Native.Nat.{ℕ, zero, suc, _+_, _-_, _≤_, _<_}
 use native.Mathlib.Nat.{not-suc-le-zero}
 use native.Mathlib.Omega.{arith}
 use borrow.Author.Count.{below-more}
@@ -29,13 +28,14 @@ use Rattle.point.specs.Point.{limit, usable}
 use Rattle.taps.specs.Interpolation.{interpolation, bilinearCode, Single}
 use Rattle.taps.proofs.CellFloor.{cell-law}
 use Rattle.fast_cells.specs.Cells.{Cell, Cells, Place, Places}
+use Rattle.sampler.specs.Interpolate.{interpolate}
 use Rattle.sampler.specs.TwoByTwo.{Weighed, blend}
 use Rattle.sampler.proofs.MixedLaws.{mixed-blend}
 use Rattle.sampler.proofs.InsideLaws.{bilinear-inside, single-inside}
-use Rattle.band.specs.Band.{shown, keptColour, keptMatte, pixelBytes}
-use Rattle.band.specs.Joined.{joined, totalled}
-use Rattle.fast_colours.specs.Plain.{Within, Inside, Fractions, Sized, Weights, mixedAt, Mixable}
-use Rattle.band.proofs.JoinedLaws.{joined-same, totalled-same, totalled-most}
+use Rattle.band.specs.Band.{putPixels}
+use Rattle.band.specs.Image.{imageOf}
+use Rattle.fast_colours.specs.Plain.{Within, Inside, Fractions, Sized, Weights, mixedAt, blendAt, Mixable}
+use Rattle.band.proofs.InnerLaws.{Shows, put-same}
 use Rattle.fast_colours.proofs.NumberLaws.{blend-numbers}
 
 -- ---- the loop over weights
@@ -127,52 +127,29 @@ both false b s t = absurd s
 next : (i n : ℕ) → i < n - 1 → i + 1 < n
 next i n l = omega arith
 
-module _ (u v : Float) (a : T (within limit u)) (b : T (within limit v)) where
-  pub marked : usable u v ≡ true
-  unfolding usable
-  marked = both (within limit u) (within limit v) a b
+pub marked : (u v : Float) → T (within limit u) → T (within limit v) → usable u v ≡ true
+unfolding usable
+marked u v a b = both (within limit u) (within limit v) a b
 
-  pub no-matte : keptMatte u v ≡ 0
-  no-matte = ap (λ (t : Bool). cond t 0 1) marked
-
-pub no-mattes : (n : ℕ) (us vs : List Float) → ((k : ℕ) → k < n → keptMatte (at us k) (at vs k) ≡ 0)
-    → 0 ≡ totalled (λ (k : ℕ). keptMatte (at us k) (at vs k)) n
-no-mattes n us vs h =
-    sym (totalled-same (λ (k : ℕ). keptMatte (at us k) (at vs k)) (λ (k : ℕ). 0) n h
-    ∙ none n (totalled-most (λ (k : ℕ). 0) 0 (λ k. omega arith) n))
-  where
-    none : (n : ℕ) {r : ℕ} → r ≤ n * 0 → r ≡ 0
-    none n l = omega arith
-
-cell-colour : (bytes : List ℕ) (w h n policy : ℕ) (background matte : Rgba) {u v tx ty : Float} {i j : ℕ}
+cell-colour : (bytes : List ℕ) (w h n policy : ℕ) (background : Rgba) {u v tx ty : Float} {i j : ℕ}
     → Cell (w - 1) u i tx → Cell (h - 1) v j ty
-    → blend bytes w n i j tx ty
-    ≡ keptColour (record {
-      image = record { bytes = bytes; width = w; height = h; channels = n };
-      policy = policy;
-      interpolation = bilinearCode;
-      background = background;
-      matte = matte;
-    }) u v
-unfolding shown blend
-cell-colour bytes w h n policy background matte {u} {v} {tx} {ty} {i} {j} C D =
-    rw (marked u v (C .usable) (D .usable))
-    (bilinear-inside bytes w h n policy background (u ⊖ half) (v ⊖ half) i j (next i w (C .below))
-    (next j h (D .below)) (sym (C .floor)) (sym (D .floor)) (C .fraction) (D .fraction) refl)
+    → blend bytes w n i j tx ty ≡ interpolate bytes w h n policy bilinearCode background (u ⊖ half) (v ⊖ half)
+unfolding blend
+cell-colour bytes w h n policy background {u} {v} {tx} {ty} {i} {j} C D =
+    bilinear-inside bytes w h n policy background (u ⊖ half) (v ⊖ half) i j (next i w (C .below))
+    (next j h (D .below)) (sym (C .floor)) (sym (D .floor)) (C .fraction) (D .fraction) refl
 
 -- ---- a span of them
 module _ (bytes : List ℕ) (w channels : ℕ) (columns rows : List ℕ) {n : ℕ} {xs ys : List Float}
     {ws : List (List Float)} where
-  pub blend-all : Fractions n xs → Fractions n ys → Weights n xs ys ws
-      → joined (λ (k : ℕ). pixelBytes channels (mixedAt bytes w channels columns rows ws k)) n
-      ≡ joined (λ (k : ℕ). pixelBytes channels
-      (blend bytes w channels (getD columns k 0) (getD rows k 0) (at xs k) (at ys k))) n
-  blend-all X Y W =
-      joined-same (λ (k : ℕ). pixelBytes channels (mixedAt bytes w channels columns rows ws k))
-      (λ (k : ℕ). pixelBytes channels (blend bytes w channels (getD columns k 0) (getD rows k 0) (at xs k) (at ys k))) n
-      (λ k l. ap (pixelBytes channels)
-      (mixed-blend bytes w channels (getD columns k 0) (getD rows k 0) (at xs k) (at ys k) (X .unit k l)
-      (Y .unit k l) (W .weighed k l)))
+  pub blend-all : Fractions n xs → Fractions n ys → Weights n xs ys ws → (pixel : ℕ) (band : List ℕ)
+      → putPixels channels (mixedAt bytes w channels columns rows ws) n pixel band
+      ≡ putPixels channels (blendAt bytes w channels columns rows xs ys) n pixel band
+  blend-all X Y W pixel band =
+      put-same channels (mixedAt bytes w channels columns rows ws) (blendAt bytes w channels columns rows xs ys) n
+      pixel band
+      (λ k l. mixed-blend bytes w channels (getD columns k 0) (getD rows k 0) (at xs k) (at ys k) (X .unit k l)
+      (Y .unit k l) (W .weighed k l))
 
   pub mixable : (h : ℕ) → Picture bytes w h channels → Inside w h n columns rows → Fractions n xs → Fractions n ys
       → Weights n xs ys ws → Mixable bytes w channels n columns rows ws
@@ -195,78 +172,31 @@ module _ (w h : ℕ) {n : ℕ} {us vs : List Float} {columns rows : List ℕ} {x
   pub cells-inside : Inside w h n columns rows
   cells-inside = record { column = λ k l. next _ w (C .cell k l .below); row = λ k l. next _ h (D .cell k l .below) }
 
-  pub cells-mattes : 0 ≡ totalled (λ (k : ℕ). keptMatte (at us k) (at vs k)) n
-  cells-mattes = no-mattes n us vs (λ k l. no-matte (at us k) (at vs k) (C .cell k l .usable) (D .cell k l .usable))
-
-  pub cells-colours : (bytes : List ℕ) (channels policy : ℕ) (background matte : Rgba)
-      → joined (λ (k : ℕ). pixelBytes channels
-      (blend bytes w channels (getD columns k 0) (getD rows k 0) (at xs k) (at ys k))) n
-      ≡ joined (λ (k : ℕ). pixelBytes channels
-      (keptColour (record {
-        image = record { bytes = bytes; width = w; height = h; channels = channels };
-        policy = policy;
-        interpolation = bilinearCode;
-        background = background;
-        matte = matte;
-      }) (at us k) (at vs k))) n
-  cells-colours bytes channels policy background matte =
-      joined-same (λ (k : ℕ). pixelBytes channels
-      (blend bytes w channels (getD columns k 0) (getD rows k 0) (at xs k) (at ys k)))
-      (λ (k : ℕ). pixelBytes channels
-      (keptColour (record {
-        image = record { bytes = bytes; width = w; height = h; channels = channels };
-        policy = policy;
-        interpolation = bilinearCode;
-        background = background;
-        matte = matte;
-      }) (at us k) (at vs k))) n
-      (λ k l. ap (pixelBytes channels)
-      (cell-colour bytes w h channels policy background matte (C .cell k l) (D .cell k l)))
+  pub cells-shown : (bytes : List ℕ) (channels : ℕ)
+      → Shows (imageOf bytes w h channels) bilinearCode n us vs (blendAt bytes w channels columns rows xs ys)
+  cells-shown bytes channels = record {
+    marked = λ k l. marked (at us k) (at vs k) (C .cell k l .usable) (D .cell k l .usable);
+    same = λ k l policy background. cell-colour bytes w h channels policy background (C .cell k l) (D .cell k l);
+  }
 
 -- ---- one tap
-place-colour : (bytes : List ℕ) (w h channels policy : ℕ) (background matte : Rgba) (code : ℕ) → Single code
+place-colour : (bytes : List ℕ) (w h channels policy : ℕ) (background : Rgba) (code : ℕ) → Single code
     → {u v : Float} {i j : ℕ} → Place (interpolation code) w u i → Place (interpolation code) h v j
-    → pixelAt bytes w channels i j
-    ≡ keptColour (record {
-      image = record { bytes = bytes; width = w; height = h; channels = channels };
-      policy = policy;
-      interpolation = code;
-      background = background;
-      matte = matte;
-    }) u v
-unfolding shown
-place-colour bytes w h channels policy background matte code small {u} {v} {i} {j} C D =
-    rw (marked u v (C .usable) (D .usable))
-    (single-inside bytes w h channels policy background (u ⊖ half) (v ⊖ half) code small i j (C .below) (D .below)
-    (sym (C .first)) (sym (D .first)) refl)
+    → pixelAt bytes w channels i j ≡ interpolate bytes w h channels policy code background (u ⊖ half) (v ⊖ half)
+place-colour bytes w h channels policy background code small {u} {v} {i} {j} C D =
+    single-inside bytes w h channels policy background (u ⊖ half) (v ⊖ half) code small i j (C .below) (D .below)
+    (sym (C .first)) (sym (D .first)) refl
 
 module _ (code : ℕ) {w h n : ℕ} {us vs : List Float} {columns rows : List ℕ}
     (C : Places (interpolation code) w n us columns) (D : Places (interpolation code) h n vs rows) where
   pub places-within : Within w h n columns rows
   places-within = record { column = λ k l. C .place k l .below; row = λ k l. D .place k l .below }
 
-  pub places-mattes : 0 ≡ totalled (λ (k : ℕ). keptMatte (at us k) (at vs k)) n
-  places-mattes = no-mattes n us vs (λ k l. no-matte (at us k) (at vs k) (C .place k l .usable) (D .place k l .usable))
-
-  pub places-colours : (bytes : List ℕ) (channels policy : ℕ) (background matte : Rgba) → Single code
-      → joined (λ (k : ℕ). pixelBytes channels (pixelAt bytes w channels (getD columns k 0) (getD rows k 0))) n
-      ≡ joined (λ (k : ℕ). pixelBytes channels
-      (keptColour (record {
-        image = record { bytes = bytes; width = w; height = h; channels = channels };
-        policy = policy;
-        interpolation = code;
-        background = background;
-        matte = matte;
-      }) (at us k) (at vs k))) n
-  places-colours bytes channels policy background matte small =
-      joined-same (λ (k : ℕ). pixelBytes channels (pixelAt bytes w channels (getD columns k 0) (getD rows k 0)))
-      (λ (k : ℕ). pixelBytes channels
-      (keptColour (record {
-        image = record { bytes = bytes; width = w; height = h; channels = channels };
-        policy = policy;
-        interpolation = code;
-        background = background;
-        matte = matte;
-      }) (at us k) (at vs k))) n
-      (λ k l. ap (pixelBytes channels)
-      (place-colour bytes w h channels policy background matte code small (C .place k l) (D .place k l)))
+  pub places-shown : (bytes : List ℕ) (channels : ℕ) → Single code
+      → Shows (imageOf bytes w h channels) code n us vs
+      (λ (k : ℕ). pixelAt bytes w channels (getD columns k 0) (getD rows k 0))
+  places-shown bytes channels small = record {
+    marked = λ k l. marked (at us k) (at vs k) (C .place k l .usable) (D .place k l .usable);
+    same = λ k l policy background.
+        place-colour bytes w h channels policy background code small (C .place k l) (D .place k l);
+  }

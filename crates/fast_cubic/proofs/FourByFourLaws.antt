@@ -1,6 +1,6 @@
 -- A span by `Catrom` or `Spline` inside: the square one before the point's cell is the one that `interpolate` takes.
--- Provides: `past-none`, `past-more`, `past-last` (the loop); `standing` (two answers); `cubic-squares`,
--- `cubic-mattes`, `cubic-colours` (from cells to the band's definition). Assumes nothing.
+-- Provides: `past-none`, `past-more`, `past-last` (the loop); `standing` (two answers); `cubic-squares`, `cubic-shown`
+-- (from cells to the band's definition). Assumes nothing.
 use mathlib.Core.Path.{_≡_, refl, sym, ap, _∙_}
 use mathlib.Core.Bool.{Bool, true, _&&_}
 use mathlib.Core.List.{List}
@@ -19,15 +19,15 @@ use Rattle.exact.specs.Vector.{at}
 use Rattle.picture.specs.declared.colour.Rgba.{Rgba}
 use Rattle.taps.specs.Interpolation.{Cubic}
 use Rattle.fast_cells.specs.Cells.{Cell, Cells}
+use Rattle.sampler.specs.Interpolate.{interpolate}
 use Rattle.sampler.specs.Sixteen.{kernel}
 use Rattle.sampler.proofs.SixteenCode.{cubic-inside}
-use Rattle.band.specs.Band.{shown, keptColour, keptMatte, pixelBytes}
-use Rattle.band.specs.Joined.{joined, totalled}
+use Rattle.band.specs.Image.{imageOf}
 use Rattle.fast_cubic.specs.Kernels.{Kernels, ofFour}
 use Rattle.exact.proofs.Booleans.{both}
 use Rattle.fast_cubic.specs.FourByFours.{FourByFours, Past, Standing, fourByFour}
-use Rattle.band.proofs.JoinedLaws.{joined-same}
-use Rattle.fast_colours.proofs.PlainLaws.{marked, no-matte, no-mattes}
+use Rattle.band.proofs.InnerLaws.{Shows}
+use Rattle.fast_colours.proofs.PlainLaws.{marked}
 
 -- ---- the loop over columns or rows
 pub past-none : (cs : List ℕ) → Past 0 cs
@@ -53,24 +53,16 @@ one-back (suc n) h = -ℤ-one (pos (suc n)) ∙ ap pos (go n)
 two-on : (c n : ℕ) → 0 < c → c < n - 2 → c - 1 + 3 < n
 two-on c n h l = omega arith
 
-square-colour : (bytes : List ℕ) (w h n policy : ℕ) (background matte : Rgba) (code : ℕ) → Cubic code
+square-colour : (bytes : List ℕ) (w h n policy : ℕ) (background : Rgba) (code : ℕ) → Cubic code
     → {u v tx ty : Float} {i j : ℕ} {wx wy : List Float}
     → Cell (w - 2) u i tx → Cell (h - 2) v j ty → 0 < i → 0 < j → wx ≡ kernel code tx → wy ≡ kernel code ty
-    → fourByFour bytes w n i j wx wy
-    ≡ keptColour (record {
-      image = record { bytes = bytes; width = w; height = h; channels = n };
-      policy = policy;
-      interpolation = code;
-      background = background;
-      matte = matte;
-    }) u v
-unfolding shown fourByFour
-square-colour bytes w h n policy background matte code cubic {u} {v} {tx} {ty} {i} {j} C D hi hj kx ky =
-    rw (marked u v (C .usable) (D .usable))
-    (cubic-inside bytes w h n policy background (u ⊖ half) (v ⊖ half) code cubic (i - 1) (j - 1)
+    → fourByFour bytes w n i j wx wy ≡ interpolate bytes w h n policy code background (u ⊖ half) (v ⊖ half)
+unfolding fourByFour
+square-colour bytes w h n policy background code cubic {u} {v} {tx} {ty} {i} {j} C D hi hj kx ky =
+    cubic-inside bytes w h n policy background (u ⊖ half) (v ⊖ half) code cubic (i - 1) (j - 1)
     (two-on i w hi (C .below)) (two-on j h hj (D .below))
     (sym (ap (λ (z : ℤ). z -ℤ pos 1) (C .floor) ∙ one-back i hi))
-    (sym (ap (λ (z : ℤ). z -ℤ pos 1) (D .floor) ∙ one-back j hj)) (C .fraction) (D .fraction) kx ky refl)
+    (sym (ap (λ (z : ℤ). z -ℤ pos 1) (D .floor) ∙ one-back j hj)) (C .fraction) (D .fraction) kx ky refl
 
 -- ---- a span of them
 module _ {w h n : ℕ} {us vs : List Float} {columns rows : List ℕ} {xs ys : List Float}
@@ -86,38 +78,16 @@ module _ {w h n : ℕ} {us vs : List Float} {columns rows : List ℕ} {xs ys : L
       on : (c n : ℕ) → c < n - 2 → c + 2 < n
       on c n l = omega arith
 
-  pub cubic-mattes : 0 ≡ totalled (λ (k : ℕ). keptMatte (at us k) (at vs k)) n
-  cubic-mattes = no-mattes n us vs
-      (λ k l. no-matte (at us k) (at vs k) (S .across .cell k l .usable) (S .down .cell k l .usable))
-
-  pub cubic-colours : {wx wy : List (List Float)} (code : ℕ) → Kernels code n xs wx
-      → Kernels code n ys wy → (bytes : List ℕ) (channels policy : ℕ) (background matte : Rgba) → Cubic code
-      → joined (λ (k : ℕ). pixelBytes channels
-      (fourByFour bytes w channels (getD columns k 0) (getD rows k 0) (ofFour wx k)
-      (ofFour wy k))) n
-      ≡ joined (λ (k : ℕ). pixelBytes channels
-      (keptColour (record {
-        image = record { bytes = bytes; width = w; height = h; channels = channels };
-        policy = policy;
-        interpolation = code;
-        background = background;
-        matte = matte;
-      }) (at us k) (at vs k))) n
-  cubic-colours {wx} {wy} code X Y bytes channels policy background matte cubic =
-      joined-same (λ (k : ℕ). pixelBytes channels
-      (fourByFour bytes w channels (getD columns k 0) (getD rows k 0) (ofFour wx k)
-      (ofFour wy k)))
-      (λ (k : ℕ). pixelBytes channels
-      (keptColour (record {
-        image = record { bytes = bytes; width = w; height = h; channels = channels };
-        policy = policy;
-        interpolation = code;
-        background = background;
-        matte = matte;
-      }) (at us k) (at vs k))) n
-      (λ k l. ap (pixelBytes channels)
-      (square-colour bytes w h channels policy background matte code cubic (S .across .cell k l)
-      (S .down .cell k l) (S .left .past k l) (S .above .past k l) (X .weights k l) (Y .weights k l)))
+  pub cubic-shown : {wx wy : List (List Float)} (code : ℕ) → Kernels code n xs wx → Kernels code n ys wy
+      → (bytes : List ℕ) (channels : ℕ) → Cubic code
+      → Shows (imageOf bytes w h channels) code n us vs
+      (λ (k : ℕ). fourByFour bytes w channels (getD columns k 0) (getD rows k 0) (ofFour wx k) (ofFour wy k))
+  cubic-shown code X Y bytes channels cubic = record {
+    marked = λ k l. marked (at us k) (at vs k) (S .across .cell k l .usable) (S .down .cell k l .usable);
+    same = λ k l policy background.
+        square-colour bytes w h channels policy background code cubic (S .across .cell k l) (S .down .cell k l)
+        (S .left .past k l) (S .above .past k l) (X .weights k l) (Y .weights k l);
+  }
 
 -- both answers
 pub standing : {w h p q n : ℕ} {us vs : List Float} {columns rows : List ℕ} {xs ys : List Float} {a b : Bool}

@@ -26,9 +26,12 @@ use Rattle.band.specs.Band.{
   keptColour,
   keptMatte,
   pixelBytes,
+  putPixels,
+  spanBytes,
 }
 use Rattle.band.specs.Joined.{joined, totalled}
-use Rattle.band.proofs.JoinedLaws.{joined-same, joined-cut, joined-length, totalled-same, totalled-cut, totalled-most}
+use Rattle.band.proofs.InnerLaws.{put-same}
+use Rattle.band.proofs.JoinedLaws.{joined-cut, joined-length, totalled-same, totalled-cut, totalled-most}
 use Rattle.band.proofs.PixelLaws.{Channels, SoFar, so-far-next, pixel-length}
 use Rattle.band.proofs.RowLaws.{RowHolds}
 
@@ -44,13 +47,12 @@ module _ (s : Source) (frame : Frame) (coef : Vector) (first j n : ℕ) (us vs :
       totalled-same (λ (k : ℕ). keptMatte (at us k) (at vs k)) (λ (k : ℕ). matteAt f (first + k) j) n
       (λ k h. ap (λ (p : Point). cond (p .usable) 0 1) (sym (P .kept k h)))
 
-  pub span-colours : (out-channels : ℕ)
-      → joined (λ (k : ℕ). pixelBytes out-channels (keptColour s (at us k) (at vs k))) n ≡ joined
-      (λ (k : ℕ). pixelBytes out-channels (colourAt s f (first + k) j)) n
-  span-colours out-channels =
-      joined-same (λ (k : ℕ). pixelBytes out-channels (keptColour s (at us k) (at vs k)))
-      (λ (k : ℕ). pixelBytes out-channels (colourAt s f (first + k) j)) n
-      (λ k h. ap (λ (p : Point). pixelBytes out-channels (shown s p)) (sym (P .kept k h)))
+  pub span-colours : (out-channels pixel : ℕ) (band : List ℕ)
+      → spanBytes s out-channels us vs n pixel band
+      ≡ putPixels out-channels (λ (k : ℕ). colourAt s f (first + k) j) n pixel band
+  span-colours out-channels pixel band =
+      put-same out-channels (λ (k : ℕ). keptColour s (at us k) (at vs k)) (λ (k : ℕ). colourAt s f (first + k) j) n
+      pixel band (λ k h. ap (shown s) (sym (P .kept k h)))
 
 -- ---- a row with a span more
 pub part-most : {g : ℕ → ℕ} (i n : ℕ) {r : ℕ} → ((k : ℕ) → g k ≤ 1) → r ≡ totalled (λ (k : ℕ). g (i + k)) n → r ≤ n
@@ -61,8 +63,7 @@ part-most {g} i n o e = subst⁻¹ (λ (z : ℕ). z ≤ n) e
 module _ {out-channels out-width pixel : ℕ} {f : ℕ → Rgba} {g : ℕ → ℕ} {b now : List ℕ} {matte-pixels i : ℕ}
     (H : RowHolds out-channels out-width pixel f g b now matte-pixels i) where
   pub row-part : (n : ℕ) → i + n ≤ out-width → {r : ℕ} {after : List ℕ} → r ≡ totalled (λ (k : ℕ). g (i + k)) n
-      → after ≡ take ((pixel + i) * out-channels * 4) now ++ joined (λ (k : ℕ). pixelBytes out-channels (f (i + k))) n
-      ++ drop ((pixel + i + n) * out-channels * 4) now
+      → after ≡ putPixels out-channels (λ (k : ℕ). f (i + k)) n (pixel + i) now
       → RowHolds out-channels out-width pixel f g b after (matte-pixels + r) (i + n)
   row-part n h {r} {after} e w =
       record {
@@ -125,13 +126,5 @@ pub same-room : {a b : List ℕ} {m : ℕ} → a ≡ b → m ≤ length b → m 
 same-room p h = rw p h
 
 pub same-put : (s : Source) (out-channels : ℕ) (us vs : List Float) (n pixel : ℕ) {a b x : List ℕ} → a ≡ b
-    → x ≡ take (pixel * out-channels * 4) a
-    ++ joined (λ (k : ℕ). pixelBytes out-channels (keptColour s (at us k) (at vs k))) n
-    ++ drop ((pixel + n) * out-channels * 4) a
-    → x ≡ take (pixel * out-channels * 4) b
-    ++ joined (λ (k : ℕ). pixelBytes out-channels (keptColour s (at us k) (at vs k))) n
-    ++ drop ((pixel + n) * out-channels * 4) b
-same-put s out-channels us vs n pixel p e = e
-    ∙ ap (λ (z : List ℕ). take (pixel * out-channels * 4) z
-    ++ joined (λ (k : ℕ). pixelBytes out-channels (keptColour s (at us k) (at vs k))) n
-    ++ drop ((pixel + n) * out-channels * 4) z) p
+    → x ≡ spanBytes s out-channels us vs n pixel a → x ≡ spanBytes s out-channels us vs n pixel b
+same-put s out-channels us vs n pixel p e = e ∙ ap (λ (z : List ℕ). spanBytes s out-channels us vs n pixel z) p

@@ -1,10 +1,8 @@
 -- `fast_colours::broad::store_three` meets its contract: at fractions from 0 to 1 the quotients are the weighted mean.
 -- Assumes nothing.
-use mathlib.Core.Path.{_≡_, ap, _∙_, subst}
-use mathlib.Core.List.{List, _++_}
-use Prim.Native.Nat.{ℕ, _+_, _-_, _*_, _<_}
+use mathlib.Core.Path.{_≡_, _∙_, subst}
+use Prim.Native.Nat.{ℕ, _+_, _-_, _<_}
 use native.Mathlib.Omega.{arith}
-use lib.ListN.{take, drop}
 use denote.Ref.{now}
 use borrow.Author.Needs.{needs}
 use Rattle.picture.specs.Pixel.{Picture}
@@ -48,10 +46,8 @@ returns c =
     let span = q .args .span in
     let F = q .pre .1 .1 .1 .1 .1 .0 in
     rw (again (span .n) (q .pre .1 .1 .0 .0)) at (c .before .before .store-broad .ensures)
-    ∙ ap (λ (z : List ℕ). take (span .pixel * 3 * 4) (now (q .args .band)) ++ z
-    ++ drop ((span .pixel + span .n) * 3 * 4) (now (q .args .band)))
-    (blend-all (now (q .args .picture)) (q .args .shape .width) 3 (now (q .args .columns)) (now (q .args .rows)) (F .0)
-    (F .1) (c .before .before .before .before .before .before .weigh .ensures))
+    ∙ blend-all (now (q .args .picture)) (q .args .shape .width) 3 (now (q .args .columns)) (now (q .args .rows)) (F .0)
+    (F .1) (c .before .before .before .before .before .before .weigh .ensures) (span .pixel) (now (q .args .band))
 
 pub store-three-spec : {M : Type 1} → statement M
 store-three-spec =

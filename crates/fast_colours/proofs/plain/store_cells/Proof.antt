@@ -1,9 +1,6 @@
 -- `fast_colours::plain::store_cells` meets its contract: at fractions from 0 to 1 the quotients are the weighted mean.
 -- Assumes nothing.
-use mathlib.Core.Path.{ap, _∙_}
-use mathlib.Core.List.{List, _++_}
-use Prim.Native.Nat.{ℕ, _+_, _*_}
-use lib.ListN.{take, drop}
+use mathlib.Core.Path.{_∙_}
 use denote.Ref.{now}
 use borrow.Author.Needs.{needs}
 use Rattle.fast_colours.proofs.PlainLaws.{blend-all, mixable}
@@ -36,13 +33,10 @@ returns : tie.Need-returns
 returns c =
     let q = c .before .before .before .before .before .before .before .before .before in
     let shape = q .args .shape in
-    let span = q .args .span in
     c .before .before .store-plain .ensures
-    ∙ ap (λ (z : List ℕ). take (span .pixel * shape .channels * 4) (now (q .args .band)) ++ z
-    ++ drop ((span .pixel + span .n) * shape .channels * 4) (now (q .args .band)))
-    (blend-all (now (q .args .picture)) (shape .width) (shape .channels) (now (q .args .columns))
+    ∙ blend-all (now (q .args .picture)) (shape .width) (shape .channels) (now (q .args .columns))
     (now (q .args .rows)) (q .pre .1 .1 .1 .1 .0 .0) (q .pre .1 .1 .1 .1 .0 .1)
-    (c .before .before .before .before .before .weigh .ensures))
+    (c .before .before .before .before .before .weigh .ensures) (q .args .span .pixel) (now (q .args .band))
 
 pub store-cells-spec : {M : Type 1} → statement M
 store-cells-spec = tie.close (tie.spec (λ c κs. search needs) store-plain-requires (λ c. search needs) returns)

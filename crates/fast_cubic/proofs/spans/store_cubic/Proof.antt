@@ -1,13 +1,11 @@
 -- `fast_cubic::spans::store_cubic` meets its contract: where every point of the span has its square inside, none is
 -- matte, and each square's colour is the point's. Assumes nothing.
-use mathlib.Core.Path.{ap, refl, _∙_}
-use mathlib.Core.Bool.{true≢false, false≢true}
-use mathlib.Core.List.{List, _++_}
-use Prim.Native.Nat.{ℕ, _+_, _*_}
+use mathlib.Core.Path.{refl}
+use mathlib.Core.Bool.{false≢true}
 use borrow.Author.Needs.{needs}
-use lib.ListN.{take, drop}
 use denote.Ref.{now}
-use Rattle.fast_cubic.proofs.FourByFourLaws.{cubic-squares, cubic-mattes, cubic-colours}
+use Rattle.band.proofs.InnerLaws.{inner-put}
+use Rattle.fast_cubic.proofs.FourByFourLaws.{cubic-squares, cubic-shown}
 use Rattle.fast_cubic.proofs.spans.store_cubic.Statement.{statement}
 use Rattle.fast_cubic.proofs.spans.store_cubic.Tie as tie
 
@@ -35,17 +33,9 @@ returns c =
     let S = first .before .cells-within .ensures (first .if1 .taken) in
     let a = first .before .before .before .before .before .before .before .before in
     let shape = a .args .shape in
-    let span = a .args .span in (
-      λ _ policy background matte. (
-        cubic-mattes S,
-        c .before .before .store-four-by-fours .ensures
-            ∙ ap (λ (z : List ℕ). take (span .pixel * shape .channels * 4) (now (a .args .band)) ++ z
-            ++ drop ((span .pixel + span .n) * shape .channels * 4) (now (a .args .band)))
-            (cubic-colours S (a .args .code) (K .0) (K .1) _ (shape .channels) policy background matte
-            (a .pre .1 .1 .0)),
-      ),
-      λ e. absurd (true≢false e),
-    )
+    inner-put
+    (cubic-shown S (a .args .code) (K .0) (K .1) (now (a .args .picture)) (shape .channels) (a .pre .1 .1 .0))
+    (shape .channels) (a .args .span .pixel) (now (a .args .band)) (c .before .before .store-four-by-fours .ensures)
 
 returns-2 : tie.Need-returns-2
 returns-2 c = (λ e. absurd (false≢true e), λ _. refl)

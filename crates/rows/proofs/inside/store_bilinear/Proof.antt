@@ -1,13 +1,11 @@
 -- `rows::inside::store_bilinear` meets its contract: where every point of the span has its cell inside, none is matte,
 -- and each cell's colour is the point's. Assumes nothing.
-use mathlib.Core.Path.{ap, refl, _∙_}
-use mathlib.Core.Bool.{true≢false, false≢true}
-use mathlib.Core.List.{List, _++_}
-use Prim.Native.Nat.{ℕ, _+_, _*_}
-use lib.ListN.{take, drop}
+use mathlib.Core.Path.{refl}
+use mathlib.Core.Bool.{false≢true}
 use denote.Ref.{now}
 use borrow.Author.Needs.{needs}
-use Rattle.fast_colours.proofs.PlainLaws.{cells-inside, cells-units, cells-mattes, cells-colours}
+use Rattle.band.proofs.InnerLaws.{inner-put}
+use Rattle.fast_colours.proofs.PlainLaws.{cells-inside, cells-units, cells-shown}
 use Rattle.rows.proofs.inside.store_bilinear.Statement.{statement}
 use Rattle.rows.proofs.inside.store_bilinear.Tie as tie
 
@@ -45,17 +43,10 @@ returns c =
     .before .before .before .before .before .before .before .before .before .args in
     let C = c .before .before .before .before .before .before .before .before .before .before .before .before .before
     .cells .ensures .0 (c .before .before .before .before .before .before .before .before .before .before .before
-    .before .if1 .taken) in (
-      λ _ policy background matte. (
-        cells-mattes (a .shape .width) (a .shape .height) (C .0) (C .1),
-        c .before .before .store-cells .ensures
-            ∙ ap (λ (z : List ℕ). take (a .span .pixel * a .shape .channels * 4) (now (a .band)) ++ z
-            ++ drop ((a .span .pixel + a .span .n) * a .shape .channels * 4) (now (a .band)))
-            (cells-colours (a .shape .width) (a .shape .height) (C .0) (C .1) _ (a .shape .channels) policy background
-            matte),
-      ),
-      λ e. absurd (true≢false e),
-    )
+    .before .if1 .taken) in
+    inner-put
+    (cells-shown (a .shape .width) (a .shape .height) (C .0) (C .1) (now (a .picture)) (a .shape .channels))
+    (a .shape .channels) (a .span .pixel) (now (a .band)) (c .before .before .store-cells .ensures)
 
 returns-2 : tie.Need-returns-2
 returns-2 c = (λ e. absurd (false≢true e), λ _. refl)

@@ -18,9 +18,8 @@ returns c =
     let r = c .before .before .store-colours .ensures in
     let s = sourced (g .picture .now) (g .shape) (g .look) in (
       r .0 ∙ span-mattes s (g .frame) (g .coef .now) (g .span .first) (g .span .j) (g .span .n) _ _ P,
-      r .1
-          ∙ rw (span-colours s (g .frame) (g .coef .now) (g .span .first) (g .span .j) (g .span .n) _ _ P
-          (g .out-channels)),
+      r .1 ∙ span-colours s (g .frame) (g .coef .now) (g .span .first) (g .span .j) (g .span .n) _ _ P (g .out-channels)
+          (g .span .pixel) (g .band .now),
     )
 
 pub store-span-spec : {M : Type 1} → statement M

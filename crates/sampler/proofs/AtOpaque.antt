@@ -1,6 +1,6 @@
 -- In an opaque place every colour that is named is opaque, at every index of the plane and under each of the thirteen
 -- policies: a pixel that is named lies inside, and no policy but `Transparent` names the clear colour. Provides:
--- `named-solid`, `pixel-opaque`, `at-opaque`. Assumes nothing.
+-- `named-solid`, `one-unit`, `pixel-opaque`, `at-opaque`. Assumes nothing.
 use mathlib.Core.Path.{_≡_, refl, sym, subst}
 use mathlib.Core.Bool.{Bool, true, false, cond, _&&_}
 use mathlib.Core.List.{List}

@@ -1,7 +1,8 @@
 -- A point that is reached lies in the cell that the code gives it: the floor of a float is the floor of its value, by
 -- the laws of the division that both are; the floor as a float has that value too, and narrowing is one rounding. So
--- the exact law of a cell applies. Provides: `floor-value`, `narrow-rounds`, `rest-number`, `cell-law`; `reached-of`,
--- `less-half-reached`, `usable-reached` (a usable coordinate less 0.5 is reached). Assumes nothing.
+-- the exact law of a cell applies. Provides: `floor-value`, `finite-number`, `narrow-rounds`, `rest-number`,
+-- `cell-law`; `reached-of`, `less-half-reached`, `usable-reached` (a usable coordinate less 0.5 is reached). Assumes
+-- nothing.
 use mathlib.Core.Path.{_≡_, refl, sym, ap, _∙_, subst}
 use mathlib.Core.Bool.{Bool, true, false, not, cond}
 use Prim.Native.Nat.{ℕ, zero, suc, _+_, _*_, _^_, _≤_, _<_}

@@ -14,7 +14,7 @@ use Rattle.picture.specs.declared.colour.Rgba.{Rgba}
 use Rattle.point.specs.Point.{usable}
 use Rattle.sampler.specs.Interpolate.{interpolate}
 use Rattle.band.specs.Band.{
-  sourceOf,
+  sourceBy,
   shown,
   keptColour,
   keptMatte,
@@ -60,7 +60,7 @@ inner-put {image} {interpolation} {n} {us} {vs} {colour} S channels pixel before
   λ _ policy background matte. (
     no-mattes n us vs (S .marked),
     e ∙ put-same channels colour
-        (λ (k : ℕ). keptColour (sourceOf image policy interpolation background matte) (at us k) (at vs k)) n pixel
+        (λ (k : ℕ). keptColour (sourceBy image policy interpolation background matte) (at us k) (at vs k)) n pixel
         before (λ k l. rw (S .marked k l) (S .same k l policy background)),
   ),
   λ f. absurd (true≢false f),

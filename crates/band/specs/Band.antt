@@ -44,8 +44,8 @@ pub record Source : Type 0 where
   pub matte : Rgba
 
 -- by its parts
-abbrev pub sourceOf : Image → ℕ → ℕ → Rgba → Rgba → Source
-sourceOf image policy interpolation background matte = record {
+abbrev pub sourceBy : Image → ℕ → ℕ → Rgba → Rgba → Source
+sourceBy image policy interpolation background matte = record {
   image = image;
   policy = policy;
   interpolation = interpolation;
@@ -63,7 +63,7 @@ abbrev pub mapped : Mapping → ℤ → ℤ → Mapped
 mapped m x y = record { kind = m .kind; order = m .order; count = m .count; coef = m .coef; x = x; y = y }
 
 abbrev pub sourced : List ℕ → Shape → Look → Source
-sourced bytes s l = sourceOf (shapedImage bytes s) (l .policy) (l .interpolation) (l .background) (l .matte)
+sourced bytes s l = sourceBy (shapedImage bytes s) (l .policy) (l .interpolation) (l .background) (l .matte)
 
 -- ---- one pixel, at column i and row j of the window
 abbrev pub pointAt : Mapped → ℕ → ℕ → Point
@@ -110,7 +110,7 @@ abbrev pub Inner : Image → ℕ → ℕ → List Float → List Float → ℕ �
 Inner image interpolation channels us vs n pixel before after =
     (policy : ℕ) (background matte : Rgba)
     → (0 ≡ totalled (λ (k : ℕ). keptMatte (at us k) (at vs k)) n)
-    × (after ≡ spanBytes (sourceOf image policy interpolation background matte) channels us vs n pixel before)
+    × (after ≡ spanBytes (sourceBy image policy interpolation background matte) channels us vs n pixel before)
 
 -- what the answer of a way that puts such spans alone says: true, it was one; false, nothing was put
 abbrev pub InnerOrUntouched : Bool → Image → ℕ → ℕ → List Float → List Float → ℕ → ℕ → List ℕ → List ℕ → Type 0

@@ -8,7 +8,7 @@ ghost use Rattle.picture.specs.Pixel.{Picture};
 ghost use Rattle.picture.specs.Store.{storePixel};
 ghost use Rattle.point.specs.Point as Points;
 ghost use Rattle.band.specs.Band as Band;
-ghost use Rattle.band.specs.Band.{sourceOf, keptColour, keptMatte};
+ghost use Rattle.band.specs.Band.{sourceBy, keptColour, keptMatte};
 ghost use Rattle.band.specs.Image.{imageOf};
 use picture::colour::Rgba;
 use picture::store::store_pixel;
@@ -32,7 +32,7 @@ fn shown(
     requires { ⌜ Points.Whole p ⌝ }
     ensures { λ r.
         ⌜ r ≡ Band.shown
-        (sourceOf (imageOf (now (picture .entry)) width height channels) policy interpolation background matte) p ⌝ }
+        (sourceBy (imageOf (now (picture .entry)) width height channels) policy interpolation background matte) p ⌝ }
 {
     if p.usable {
         return interpolate(
@@ -77,7 +77,7 @@ pub fn store_one(
     requires { ⌜ (0 < «out_channels») × ((pixel * «out_channels» + «out_channels») * 4 ≤ length (now band)) ⌝ }
     ensures { λ r.
         ⌜ (r ≡ keptMatte u v) × (now (band .exit) ≡ storePixel (now (band .entry)) «out_channels» pixel
-        (keptColour (sourceOf (imageOf (now (picture .entry)) width height channels) policy interpolation background
+        (keptColour (sourceBy (imageOf (now (picture .entry)) width height channels) policy interpolation background
         matte) u v)) ⌝ }
 {
     let p = point(u, v);

@@ -11,7 +11,7 @@ use lib.Dec.{eqb}
 use lib.IntN.{ℤ, pos, negsuc, sucℤ}
 use Rattle.exact.specs.Fraction.{Fraction, frac, ratio, whole, _≤F_, _≈_, _+F_, _-F_, _*F_, Within, Unit01}
 use Rattle.exact.specs.Surface.{mix, surface}
-use Rattle.exact.specs.Blend.{weights, dot, blend, folded, around, Pairwise}
+use Rattle.exact.specs.Blend.{weights, dot, blend, folded, fourAround, Pairwise}
 use Rattle.exact.proofs.Scale.{at-eq, at-add, common}
 use Rattle.exact.proofs.Near.{within-trans}
 use Rattle.exact.proofs.Products.{eq-refl, _⨟_, back, at-zero}
@@ -59,7 +59,7 @@ four-taps t s a b c d =
 -- ---- the surface is the blend of the four values around the point, in any cell that the point touches
 module _ (a : ℤ → ℤ → Fraction) where
   pub surface-blend : (x y t s : Fraction) (k l : ℤ) → Unit01 t → Unit01 s → x ≈ whole k +F t → y ≈ whole l +F s
-      → surface a x y ≈ blend (t ∷ s ∷ []) (around a k l)
+      → surface a x y ≈ blend (t ∷ s ∷ []) (fourAround a k l)
   surface-blend x y t s k l u v h g =
       surface-eval a x y t s k l u v h g ⨟ back
       (bilinear t s (a k l) (a (sucℤ k) l) (a k (sucℤ l)) (a (sucℤ k) (sucℤ l)))
@@ -68,11 +68,11 @@ module _ (a : ℤ → ℤ → Fraction) where
   pub taps-near : ((i j : ℤ) → Unit01 (a i j)) → (x y t s d e c : Fraction) (k l : ℤ) (vs : List Fraction) → Unit01 t
       → Unit01 s
       → Within (whole k +F t) x d → Within (whole l +F s) y e → frac 0 1 ≤F c
-      → Pairwise (λ v w. Within v w c) vs (around a k l)
+      → Pairwise (λ v w. Within v w c) vs (fourAround a k l)
       → Within (blend (t ∷ s ∷ []) vs) (surface a x y) (c +F (d +F e))
   taps-near values x y t s d e c k l vs u v h g c0 near =
-      within-trans (blend (t ∷ s ∷ []) vs) (blend (t ∷ s ∷ []) (around a k l)) (surface a x y) c (d +F e)
-      (blend-near (t ∷ s ∷ []) (u, (v, tt)) vs (around a k l) c c0 near)
+      within-trans (blend (t ∷ s ∷ []) vs) (blend (t ∷ s ∷ []) (fourAround a k l)) (surface a x y) c (d +F e)
+      (blend-near (t ∷ s ∷ []) (u, (v, tt)) vs (fourAround a k l) c c0 near)
       (within-like (surface-blend (whole k +F t) (whole l +F s) t s k l u v (eq-refl (whole k +F t))
       (eq-refl (whole l +F s))) (eq-refl (surface a x y)) (eq-refl (d +F e))
       (surface-move a values (whole k +F t) x (whole l +F s) y d e h g))

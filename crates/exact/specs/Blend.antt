@@ -29,8 +29,8 @@ unfolding weights dot
 blend ts vs = dot (weights ts) vs
 
 -- the four values around a point of the cell of column k and row l
-abbrev pub around : (ℤ → ℤ → Fraction) → ℤ → ℤ → List Fraction
-around a k l = a k l ∷ a (sucℤ k) l ∷ a k (sucℤ l) ∷ a (sucℤ k) (sucℤ l) ∷ []
+abbrev pub fourAround : (ℤ → ℤ → Fraction) → ℤ → ℤ → List Fraction
+fourAround a k l = a k l ∷ a (sucℤ k) l ∷ a k (sucℤ l) ∷ a (sucℤ k) (sucℤ l) ∷ []
 
 -- ---- what the laws of the blend speak of
 unfoldable pub total : List Fraction → Fraction

@@ -8,7 +8,7 @@ use lib.ListN.{getD}
 use Rattle.exact.specs.Weighted.{Unit32}
 use Rattle.picture.specs.Pixel.{Picture}
 use Rattle.picture.specs.Store.{Numbers}
-use Rattle.fast_colours.specs.Plain.{Inside, Fractions, Weights}
+use Rattle.fast_colours.specs.Plain.{CellsInside, Fractions, Weights}
 use Rattle.fast_colours.proofs.NumberLaws.{blend-numbers}
 use Rattle.sampler.specs.TwoByTwo.{Weighed, mixed}
 use Rattle.sampler.proofs.MixedLaws.{mixed-blend}
@@ -33,7 +33,7 @@ module _ {bytes : List ℕ} {w h : ℕ} (P : Picture bytes w h 3) where
       }
 
   pub all-beside : {n : ℕ} {columns rows : List ℕ} {xs ys : List Float} {ws : List (List Float)}
-      → Inside w h n columns rows
+      → CellsInside w h n columns rows
       → ((k : ℕ) → k < n → getD columns k 0 + 2 < w) → Fractions n xs → Fractions n ys
       → Weights n xs ys ws → Beside bytes w h n columns rows ws
   all-beside {n} {columns} {rows} I B X Y W =

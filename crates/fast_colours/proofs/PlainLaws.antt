@@ -34,7 +34,16 @@ use Rattle.sampler.proofs.MixedLaws.{mixed-blend}
 use Rattle.sampler.proofs.InsideLaws.{bilinear-inside, single-inside}
 use Rattle.band.specs.Band.{putPixels}
 use Rattle.band.specs.Image.{imageOf}
-use Rattle.fast_colours.specs.Plain.{Within, Inside, Fractions, Sized, Weights, mixedAt, blendAt, Mixable}
+use Rattle.fast_colours.specs.Plain.{
+  PixelsInside,
+  CellsInside,
+  Fractions,
+  Sized,
+  Weights,
+  mixedAt,
+  blendAt,
+  Mixable,
+}
 use Rattle.band.proofs.InnerLaws.{Shows, put-same}
 use Rattle.fast_colours.proofs.NumberLaws.{blend-numbers}
 
@@ -151,7 +160,7 @@ module _ (bytes : List ℕ) (w channels : ℕ) (columns rows : List ℕ) {n : �
       (λ k l. mixed-blend bytes w channels (getD columns k 0) (getD rows k 0) (at xs k) (at ys k) (X .unit k l)
       (Y .unit k l) (W .weighed k l))
 
-  pub mixable : (h : ℕ) → Picture bytes w h channels → Inside w h n columns rows → Fractions n xs → Fractions n ys
+  pub mixable : (h : ℕ) → Picture bytes w h channels → CellsInside w h n columns rows → Fractions n xs → Fractions n ys
       → Weights n xs ys ws → Mixable bytes w channels n columns rows ws
   mixable h P I X Y W =
       record {
@@ -169,7 +178,7 @@ cells-units {reach} {n} {us} {cs} {ts} C =
 
 module _ (w h : ℕ) {n : ℕ} {us vs : List Float} {columns rows : List ℕ} {xs ys : List Float}
     (C : Cells (w - 1) n us columns xs) (D : Cells (h - 1) n vs rows ys) where
-  pub cells-inside : Inside w h n columns rows
+  pub cells-inside : CellsInside w h n columns rows
   cells-inside = record { column = λ k l. next _ w (C .cell k l .below); row = λ k l. next _ h (D .cell k l .below) }
 
   pub cells-shown : (bytes : List ℕ) (channels : ℕ)
@@ -189,7 +198,7 @@ place-colour bytes w h channels policy background code small {u} {v} {i} {j} C D
 
 module _ (code : ℕ) {w h n : ℕ} {us vs : List Float} {columns rows : List ℕ}
     (C : Places (interpolation code) w n us columns) (D : Places (interpolation code) h n vs rows) where
-  pub places-within : Within w h n columns rows
+  pub places-within : PixelsInside w h n columns rows
   places-within = record { column = λ k l. C .place k l .below; row = λ k l. D .place k l .below }
 
   pub places-shown : (bytes : List ℕ) (channels : ℕ) → Single code

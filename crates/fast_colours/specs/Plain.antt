@@ -12,12 +12,12 @@ use Rattle.picture.specs.declared.colour.Rgba.{Rgba}
 use Rattle.sampler.specs.TwoByTwo.{Weighed, mixed, blend}
 
 -- the first n places lie inside: their columns and rows
-pub record Within (width height n : ℕ) (columns rows : List ℕ) : Type 0 where
+pub record PixelsInside (width height n : ℕ) (columns rows : List ℕ) : Type 0 where
   pub column : (k : ℕ) → k < n → getD columns k 0 < width
   pub row : (k : ℕ) → k < n → getD rows k 0 < height
 
 -- the first n cells lie inside: their columns and rows, and the next of each
-pub record Inside (width height n : ℕ) (columns rows : List ℕ) : Type 0 where
+pub record CellsInside (width height n : ℕ) (columns rows : List ℕ) : Type 0 where
   pub column : (k : ℕ) → k < n → getD columns k 0 + 1 < width
   pub row : (k : ℕ) → k < n → getD rows k 0 + 1 < height
 

@@ -8,7 +8,7 @@ ghost use Prim.Native.Nat.{ℕ, _+_, _*_, _≤_, _<_};
 ghost use lib.ListN.{length, getD};
 ghost use Rattle.picture.specs.Pixel.{Picture, Shaped, Channels};
 ghost use Rattle.band.specs.Band.{putPixels};
-ghost use Rattle.fast_colours.specs.Plain.{Inside, Fractions, mixedAt, blendAt, Mixable};
+ghost use Rattle.fast_colours.specs.Plain.{CellsInside, Fractions, mixedAt, blendAt, Mixable};
 ghost use Rattle.fast_colours.specs.Broad as Broad;
 ghost use Rattle.fast_colours.specs.Broad.{fourSums, Covered, Beside};
 use crate::plain::weigh;
@@ -206,7 +206,7 @@ fn store_three(
     requires { ⌜ Shaped (now picture) shape ⌝ }
     requires { ⌜ shape .channels ≡ 3 ⌝ }
     requires { ⌜ (0 < span .n) × (span .n ≤ 64) ⌝ }
-    requires { ⌜ Inside (shape .width) (shape .height) (span .n) (now columns) (now rows) ⌝ }
+    requires { ⌜ CellsInside (shape .width) (shape .height) (span .n) (now columns) (now rows) ⌝ }
     requires { ⌜ ((k : ℕ) → k < span .n → getD (now columns) k 0 + 2 < shape .width) ⌝ }
     requires { ⌜ Fractions (span .n) (now xs) × Fractions (span .n) (now ys) ⌝ }
     requires { ⌜ (span .pixel + span .n) * 3 * 4 ≤ length (now band) ⌝ }
@@ -243,7 +243,7 @@ pub fn store_cells(
     requires { ⌜ Shaped (now picture) shape ⌝ }
     requires { ⌜ Channels (shape .channels) ⌝ }
     requires { ⌜ span .n ≤ 64 ⌝ }
-    requires { ⌜ Inside (shape .width) (shape .height) (span .n) (now columns) (now rows) ⌝ }
+    requires { ⌜ CellsInside (shape .width) (shape .height) (span .n) (now columns) (now rows) ⌝ }
     requires { ⌜ Fractions (span .n) (now xs) × Fractions (span .n) (now ys) ⌝ }
     requires { ⌜ (span .pixel + span .n) * shape .channels * 4 ≤ length (now band) ⌝ }
     ensures { λ _.

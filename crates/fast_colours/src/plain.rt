@@ -7,7 +7,8 @@ ghost use lib.ListN.{length, getD};
 ghost use Rattle.sampler.specs.TwoByTwo.{mixed};
 ghost use Rattle.picture.specs.Pixel.{Picture, Shaped, Channels, pixelAt};
 ghost use Rattle.band.specs.Band.{putPixels};
-ghost use Rattle.fast_colours.specs.Plain.{Within, Inside, Fractions, Sized, Weights, mixedAt, blendAt, Mixable};
+ghost use Rattle.fast_colours.specs.Plain.{PixelsInside, CellsInside, Fractions, Sized, Weights};
+ghost use Rattle.fast_colours.specs.Plain.{mixedAt, blendAt, Mixable};
 use band::span::Span;
 use picture::colour::Rgba;
 use picture::pixel::pixel_at;
@@ -86,7 +87,7 @@ fn store_plain(
     requires { ⌜ Shaped (now picture) shape ⌝ }
     requires { ⌜ Channels (shape .channels) ⌝ }
     requires { ⌜ span .n ≤ 64 ⌝ }
-    requires { ⌜ Inside (shape .width) (shape .height) (span .n) (now columns) (now rows) ⌝ }
+    requires { ⌜ CellsInside (shape .width) (shape .height) (span .n) (now columns) (now rows) ⌝ }
     requires { ⌜ Mixable (now picture) (shape .width) (shape .channels) (span .n) (now columns) (now rows) (now w) ⌝ }
     requires { ⌜ (span .pixel + span .n) * shape .channels * 4 ≤ length (now band) ⌝ }
     ensures { λ _.
@@ -135,7 +136,7 @@ pub fn store_cells(
     requires { ⌜ Shaped (now picture) shape ⌝ }
     requires { ⌜ Channels (shape .channels) ⌝ }
     requires { ⌜ span .n ≤ 64 ⌝ }
-    requires { ⌜ Inside (shape .width) (shape .height) (span .n) (now columns) (now rows) ⌝ }
+    requires { ⌜ CellsInside (shape .width) (shape .height) (span .n) (now columns) (now rows) ⌝ }
     requires { ⌜ Fractions (span .n) (now xs) × Fractions (span .n) (now ys) ⌝ }
     requires { ⌜ (span .pixel + span .n) * shape .channels * 4 ≤ length (now band) ⌝ }
     ensures { λ _.
@@ -160,7 +161,7 @@ pub fn store_places(
     requires { ⌜ Shaped (now picture) shape ⌝ }
     requires { ⌜ Channels (shape .channels) ⌝ }
     requires { ⌜ span .n ≤ 64 ⌝ }
-    requires { ⌜ Within (shape .width) (shape .height) (span .n) (now columns) (now rows) ⌝ }
+    requires { ⌜ PixelsInside (shape .width) (shape .height) (span .n) (now columns) (now rows) ⌝ }
     requires { ⌜ (span .pixel + span .n) * shape .channels * 4 ≤ length (now band) ⌝ }
     ensures { λ _.
         ⌜ now (band .exit) ≡ putPixels (shape .channels)

@@ -14,7 +14,7 @@ use Rattle.exact.specs.Vector.{Vector, at}
 use Rattle.point.specs.declared.point.Point.{Point}
 use Rattle.point.specs.Point.{point, Whole}
 use Rattle.mappings.specs.Mapping.{barrelKind}
-use Rattle.inverse.specs.Barrel.{across, down, square, barrelFrom, barrelInverseFrom}
+use Rattle.inverse.specs.Barrel.{across, down, radiusSquared, barrelFrom, barrelInverseFrom}
 use Rattle.fast_points.specs.Points.{middle, PointsOf}
 use Rattle.fast_points.proofs.FillLaws.{both-more}
 use Rattle.fast_points.specs.Barrels.{barrelBy, RadiiSquared, Each, Moved}
@@ -30,15 +30,16 @@ module _ (c : Vector) (x dy : Float) (first : ℕ) where
   square-none a b = record { done = record { each = λ k h. absurd (not-suc-le-zero h) }; long-d = a; long-s = b }
 
   pub square-more : (k : ℕ) {ds ss : List Float} {a d s : Float} → a ≡ middle (first + k) x → d ≡ across c a
-      → s ≡ square d dy → k < 64
+      → s ≡ radiusSquared d dy → k < 64
       → Squaring c x dy first k ds ss → Squaring c x dy first (k + 1) (set ds k d) (set ss k s)
   square-more k {ds} {ss} e g q h old =
       record {
         done = record {
           each =
               both-more (λ (i : ℕ) (d s : Float). (d ≡ across c (middle (first + i) x))
-              × (s ≡ square (across c (middle (first + i) x)) dy)) k ds ss
-              (old .long-d) (old .long-s) h (rw (← e) (g, q ∙ ap (λ (z : Float). square z dy) g)) (old .done .each);
+              × (s ≡ radiusSquared (across c (middle (first + i) x)) dy)) k ds ss
+              (old .long-d) (old .long-s) h
+              (rw (← e) (g, q ∙ ap (λ (z : Float). radiusSquared z dy) g)) (old .done .each);
         };
         long-d = length-set ds k _ ∙ old .long-d;
         long-s = length-set ss k _ ∙ old .long-s;
@@ -74,7 +75,7 @@ module _ (f : Float → Float) (xs : List Float) where
 -- ---- the three steps together
 radius : (c : Vector) (x dy : Float) (first n : ℕ) {ds ss rs : List Float} → RadiiSquared c x dy first n ds ss
     → Each root n ss rs
-    → (k : ℕ) → k < n → at rs k ≡ root (square (across c (middle (first + k) x)) dy)
+    → (k : ℕ) → k < n → at rs k ≡ root (radiusSquared (across c (middle (first + k) x)) dy)
 radius c x dy first n S R k h = R .each k h ∙ ap root (S .each k h .1)
 
 module _ (c : Vector) (x y : Float) (first n : ℕ) {kind : ℕ} {dy : Float} {ds ss rs us vs : List Float} where

@@ -13,7 +13,7 @@ use lib.Ieee.{Float, nan}
 use Rattle.exact.specs.Vector.{at}
 use Rattle.point.specs.declared.point.Point.{Point}
 use Rattle.point.specs.Point.{point, Whole}
-use Rattle.fast_points.specs.Points.{middle, Kept}
+use Rattle.fast_points.specs.Points.{middle, KeptPoints}
 
 others : {i k : ℕ} → i < k → i ≢ k
 others h e = omega arith
@@ -34,7 +34,7 @@ read-back e w = rw e (w .whole)
 -- ---- points
 -- what a loop knows after k turns: k points are there, in lists of 64 places
 pub record Filling (g : ℕ → Point) (k : ℕ) (us vs : List Float) : Type 0 where
-  pub done : Kept g k us vs
+  pub done : KeptPoints g k us vs
   pub long-u : length us ≡ 64
   pub long-v : length vs ≡ 64
 
@@ -55,7 +55,7 @@ module _ (g : ℕ → Point) where
         long-v = length-set vs k _ ∙ old .long-v;
       }
 
-  pub fill-last : (k n : ℕ) {us vs : List Float} → n ≤ k → Filling g k us vs → Kept g n us vs
+  pub fill-last : (k n : ℕ) {us vs : List Float} → n ≤ k → Filling g k us vs → KeptPoints g n us vs
   fill-last k n a s = record { kept = λ i h. s .done .kept i (omega arith) }
 
 -- those of a function of the pixels' middles

@@ -9,8 +9,8 @@ use lib.Ieee.{Float}
 use Rattle.exact.specs.Vector.{Vector, at}
 use Rattle.point.specs.declared.point.Point.{Point}
 use Rattle.mappings.specs.Mapping.{barrelKind}
-use Rattle.inverse.specs.Barrel.{across, square, barrel, barrelInverse}
-use Rattle.fast_points.specs.Points.{middle, Kept}
+use Rattle.inverse.specs.Barrel.{across, radiusSquared, barrel, barrelInverse}
+use Rattle.fast_points.specs.Points.{middle, KeptPoints}
 
 -- the point of Barrel, or of BarrelInverse where the kind is another
 abbrev pub barrelBy : ℕ → Vector → Float → Float → Point
@@ -20,7 +20,7 @@ barrelBy kind c x y = cond (eqb kind barrelKind) (barrel c x y) (barrelInverse c
 -- window at x; dy is the offset down
 pub record RadiiSquared (c : Vector) (x dy : Float) (first n : ℕ) (ds ss : List Float) : Type 0 where
   pub each : (k : ℕ) → k < n
-      → (at ds k ≡ across c (middle (first + k) x)) × (at ss k ≡ square (across c (middle (first + k) x)) dy)
+      → (at ds k ≡ across c (middle (first + k) x)) × (at ss k ≡ radiusSquared (across c (middle (first + k) x)) dy)
 
 -- the first n of a list: f of another's
 pub record Each (f : Float → Float) (n : ℕ) (xs ys : List Float) : Type 0 where
@@ -28,4 +28,4 @@ pub record Each (f : Float → Float) (n : ℕ) (xs ys : List Float) : Type 0 wh
 
 -- the first n of two lists: the points that `from` gives by the offsets and the radii
 abbrev pub Moved : (Float → Float → Point) → ℕ → List Float → List Float → List Float → List Float → Type 0
-Moved from n ds rs us vs = Kept (λ (k : ℕ). from (at ds k) (at rs k)) n us vs
+Moved from n ds rs us vs = KeptPoints (λ (k : ℕ). from (at ds k) (at rs k)) n us vs

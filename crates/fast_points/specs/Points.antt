@@ -18,14 +18,15 @@ abbrev pub middle : ℕ → Float → Float
 middle i x = ofInt binary64 (pos i) ⊕ x ⊕ ofBits binary64 0x3fe0_0000_0000_0000  -- 0.5
 
 -- the first n of two lists: the coordinates of the points that g numbers
-pub record Kept (g : ℕ → Point) (n : ℕ) (us vs : List Float) : Type 0 where
+pub record KeptPoints (g : ℕ → Point) (n : ℕ) (us vs : List Float) : Type 0 where
   pub kept : (k : ℕ) → k < n → g k ≡ point (at us k) (at vs k)
 
 -- of those that f gives at the middles of the pixels from column `first` on, of a window at x
 abbrev pub PointsOf : (Float → Point) → Float → ℕ → ℕ → List Float → List Float → Type 0
-PointsOf f x first n us vs = Kept (λ (k : ℕ). f (middle (first + k) x)) n us vs
+PointsOf f x first n us vs = KeptPoints (λ (k : ℕ). f (middle (first + k) x)) n us vs
 
 -- of the pixels' from column `first` of row j on, of the frame's window
 abbrev pub Points : Frame → Vector → ℕ → ℕ → ℕ → List Float → List Float → Type 0
 Points f coef first j n us vs =
-    Kept (λ (k : ℕ). inverse (f .kind) (f .order) (f .count) coef (asked (first + k) (f .x)) (asked j (f .y))) n us vs
+    KeptPoints (λ (k : ℕ). inverse (f .kind) (f .order) (f .count) coef (asked (first + k) (f .x)) (asked j (f .y))) n
+    us vs

@@ -36,7 +36,7 @@ use Rattle.inverse.specs.Forward.{lastStep, det, du, dv, newton, newtonT
 use Rattle.inverse.specs.Shepards.{Sums, d2, addPair, pairTurn, zeroSums, shift, ofPairs, pairsOf}
 use Rattle.inverse.specs.Affine.{affine}
 use Rattle.inverse.specs.Polynomial.{polynomial}
-use Rattle.inverse.specs.Barrel.{across, down, square, factor, barrelFrom, barrelInverseFrom}
+use Rattle.inverse.specs.Barrel.{across, down, radiusSquared, factor, barrelFrom, barrelInverseFrom}
 use Rattle.inverse.specs.Inverse.{inverse}
 use Rattle.number.specs.Root.{root}
 
@@ -109,4 +109,4 @@ inverse-whole kind order count coef x y =
     none-whole))))))
   where
     radius : Vector → Float → Float → Float
-    radius c x y = root (square (across c x) (down c y))
+    radius c x y = root (radiusSquared (across c x) (down c y))

@@ -18,8 +18,8 @@ abbrev pub down : Vector → Float → Float
 down c y = (y ⊖ at c 5) ⊘ at c 6
 
 -- the squared radius
-abbrev pub square : Float → Float → Float
-square dx dy = dx ⊗ dx ⊕ dy ⊗ dy
+abbrev pub radiusSquared : Float → Float → Float
+radiusSquared dx dy = dx ⊗ dx ⊕ dy ⊗ dy
 
 -- the factor at the radius r
 abbrev pub factor : Vector → Float → Float
@@ -42,7 +42,7 @@ barrelInverseFrom c dy dx r =
 
 -- ---- from the output point on
 abbrev pub barrel : Vector → Float → Float → Point
-barrel c x y = barrelFrom c (down c y) (across c x) (root (square (across c x) (down c y)))
+barrel c x y = barrelFrom c (down c y) (across c x) (root (radiusSquared (across c x) (down c y)))
 
 abbrev pub barrelInverse : Vector → Float → Float → Point
-barrelInverse c x y = barrelInverseFrom c (down c y) (across c x) (root (square (across c x) (down c y)))
+barrelInverse c x y = barrelInverseFrom c (down c y) (across c x) (root (radiusSquared (across c x) (down c y)))

@@ -23,7 +23,7 @@ pub fn down(c: &[f64; 256], y: f64) -> f64
 
 // The squared radius.
 pub fn radius_squared(dx: f64, dy: f64) -> f64
-    ensures { λ r. ⌜ r ≡ Barrel.square dx dy ⌝ }
+    ensures { λ r. ⌜ r ≡ Barrel.radiusSquared dx dy ⌝ }
 {
     dx * dx + dy * dy
 }

@@ -4,7 +4,7 @@
 // right whatever the answer. Assumes that the bytes are a picture's.
 ghost use Prim.Native.Nat.{_+_, _≤_, _<_};
 ghost use Rattle.picture.specs.Pixel.{Shaped};
-ghost use Rattle.fast_colours.specs.Plain.{Inside};
+ghost use Rattle.fast_colours.specs.Plain.{CellsInside};
 use fast_colours::plain::wide;
 use picture::pixel::pixel_at;
 use picture::shape::Shape;
@@ -46,7 +46,7 @@ fn second(picture: &[u8], shape: Shape, i: u64, j: u64) -> f32
 fn read(picture: &[u8], shape: Shape, columns: &[u32; 64], rows: &[u32; 64], n: usize) -> bool
     requires { ⌜ Shaped (now picture) shape ⌝ }
     requires { ⌜ n ≤ 64 ⌝ }
-    requires { ⌜ Inside (shape .width) (shape .height) n (now columns) (now rows) ⌝ }
+    requires { ⌜ CellsInside (shape .width) (shape .height) n (now columns) (now rows) ⌝ }
 {
     let mut good = true;
     let fourths = n / 4;
@@ -61,7 +61,7 @@ fn read(picture: &[u8], shape: Shape, columns: &[u32; 64], rows: &[u32; 64], n: 
 pub fn ahead(picture: &[u8], shape: Shape, columns: &[u32; 64], rows: &[u32; 64], n: usize) -> bool
     requires { ⌜ Shaped (now picture) shape ⌝ }
     requires { ⌜ n ≤ 64 ⌝ }
-    requires { ⌜ Inside (shape .width) (shape .height) n (now columns) (now rows) ⌝ }
+    requires { ⌜ CellsInside (shape .width) (shape .height) n (now columns) (now rows) ⌝ }
 {
     if slants(rows, n) {
         return read(picture, shape, columns, rows, n);

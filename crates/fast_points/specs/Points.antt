@@ -4,8 +4,8 @@ use mathlib.Core.Path.{_≡_}
 use mathlib.Core.List.{List}
 use Prim.Native.Nat.{ℕ, _+_, _<_}
 use lib.IntN.{pos}
-use lib.Ieee.{Float, binary64, ofBits, ofInt}
-use Rattle.exact.specs.Double.{_⊕_}
+use lib.Ieee.{Float, binary64, ofInt}
+use Rattle.exact.specs.Double.{_⊕_, half}
 use Rattle.exact.specs.Sums.{asked}
 use Rattle.exact.specs.Vector.{Vector, at}
 use Rattle.point.specs.declared.point.Point.{Point}
@@ -15,7 +15,7 @@ use Rattle.inverse.specs.declared.frame.Frame.{Frame}
 
 -- `asked` with the offset as a float
 abbrev pub middle : ℕ → Float → Float
-middle i x = ofInt binary64 (pos i) ⊕ x ⊕ ofBits binary64 0x3fe0_0000_0000_0000  -- 0.5
+middle i x = ofInt binary64 (pos i) ⊕ x ⊕ half
 
 -- the first n of two lists: the coordinates of the points that g numbers
 pub record KeptPoints (g : ℕ → Point) (n : ℕ) (us vs : List Float) : Type 0 where

@@ -18,7 +18,7 @@ use Rattle.exact.specs.Fraction.{Fraction, frac, value, _≤F_, _≈_, absF}
 use Rattle.exact.proofs.Near.{le-trans}
 use Rattle.exact.proofs.Products.{le-same}
 use Rattle.exact.proofs.Signed.{le-value}
-use Rattle.endian.specs.Bytes.{sampleAt}
+use Rattle.endian.specs.Bytes.{sampleAt, sampleLimit}
 use Rattle.number.specs.Magnitude.{abs, within}
 use Rattle.number.proofs.MagnitudeLaws.{abs-limited}
 use Rattle.picture.specs.At.{at}
@@ -32,22 +32,18 @@ use Rattle.picture.proofs.PixelCode.{number-lt}
 use Rattle.cubic.proofs.Sizes.{abs-magnitude}
 
 -- ---- numbers of bounded magnitude
--- the limit of a sample, 65,536
-abbrev pub limit : Float
-limit = ofBits binary32 0x4780_0000
-
-limit-number : T (finite limit)
+limit-number : T (finite sampleLimit)
 limit-number = unfold ofBits in tt
 
-limit-value : value limit ≈ frac 65536 1
+limit-value : value sampleLimit ≈ frac 65536 1
 limit-value = unfold ofBits in record { eq = refl }
 
-pub within-bounded : (x : Float) → T (within limit x) → Bounded (frac 65536 1) x
+pub within-bounded : (x : Float) → T (within sampleLimit x) → Bounded (frac 65536 1) x
 unfolding within
 within-bounded x h =
-    let n = abs-limited x limit limit-number h in
+    let n = abs-limited x sampleLimit limit-number h in
     let m = abs-magnitude x n in
-    record { number = n; size = le-same (m .1) limit-value (le-value (abs x) limit (m .0) limit-number .0 h) }
+    record { number = n; size = le-same (m .1) limit-value (le-value (abs x) sampleLimit (m .0) limit-number .0 h) }
 
 pub bounded-more : {b d : Fraction} → b ≤F d → (p : Rgba) → BoundedBy b p → BoundedBy d p
 bounded-more {b} {d} h p q =

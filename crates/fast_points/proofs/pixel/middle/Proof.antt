@@ -3,17 +3,17 @@
 use native.Mathlib.Nat.{lt-of-le-of-lt}
 use lib.Dec.{lit<}
 use lib.IntN.{ℤ}
-use lib.Ieee.{binary64, ofInt, ofBits}
+use lib.Ieee.{binary64, ofInt}
 use mir.Syntax.{w32}
 use mir.ValLaws.{toZ-pos}
-use Rattle.exact.specs.Double.{_⊕_}
+use Rattle.exact.specs.Double.{_⊕_, half}
 use mathlib.Core.Path.{ap}
 use borrow.Author.Needs.{needs}
 use Rattle.fast_points.proofs.pixel.middle.Statement.{statement}
 use Rattle.fast_points.proofs.pixel.middle.Tie as tie
 
 returns : tie.Need-returns
-returns c = ap (λ (z : ℤ). ofInt binary64 z ⊕ (c .before .args .x) ⊕ ofBits binary64 0x3fe0_0000_0000_0000)
+returns c = ap (λ (z : ℤ). ofInt binary64 z ⊕ (c .before .args .x) ⊕ half)
     (toZ-pos w32 (c .before .args .i) (lt-of-le-of-lt (c .before .pre) (lit< tt)))
 
 pub middle-spec : {M : Type 1} → statement M

@@ -14,25 +14,25 @@ use lib.Ieee.{Float, fin, binary64, up, down, round, sub, le, ofBits, ofInt, fit
 use lib.Ieee.Bits.{ofBits-fits}
 use lib.Ieee.Fits.{down-pos, round-fits}
 use lib.Ieee.Order.{round-mono}
-use Rattle.exact.specs.Double.{_⊖_}
+use Rattle.exact.specs.Double.{_⊖_, one}
 use Rattle.exact.proofs.Held.{round-held, round-zero}
 use Rattle.exact.proofs.Nan.{zero-bits}
 use Rattle.exact.proofs.Operands.{sub-values}
 use Rattle.exact.proofs.Value.{rescale}
 use Rattle.number.specs.Floor.{floorℤ, floorF64, inDomain, isZero}
 use Rattle.number.proofs.FloorLaws.{floor-float}
-use Rattle.fast_cells.specs.Inner.{nought, under, Short, Parted}
+use Rattle.fast_cells.specs.Inner.{nought, under, leastShort, Short, Parted}
 use Rattle.fast_cells.proofs.OrderLaws.{above, whole-value, under-digits, under-finite}
 use Rattle.fast_cells.proofs.HalfLaws.{sum-less, tiny, tiny-value, digits-end, significand}
 use Rattle.fast_cells.proofs.FlooredLaws.{floored}
 
 -- ---- a fraction of at most 1 whose denominator has 126 digits rounds to a short number
-least-is : round binary64 false 1 (2 ^ 126) ≡ ofBits binary64 0x3810_0000_0000_0000
-least-is = round-held binary64 (ofBits binary64 0x3810_0000_0000_0000) false 1 (2 ^ 126) (pow-pos 126)
+least-is : round binary64 false 1 (2 ^ 126) ≡ leastShort
+least-is = round-held binary64 leastShort false 1 (2 ^ 126) (pow-pos 126)
     (ofBits-fits binary64 0x3810_0000_0000_0000) (unfold ofBits in (refl, refl))
 
-one-is : round binary64 false 1 1 ≡ ofBits binary64 0x3ff0_0000_0000_0000
-one-is = round-held binary64 (ofBits binary64 0x3ff0_0000_0000_0000) false 1 1 (zero-lt-suc 0)
+one-is : round binary64 false 1 1 ≡ one
+one-is = round-held binary64 one false 1 1 (zero-lt-suc 0)
     (ofBits-fits binary64 0x3ff0_0000_0000_0000) (unfold ofBits in (refl, refl))
 
 short-round : (r c : ℕ) → 0 < c → r ≤ c → c ≤ 2 ^ 126 → Short (round binary64 false r c)
@@ -42,8 +42,8 @@ short-round r c C h l = record { held = round-fits binary64 false r c; short = g
     far r c p h = omega arith
 
     go : (r : ℕ) → r ≤ c → (round binary64 false r c ≡ nought)
-        ⊎ (T (le (ofBits binary64 0x3810_0000_0000_0000) (round binary64 false r c))
-        × T (le (round binary64 false r c) (ofBits binary64 0x3ff0_0000_0000_0000)))
+        ⊎ (T (le leastShort (round binary64 false r c))
+        × T (le (round binary64 false r c) one))
     go zero h = inl (round-zero binary64 false c C ∙ sym (zero-bits binary64))
     go (suc r) h = inr (
       subst (λ (y : Float). T (le y (round binary64 false (suc r) c))) least-is

@@ -23,7 +23,8 @@ use Rattle.exact.proofs.Value.{rescale, unique}
 use Rattle.number.specs.Narrow.{narrow}
 use Rattle.number.proofs.NarrowBits.{ordinary-bits}
 use Rattle.number.proofs.NarrowLaws.{narrow-fits}
-use Rattle.fast_cells.specs.Inner.{nought, Short}
+use Rattle.exact.specs.Double.{one}
+use Rattle.fast_cells.specs.Inner.{nought, leastShort, Short}
 use Rattle.fast_cells.proofs.OrderLaws.{above}
 
 -- ---- one value by both patterns: k is the f64's without its last 29 digits
@@ -113,25 +114,25 @@ pattern-between p q m e P Q t l h =
     plain : (b : ℕ) → b < 0 + 0x7ff0000000000000 → b < 0x7ff0000000000000
     plain b h = omega arith
 
-least-value : HasValue (ofBits binary64 0x3810_0000_0000_0000) false 1 (2 ^ 126)
+least-value : HasValue leastShort false 1 (2 ^ 126)
 least-value = unfold ofBits in (refl, refl)
 
 module _ (d : Float) (s : Short d) where
-  ordinary : T (le (ofBits binary64 0x3810_0000_0000_0000) d) → T (le d (ofBits binary64 0x3ff0_0000_0000_0000))
+  ordinary : T (le leastShort d) → T (le d one)
       → (0x3810000000000000 ≤ toBits binary64 d) × (toBits binary64 d ≤ 0x3ff0000000000000)
-  ordinary l h = elim (above 1 (2 ^ 126) (ofBits binary64 0x3810_0000_0000_0000) d (zero-lt-suc 0) (pow-pos 126)
+  ordinary l h = elim (above 1 (2 ^ 126) leastShort d (zero-lt-suc 0) (pow-pos 126)
       least-value l) [
-        | inl e ↦ absurd (endless (subst (λ (x : Float). T (le x (ofBits binary64 0x3ff0_0000_0000_0000))) e h))
+        | inl e ↦ absurd (endless (subst (λ (x : Float). T (le x one)) e h))
         | inr a ↦
             subst (λ (x : Float). (0x3810000000000000 ≤ toBits binary64 x) × (toBits binary64 x ≤ 0x3ff0000000000000))
             (sym (a .is))
             (pattern-between 0x3810000000000000 0x3ff0000000000000 (a .digits) (a .place) (lit< tt) (lit< tt)
             (subst (λ (x : Float). T (fits binary64 x)) (a .is) (s .held))
-            (subst (λ (x : Float). T (le (ofBits binary64 0x3810_0000_0000_0000) x)) (a .is) l)
-            (subst (λ (x : Float). T (le x (ofBits binary64 0x3ff0_0000_0000_0000))) (a .is) h))
+            (subst (λ (x : Float). T (le leastShort x)) (a .is) l)
+            (subst (λ (x : Float). T (le x one)) (a .is) h))
       ]
     where
-      endless : T (le (inf false) (ofBits binary64 0x3ff0_0000_0000_0000)) → ⊥
+      endless : T (le (inf false) one) → ⊥
       endless h = unfold le ofBits in h
 
   pub short-bits : toBits binary64 d ≤ 0x3ff0000000000000
@@ -146,7 +147,7 @@ module _ (d : Float) (s : Short d) where
     | inr (l, h) ↦ number d h
   ]
     where
-      number : (x : Float) → T (le x (ofBits binary64 0x3ff0_0000_0000_0000)) → T (not (isNan x))
+      number : (x : Float) → T (le x one) → T (not (isNan x))
       number nan h = absurd (unfold le in h)
       number (inf t) h = unfold isNan in tt
       number (fin t m e) h = unfold isNan in tt

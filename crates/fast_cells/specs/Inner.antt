@@ -9,12 +9,10 @@ use lib.Dec.{T}
 use lib.IntN.{pos}
 use lib.ListN.{getD}
 use lib.Ieee.{Float, nan, binary64, ofBits, ofInt, le, lt, fits}
-use Rattle.exact.specs.Double.{_⊕_, _⊖_}
+use Rattle.exact.specs.Double.{_⊕_, _⊖_, one}
+pub use Rattle.exact.specs.Double.{nought}
 use Rattle.exact.specs.Warp.{half}
 use Rattle.number.specs.Floor.{floorℤ, floorF64, inDomain}
-
-abbrev pub nought : Float
-nought = ofBits binary64 0  -- +0.0
 
 -- x is below the whole number `reach`
 abbrev pub under : ℕ → Float → Bool
@@ -39,11 +37,15 @@ pub record Low (z : Float) : Type 0 where
   pub small : whole < 65536
   pub floor : floorℤ z ≡ pos whole
 
+-- the least number with all an f32's digits
+abbrev pub leastShort : Float
+leastShort = ofBits binary64 0x3810_0000_0000_0000  -- 2^-126
+
 -- d is +0, or from 2^-126 up to 1: the f32 next to it has all its digits
 pub record Short (d : Float) : Type 0 where
   pub held : T (fits binary64 d)
   pub short : (d ≡ nought)
-      ⊎ (T (le (ofBits binary64 0x3810_0000_0000_0000) d) × T (le d (ofBits binary64 0x3ff0_0000_0000_0000)))
+      ⊎ (T (le leastShort d) × T (le d one))
 
 -- z is no -0, and what it has beyond its floor is short
 pub record Parted (z : Float) : Type 0 where

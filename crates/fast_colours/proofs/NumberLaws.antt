@@ -14,7 +14,7 @@ use Rattle.exact.specs.Single.{_⊗_}
 use Rattle.exact.specs.Weighted.{Unit32}
 use Rattle.exact.proofs.Sums.{step-fine}
 use Rattle.cubic.proofs.Sizes.{mul-bounded, add-bounded}
-use Rattle.endian.specs.Bytes.{u32At, sampleAt}
+use Rattle.endian.specs.Bytes.{u32At, sampleAt, samplePattern}
 use Rattle.number.proofs.MagnitudeTests.{within-bits}
 use Rattle.picture.specs.Colour.{luma}
 use Rattle.picture.specs.Pixel.{Limited, Picture, pixelAt}
@@ -34,8 +34,8 @@ limited-bounded : (bytes : List ℕ) → Limited bytes → (k : ℕ) → (k + 1)
     → Bounded (frac 65536 1) (sampleAt bytes k)
 limited-bounded bytes L k h =
     within-bounded (sampleAt bytes k)
-    (subst T (within-bits binary32 (u32At bytes (4 * k)) 0x4780_0000 (lit≤ tt))
-    (le→leb _ 0x4780_0000 (L .sample k h)))
+    (subst T (within-bits binary32 (u32At bytes (4 * k)) samplePattern (lit≤ tt))
+    (le→leb _ samplePattern (L .sample k h)))
 
 pub picture-bounded : {bytes : List ℕ} {w h channels : ℕ} → Picture bytes w h channels
     → BoundedPicture bytes w h channels

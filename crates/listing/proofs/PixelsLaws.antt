@@ -14,10 +14,7 @@ use lib.Ieee.Scale.{round-same}
 use lib.Ieee.Fits.{down-pos, cond-fits, div-fits, sub-fits}
 use Rattle.exact.proofs.Integer.{counted, ofInt-value}
 use Rattle.exact.proofs.Operands.{sub-values}
-use Rattle.listing.specs.Word.{limit, pixels}
-
-abbrev sixtyFour : Float
-sixtyFour = ofBits binary64 0x4050_0000_0000_0000  -- 64.0
+use Rattle.listing.specs.Word.{limit, sixtyFour, pixels}
 
 -- ---- m / 64, rounded, is m / 64
 module _ (m : ℕ) (h : m ≤ limit) where

@@ -5,7 +5,7 @@ use mathlib.Core.Bool.{Bool, true, false, cond}
 use lib.Dec.{eqb, ltb}
 use lib.IntN.{pos}
 use lib.Ieee.{Float, binary64, ofBits, ofInt}
-use Rattle.exact.specs.Double.{_⊖_, _⊘_}
+use Rattle.exact.specs.Double.{_⊖_, _⊘_, nought}
 use Rattle.listing.specs.declared.word.Word.{Word}
 use Rattle.listing.specs.declared.word.Word.the-variants.{Empty, Minus, Name, Number, Wrong}
 
@@ -37,8 +37,12 @@ next (Name k) b = Wrong
 next (Number negative size) b = digit negative size b
 next Wrong b = Wrong
 
+-- the parts of a pixel that a list counts in
+abbrev pub sixtyFour : Float
+sixtyFour = ofBits binary64 0x4050_0000_0000_0000  -- 64.0
+
 -- a number of 64ths in pixels, which is exact; from 0.0 where it is negative, so that -0 is 0
 unfoldable pub pixels : Bool → ℕ → Float
 pixels negative size =
-    let x : Float = ofInt binary64 (pos size) ⊘ ofBits binary64 0x4050_0000_0000_0000 in  -- 64.0
-    cond negative (ofBits binary64 0 ⊖ x) x
+    let x : Float = ofInt binary64 (pos size) ⊘ sixtyFour in
+    cond negative (nought ⊖ x) x

@@ -6,9 +6,9 @@ use mathlib.Core.List.{List}
 use Prim.Native.Nat.{ℕ, _<_}
 use lib.Dec.{T, lit≤}
 use Rattle.exact.specs.Fraction.{frac}
-use Rattle.endian.specs.Bytes.{sampleAt}
+use Rattle.endian.specs.Bytes.{sampleAt, sampleLimit}
 use Rattle.number.specs.Magnitude.{within}
-use Rattle.sampler.proofs.AtFinite.{limit, within-bounded}
+use Rattle.sampler.proofs.AtFinite.{within-bounded}
 use Rattle.picture.specs.Pixel.{widened, pixelAt}
 use Rattle.picture.proofs.LimitedLaws as Limits
 use Rattle.taps.specs.Weighted.{Bounded, BoundedBy}
@@ -16,7 +16,7 @@ use Rattle.distort.specs.Job.{colourOf}
 use Rattle.distort.specs.Refusal.{large}
 
 module _ (bytes : List ℕ) where
-  pub all-within : (n : ℕ) → large bytes n ≡ false → (k : ℕ) → k < n → within limit (sampleAt bytes k) ≡ true
+  pub all-within : (n : ℕ) → large bytes n ≡ false → (k : ℕ) → k < n → within sampleLimit (sampleAt bytes k) ≡ true
   unfolding large
   all-within n fine k h = Limits.all-within bytes n fine k h
 

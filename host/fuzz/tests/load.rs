@@ -16,13 +16,15 @@ const BAND: u64 = 16;
 /// An alpha of 1 keeps the picture's three channels.
 const BLACK: [f32; 4] = [0.0, 0.0, 0.0, 1.0];
 
-/// What the process may hold more at the end, in KiB.
-const SLACK: u64 = 64;
+/// What the process may hold more at the end, in KiB: the heap grows in steps of 132. A call that loses 32 bytes loses
+/// more.
+const SLACK: u64 = 264;
 
-/// KiB of memory that the process holds.
+/// KiB of memory that the process has asked for. What is resident is no measure: the system takes pages away and gives
+/// them back, and tells their number a few dozen pages late.
 fn held() -> u64 {
     let status = fs::read_to_string("/proc/self/status").expect("the process can be looked at");
-    let line = status.lines().find_map(|line| line.strip_prefix("VmRSS:"));
+    let line = status.lines().find_map(|line| line.strip_prefix("VmData:"));
     let words = line.and_then(|line| line.split_whitespace().next()?.parse().ok());
     words.expect("the process holds memory")
 }

@@ -138,13 +138,12 @@ fn progress_grows_to_the_height() {
     }
 }
 
-/// A band of its own each time, and bands enough: each thread has to come to one.
-#[test]
-fn several_threads_work() {
+/// How many threads work at 64 bands of a row each, a millisecond a band.
+fn workers(threads: usize) -> usize {
     let picture = picture(64, 64, 3);
     let mut workers = HashSet::new();
     let distort = Distort::new(Method::Affine, [0.0; 4])
-        .with_threads(4)
+        .with_threads(threads)
         .with_rows(1);
     let slowly = |_, _| {
         workers.insert(thread::current().id());
@@ -153,11 +152,17 @@ fn several_threads_work() {
     distort
         .distort_with(&picture, slowly)
         .expect("an accepted job");
-    assert!(
-        (2..=4).contains(&workers.len()),
-        "{} threads",
-        workers.len()
-    );
+    workers.len()
+}
+
+/// The system may let one thread do all of it, but not time after time.
+#[test]
+fn several_threads_work() {
+    let most = (0..20)
+        .map(|_| workers(4))
+        .inspect(|&n| assert!((1..=4).contains(&n), "{n} threads"))
+        .find(|&n| n > 1);
+    assert!(most.is_some(), "one thread did all the work, 20 times");
 }
 
 #[test]

@@ -11,11 +11,11 @@ use lib.ListN.{length}
 use borrow.Author.Tests.{ltb-false, eqb-true, not-false}
 use Rattle.endian.specs.Bytes.{argumentAt}
 use Rattle.arguments.specs.Method.{
-  affineProjection,
-  perspectiveProjection,
-  polynomial,
-  barrel,
-  barrelInverse,
+  affineProjectionCode,
+  perspectiveProjectionCode,
+  polynomialCode,
+  barrelCode,
+  barrelInverseCode,
   present,
   pairMethod,
   skip,
@@ -28,12 +28,12 @@ use Rattle.arguments.specs.Refusal.{
   badFor,
   badCount,
   goodNumber,
-  badNumber,
+  badArgument,
   badOrder,
   pairsOf,
   fewPairs,
-  refusals,
-  refusal,
+  argumentsRefusals,
+  argumentsRefusal,
 }
 use Rattle.exact.proofs.Booleans.{or-false}
 use Rattle.exact.proofs.TableLaws.{row-failed}
@@ -46,15 +46,15 @@ pub record Accepted (m : ℕ) (bytes : List ℕ) : Type 0 where
   pub whole : length bytes ≡ 8 * countOf bytes
   pub room : countOf bytes ≤ 257
   -- as many as the method asks
-  pub six : m ≡ affineProjection → countOf bytes ≡ 6
-  pub eight : m ≡ perspectiveProjection → countOf bytes ≡ 8
-  pub three : (m ≡ barrel) ⊎ (m ≡ barrelInverse) → 3 ≤ countOf bytes
+  pub six : m ≡ affineProjectionCode → countOf bytes ≡ 6
+  pub eight : m ≡ perspectiveProjectionCode → countOf bytes ≡ 8
+  pub three : (m ≡ barrelCode) ⊎ (m ≡ barrelInverseCode) → 3 ≤ countOf bytes
   pub pairs : pairMethod m ≡ true → (countOf bytes ≡ skip m + 4 * pairsOf m bytes)
       × ((1 ≤ pairsOf m bytes) × (pairsOf m bytes ≤ 64))
   pub enough : leastPairs m (orderOf bytes) ≤ pairsOf m bytes
   -- each finite and within the limit, and a polynomial's order from 1 to 5
   pub numbers : (k : ℕ) → k < countOf bytes → goodNumber (argumentAt bytes k) ≡ true
-  pub order : m ≡ polynomial → goodOrder (orderOf bytes) ≡ true
+  pub order : m ≡ polynomialCode → goodOrder (orderOf bytes) ≡ true
 
 -- ---- what each test says by itself
 eights : (n : ℕ) → n % 8 ≡ 0 → n ≡ 8 * (n / 8)
@@ -73,7 +73,8 @@ at m k test e q = subst (λ (x : ℕ). test x ≡ false) q e
 
 module _ (m : ℕ) (bytes : List ℕ) where
   -- from the tests one by one, for a table that has more rows than these
-  pub accepted-tests : present m ≡ true → badCount m bytes ≡ false → badNumber bytes ≡ false → badOrder m bytes ≡ false
+  pub accepted-tests : present m ≡ true → badCount m bytes ≡ false → badArgument bytes ≡ false
+      → badOrder m bytes ≡ false
       → fewPairs m bytes ≡ false → Accepted m bytes
   unfolding badCount badFor badOrder pairsOf fewPairs
   accepted-tests here count number order few =
@@ -85,22 +86,22 @@ module _ (m : ℕ) (bytes : List ℕ) where
         here = here;
         whole = eights (length bytes) (equal (length bytes % 8) 0 (s .0));
         room = ltb-false 257 n (s .1);
-        six = λ e. equal n 6 (for affineProjection e);
-        eight = λ e. equal n 8 (for perspectiveProjection e);
-        three = ⊎-elim (λ e. ltb-false n 3 (for barrel e)) (λ e. ltb-false n 3 (for barrelInverse e));
+        six = λ e. equal n 6 (for affineProjectionCode e);
+        eight = λ e. equal n 8 (for perspectiveProjectionCode e);
+        three = ⊎-elim (λ e. ltb-false n 3 (for barrelCode e)) (λ e. ltb-false n 3 (for barrelInverseCode e));
         pairs = λ e. counted (skip m) n (pairs-after m n e (t .1));
         enough = ltb-false (pairsOf m bytes) (leastPairs m (orderOf bytes)) few;
         numbers = all-good bytes number;
         order = λ e. not-false (goodOrder (orderOf bytes))
-            (at m polynomial (λ (x : ℕ). eqb x polynomial && not (goodOrder (orderOf bytes))) order e);
+            (at m polynomialCode (λ (x : ℕ). eqb x polynomialCode && not (goodOrder (orderOf bytes))) order e);
       }
 
-  pub accepted : refusal m bytes ≡ 0 → Accepted m bytes
-  unfolding refusal
+  pub accepted : argumentsRefusal m bytes ≡ 0 → Accepted m bytes
+  unfolding argumentsRefusal
   accepted e =
       let r3 = row-failed 2 (not (present m)) _ e in
       let r4 = row-failed 3 (badCount m bytes) _ (r3 .1) in
-      let r5 = row-failed 4 (badNumber bytes) _ (r4 .1) in
+      let r5 = row-failed 4 (badArgument bytes) _ (r4 .1) in
       let r6 = row-failed 5 (badOrder m bytes) _ (r5 .1) in
       let r7 = row-failed 6 (fewPairs m bytes) _ (r6 .1) in
       accepted-tests (not-false (present m) (r3 .0)) (r4 .0) (r5 .0) (r6 .0) (r7 .0)

@@ -15,7 +15,7 @@ use Rattle.endian.specs.Bytes.{argumentAt}
 use Rattle.number.specs.Magnitude.{within}
 use Rattle.number.proofs.MagnitudeLaws.{abs-limited}
 use Rattle.arguments.specs.Store.{countOf}
-use Rattle.arguments.specs.Refusal.{argumentLimit, goodNumber, stillGood, badNumber}
+use Rattle.arguments.specs.Refusal.{argumentLimit, goodNumber, stillGood, badArgument}
 
 and-false : (b : Bool) → (b && false) ≡ false
 and-false true = refl
@@ -35,8 +35,8 @@ module _ (bytes : List ℕ) where
       (λ j y a b p. ap (λ (t : Bool). t && goodNumber (argumentAt bytes j)) p)
       (sym (upTo-next (stillGood bytes) 0 true k zero-le refl) ∙ ap (λ (t : Bool). all k && t) bad ∙ and-false (all k))
 
-  pub all-good : badNumber bytes ≡ false → (k : ℕ) → k < countOf bytes → goodNumber (argumentAt bytes k) ≡ true
-  unfolding badNumber
+  pub all-good : badArgument bytes ≡ false → (k : ℕ) → k < countOf bytes → goodNumber (argumentAt bytes k) ≡ true
+  unfolding badArgument
   all-good fine k h = go (goodNumber (argumentAt bytes k)) refl
     where
       go : (g : Bool) → goodNumber (argumentAt bytes k) ≡ g → g ≡ true

@@ -14,7 +14,7 @@ use borrow.Author.Tests.{eqb-true, eqb-false}
 use Rattle.exact.specs.Loop.{upTo}
 use Rattle.exact.proofs.Loop.{upTo-next, upTo-keep, upTo-join}
 use Rattle.endian.specs.Bytes.{argumentAt}
-use Rattle.arguments.specs.Store.{countOf, heldOf, zeros, keep, valuesOf, orderOf}
+use Rattle.arguments.specs.Store.{countOf, heldOf, zeroArguments, keep, valuesOf, orderOf}
 
 pub held-room : (bytes : List ℕ) → (heldOf bytes ≤ 257) × (8 * heldOf bytes ≤ length bytes)
 unfolding heldOf
@@ -33,32 +33,33 @@ unfolding heldOf
 held-some bytes h = omega arith
 
 -- what was written is kept, and so is the length
-after : (bytes : List ℕ) (n : ℕ) → length (upTo (keep bytes) 0 n zeros) ≡ 257
-unfolding keep zeros
-after bytes n = upTo-keep (keep bytes) 0 zeros (λ (l : List Float). length l ≡ 257) n zero-le
+after : (bytes : List ℕ) (n : ℕ) → length (upTo (keep bytes) 0 n zeroArguments) ≡ 257
+unfolding keep zeroArguments
+after bytes n = upTo-keep (keep bytes) 0 zeroArguments (λ (l : List Float). length l ≡ 257) n zero-le
     (λ j l a b h. length-set l j (argumentAt bytes j) ∙ h) refl
 
 pub values-length : (bytes : List ℕ) → length (valuesOf bytes) ≡ 257
-unfolding valuesOf zeros
+unfolding valuesOf zeroArguments
 values-length bytes = after bytes (heldOf bytes)
 
 -- the turn k, and those after it
 pub value-at : (bytes : List ℕ) (k : ℕ) (d : Float) → k < heldOf bytes → getD (valuesOf bytes) k d ≡ argumentAt bytes k
-unfolding valuesOf keep zeros
+unfolding valuesOf keep zeroArguments
 value-at bytes k d h =
-    ap (λ (l : List Float). getD l k d) (upTo-join (keep bytes) 0 zeros (k + 1) (heldOf bytes) zero-le (omega arith))
-    ∙ upTo-keep (keep bytes) (k + 1) (upTo (keep bytes) 0 (k + 1) zeros)
+    ap (λ (l : List Float). getD l k d)
+    (upTo-join (keep bytes) 0 zeroArguments (k + 1) (heldOf bytes) zero-le (omega arith))
+    ∙ upTo-keep (keep bytes) (k + 1) (upTo (keep bytes) 0 (k + 1) zeroArguments)
     (λ (l : List Float). getD l k d ≡ argumentAt bytes k) (heldOf bytes) (omega arith)
     (λ j l a b p. getD-set-other l j k (argumentAt bytes j) d (λ e. omega arith) ∙ p)
-    (ap (λ (l : List Float). getD l k d) (sym (upTo-next (keep bytes) 0 zeros k zero-le refl))
-    ∙ getD-set-same (upTo (keep bytes) 0 k zeros) k (argumentAt bytes k) d
+    (ap (λ (l : List Float). getD l k d) (sym (upTo-next (keep bytes) 0 zeroArguments k zero-le refl))
+    ∙ getD-set-same (upTo (keep bytes) 0 k zeroArguments) k (argumentAt bytes k) d
     (omega (arith, after bytes k, held-room bytes)))
 
 pub value-past : (bytes : List ℕ) (k : ℕ) (d : Float) → heldOf bytes ≤ k → k < 257
     → getD (valuesOf bytes) k d ≡ nought
-unfolding valuesOf keep zeros
+unfolding valuesOf keep zeroArguments
 value-past bytes k d h r =
-    upTo-keep (keep bytes) 0 zeros (λ (l : List Float). getD l k d ≡ nought) (heldOf bytes) zero-le
+    upTo-keep (keep bytes) 0 zeroArguments (λ (l : List Float). getD l k d ≡ nought) (heldOf bytes) zero-le
     (λ j l a b p. getD-set-other l j k (argumentAt bytes j) d (λ e. omega arith) ∙ p)
     (getD-replicate 257 k nought d r)
 

@@ -9,7 +9,7 @@ use Rattle.exact.specs.Table.{firstOf}
 use Rattle.exact.specs.Loop.{turns, upTo}
 use Rattle.number.specs.Magnitude.{abs, within}
 use Rattle.endian.specs.Bytes.{numberAt}
-use Rattle.arguments.specs.Method.{affine, polynomial, present, skip, leastPairs}
+use Rattle.arguments.specs.Method.{affineCode, polynomialCode, present, skip, leastPairs}
 use Rattle.arguments.specs.Order.{bilinearOrder, degree, termsOf, goodOrder}
 use Rattle.arguments.specs.Store.{orderOf}
 use Rattle.arguments.specs.Refusal.{
@@ -18,11 +18,11 @@ use Rattle.arguments.specs.Refusal.{
   badCount,
   goodNumber,
   stillGood,
-  badNumber,
+  badArgument,
   badOrder,
   pairsOf,
   fewPairs,
-  refusal,
+  argumentsRefusal,
 }
 
 -- the bytes of 0.0, n times, and of a float whose lower six bytes are 0
@@ -34,16 +34,16 @@ float low high = replicate 6 0 ++ (low ∷ high ∷ [])
 
 abbrev pub calls : List (ℕ × List ℕ)
 calls =
-    (affine, zeros 4)  -- one pair at the origin
+    (affineCode, zeros 4)  -- one pair at the origin
     ∷ ((2, zeros 4)  -- `ScaleRotateTranslate`
-    ∷ ((affine, zeros 3)  -- no whole pair
-    ∷ ((affine, zeros 3 ++ float 0xf0 0x7f)  -- an infinity
-    ∷ ((polynomial, float 0x18 0x40 ++ zeros 4)  -- order 6
-    ∷ ((polynomial, float 0x04 0x40 ++ zeros 36)  -- order 2.5 with 9 pairs
+    ∷ ((affineCode, zeros 3)  -- no whole pair
+    ∷ ((affineCode, zeros 3 ++ float 0xf0 0x7f)  -- an infinity
+    ∷ ((polynomialCode, float 0x18 0x40 ++ zeros 4)  -- order 6
+    ∷ ((polynomialCode, float 0x04 0x40 ++ zeros 36)  -- order 2.5 with 9 pairs
     ∷ [])))))
 
-pub answers : map (λ (c : ℕ × List ℕ). refusal (c .0) (c .1)) calls ≡ 0 ∷ (3 ∷ (4 ∷ (5 ∷ (6 ∷ (7 ∷ [])))))
-unfolding refusal firstOf present badCount badFor badValues badNumber stillGood goodNumber upTo turns within abs le
-    numberAt ofBits ofFields odd badOrder pairsOf fewPairs skip leastPairs orderOf goodOrder termsOf bilinearOrder
-    degree lt sub add neg sum round units size span climb
+pub answers : map (λ (c : ℕ × List ℕ). argumentsRefusal (c .0) (c .1)) calls ≡ 0 ∷ (3 ∷ (4 ∷ (5 ∷ (6 ∷ (7 ∷ [])))))
+unfolding argumentsRefusal firstOf present badCount badFor badValues badArgument stillGood goodNumber upTo turns within
+    abs le numberAt ofBits ofFields odd badOrder pairsOf fewPairs skip leastPairs orderOf goodOrder termsOf
+    bilinearOrder degree lt sub add neg sum round units size span climb
 answers = refl

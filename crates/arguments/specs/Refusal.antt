@@ -11,11 +11,11 @@ use Rattle.exact.specs.Table.{firstOf}
 use Rattle.endian.specs.Bytes.{argumentAt}
 use Rattle.number.specs.Magnitude.{within}
 use Rattle.arguments.specs.Method.{
-  affineProjection,
-  perspectiveProjection,
-  polynomial,
-  barrel,
-  barrelInverse,
+  affineProjectionCode,
+  perspectiveProjectionCode,
+  polynomialCode,
+  barrelCode,
+  barrelInverseCode,
   present,
   skip,
   leastPairs,
@@ -31,10 +31,10 @@ badValues n = ltb n 4 || not (eqb (n % 4) 0) || ltb 64 (n / 4)
 -- the wrong number of arguments n for the method m
 unfoldable pub badFor : ℕ → ℕ → Bool
 badFor m n =
-    cond (eqb m affineProjection) (not (eqb n 6))
-    (cond (eqb m perspectiveProjection) (not (eqb n 8))
-    (cond (eqb m barrel || eqb m barrelInverse) (ltb n 3)
-    (cond (eqb m polynomial) (eqb n 0 || badValues (n - 1))
+    cond (eqb m affineProjectionCode) (not (eqb n 6))
+    (cond (eqb m perspectiveProjectionCode) (not (eqb n 8))
+    (cond (eqb m barrelCode || eqb m barrelInverseCode) (ltb n 3)
+    (cond (eqb m polynomialCode) (eqb n 0 || badValues (n - 1))
     (badValues n))))
 
 -- bytes that end inside an argument, more than 257 arguments, or the wrong number for the method
@@ -54,12 +54,12 @@ unfoldable pub stillGood : List ℕ → ℕ → Bool → Bool
 stillGood bytes k good = good && goodNumber (argumentAt bytes k)
 
 -- an argument that is no good number
-unfoldable pub badNumber : List ℕ → Bool
-badNumber bytes = not (upTo (stillGood bytes) 0 (countOf bytes) true)
+unfoldable pub badArgument : List ℕ → Bool
+badArgument bytes = not (upTo (stillGood bytes) 0 (countOf bytes) true)
 
 -- ---- 6, order
 unfoldable pub badOrder : ℕ → List ℕ → Bool
-badOrder m bytes = eqb m polynomial && not (goodOrder (orderOf bytes))
+badOrder m bytes = eqb m polynomialCode && not (goodOrder (orderOf bytes))
 
 -- ---- 7, few
 -- how many pairs n arguments of a pair method are
@@ -74,14 +74,14 @@ unfoldable pub fewPairs : ℕ → List ℕ → Bool
 fewPairs m bytes = ltb (pairsOf m bytes) (leastPairs m (orderOf bytes))
 
 -- ---- the table
-abbrev pub refusals : ℕ → List ℕ → List (ℕ × Bool)
-refusals m bytes =
+abbrev pub argumentsRefusals : ℕ → List ℕ → List (ℕ × Bool)
+argumentsRefusals m bytes =
     (3, not (present m))
     ∷ ((4, badCount m bytes)
-    ∷ ((5, badNumber bytes)
+    ∷ ((5, badArgument bytes)
     ∷ ((6, badOrder m bytes)
     ∷ ((7, fewPairs m bytes)
     ∷ []))))
 
-unfoldable pub refusal : ℕ → List ℕ → ℕ
-refusal m bytes = firstOf (refusals m bytes)
+unfoldable pub argumentsRefusal : ℕ → List ℕ → ℕ
+argumentsRefusal m bytes = firstOf (argumentsRefusals m bytes)

@@ -23,8 +23,8 @@ unfoldable pub heldOf : List ℕ → ℕ
 heldOf bytes = min (countOf bytes) mostArguments
 
 -- its numbers, zero at first
-unfoldable pub zeros : List Float
-zeros = replicate mostArguments nought
+unfoldable pub zeroArguments : List Float
+zeroArguments = replicate mostArguments nought
 
 unfoldable pub keep : List ℕ → ℕ → List Float → List Float
 keep bytes k values = set values k (argumentAt bytes k)

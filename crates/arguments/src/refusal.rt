@@ -9,13 +9,13 @@ use crate::method::Polynomial;
 use crate::store;
 use crate::store::MOST_ARGUMENTS;
 ghost use mathlib.Core.Path.{_≡_};
-ghost use Rattle.arguments.specs.Refusal.{badValues, badFor, badCount, badNumber, badOrder, pairsIn, fewPairs};
+ghost use Rattle.arguments.specs.Refusal.{badValues, badFor, badCount, badArgument, badOrder, pairsIn, fewPairs};
 ghost use Rattle.arguments.specs.Refusal as Refusal;
 
 const MOST_PAIRS: u64 = 64;
 
 // 1048576.0, the largest argument in magnitude, by its pattern.
-const LIMIT: u64 = 0x4130_0000_0000_0000;
+const ARGUMENT_LIMIT: u64 = 0x4130_0000_0000_0000;
 
 // The values of a pair method: fours, from one pair to 64.
 fn bad_values(n: u64) -> bool
@@ -67,12 +67,12 @@ pub fn bad_count(method: u64, arguments: &[u8]) -> bool
 }
 
 // 5, number.
-pub fn bad_number(arguments: &[u8]) -> bool
-    ensures { λ r. ⌜ r ≡ badNumber (now (arguments .entry)) ⌝ }
+pub fn bad_argument(arguments: &[u8]) -> bool
+    ensures { λ r. ⌜ r ≡ badArgument (now (arguments .entry)) ⌝ }
 {
     let n = store::count_of(arguments);
     for k in 0..n {
-        if !endian::bytes::f64_within(arguments, 8 * k, LIMIT) {
+        if !endian::bytes::f64_within(arguments, 8 * k, ARGUMENT_LIMIT) {
             return true;
         }
     }
@@ -107,8 +107,8 @@ pub fn few_pairs(method: u64, arguments: &[u8]) -> bool
 }
 
 // The first number from 3 to 7 that applies, 0 where none does.
-pub fn refusal(method: u64, arguments: &[u8]) -> u64
-    ensures { λ r. ⌜ r ≡ Refusal.refusal method (now (arguments .entry)) ⌝ }
+pub fn arguments_refusal(method: u64, arguments: &[u8]) -> u64
+    ensures { λ r. ⌜ r ≡ Refusal.argumentsRefusal method (now (arguments .entry)) ⌝ }
 {
     if !code::is_present(method) {
         return 3;
@@ -116,7 +116,7 @@ pub fn refusal(method: u64, arguments: &[u8]) -> u64
     if bad_count(method, arguments) {
         return 4;
     }
-    if bad_number(arguments) {
+    if bad_argument(arguments) {
         return 5;
     }
     if bad_order(method, arguments) {

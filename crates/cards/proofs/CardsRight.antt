@@ -48,117 +48,119 @@ use Rattle.cards.specs.Cards.{
   Source,
   table,
   Right,
-  Each,
   onColumn,
   onChecker,
-  single,
+  f32Of,
   double,
   halfClear,
-  grey,
+  greyBits,
   image,
-  given,
-  asked,
+  cardOf,
+  withoutRows,
   singular,
   identity,
   ninePairs,
   f64s,
   barrelAt,
 }
+use Rattle.exact.specs.Each.{Each}
 use Rattle.cards.specs.Cards as Cards
 
 -- ---- the policies' indexes
 mirror-1 : onColumn 7 (negsuc 0) ≡ Named (Tap.Pixel 0 0)
-unfolding named policy Index.within Index.mirror Index.tile
+unfolding named policy Index.inRange Index.mirror Index.tile
 mirror-1 = refl
 
 mirror-5 : onColumn 7 (negsuc 4) ≡ Named (Tap.Pixel 3 0)
-unfolding named policy Index.within Index.mirror Index.tile
+unfolding named policy Index.inRange Index.mirror Index.tile
 mirror-5 = refl
 
 mirror+4 : onColumn 7 (pos 4) ≡ Named (Tap.Pixel 3 0)
-unfolding named policy Index.within Index.mirror Index.tile
+unfolding named policy Index.inRange Index.mirror Index.tile
 mirror+4 = refl
 
 mirror+8 : onColumn 7 (pos 8) ≡ Named (Tap.Pixel 0 0)
-unfolding named policy Index.within Index.mirror Index.tile
+unfolding named policy Index.inRange Index.mirror Index.tile
 mirror+8 = refl
 
 tile-1 : onColumn 6 (negsuc 0) ≡ Named (Tap.Pixel 3 0)
-unfolding named policy Index.within Index.tile
+unfolding named policy Index.inRange Index.tile
 tile-1 = refl
 
 tile+4 : onColumn 6 (pos 4) ≡ Named (Tap.Pixel 0 0)
-unfolding named policy Index.within Index.tile
+unfolding named policy Index.inRange Index.tile
 tile+4 = refl
 
 checker-right : onChecker (pos 2) (pos 0) ≡ Named Tap.Background
-unfolding named policy Index.within Index.tile Index.parity
+unfolding named policy Index.inRange Index.tile Index.parity
 checker-right = refl
 
 checker-left : onChecker (negsuc 0) (pos 0) ≡ Named Tap.Background
-unfolding named policy Index.within Index.tile Index.parity
+unfolding named policy Index.inRange Index.tile Index.parity
 checker-left = refl
 
 checker-corner : onChecker (pos 2) (pos 2) ≡ Named (Tap.Pixel 0 0)
-unfolding named policy Index.within Index.tile Index.parity
+unfolding named policy Index.inRange Index.tile Index.parity
 checker-corner = refl
 
 -- ---- the sampler's colours
-catrom-0 : Weights (catrom (single 0)) ≡ Weights (single 0 ∷ single 0x3f80_0000 ∷ single 0 ∷ single 0 ∷ [])
+catrom-0 : Weights (catrom (f32Of 0)) ≡ Weights (f32Of 0 ∷ f32Of 0x3f80_0000 ∷ f32Of 0 ∷ f32Of 0 ∷ [])
 unfolding add sub mul div neg sum round ofBits lt le Magnitude.abs pieces
 catrom-0 = refl
 
-catrom-half : Weights (catrom (single 0x3f00_0000)) ≡ Weights (single 0xbd80_0000 ∷ single 0x3f10_0000
-    ∷ single 0x3f10_0000 ∷ single 0xbd80_0000 ∷ [])
+catrom-half : Weights (catrom (f32Of 0x3f00_0000)) ≡ Weights (f32Of 0xbd80_0000 ∷ f32Of 0x3f10_0000
+    ∷ f32Of 0x3f10_0000 ∷ f32Of 0xbd80_0000 ∷ [])
 unfolding add sub mul div neg sum round ofBits lt le Magnitude.abs pieces
 catrom-half = refl
 
-half-clear : Colour (interpolate halfClear 2 1 4 0 5 (grey 0 0) (double 0x3fe0_0000_0000_0000) (double 0)) ≡ Colour
-    (grey 0x3f80_0000 0x3f00_0000)
-unfolding interpolate interpolation at named policy Index.within Index.clamped pixelAt widened numberAt storeNumber
+half-clear : Colour (interpolate halfClear 2 1 4 0 5 (greyBits 0 0) (double 0x3fe0_0000_0000_0000) (double 0)) ≡ Colour
+    (greyBits 0x3f80_0000 0x3f00_0000)
+unfolding interpolate interpolation at named policy Index.inRange Index.clamped pixelAt widened numberAt storeNumber
     floorI64 floorF64 floorℤ inDomain isZero narrow taps weighted mean added quotient upTo turns add sub mul div neg
     sum round ofBits ofInt lt le Magnitude.abs
 half-clear = refl
 
 -- ---- the fit, the window and the source point
-singular-8 : Cards.Refusal (Refusal.refusal (asked (image 1 1 4) (given Method.affineProjection singular 0))) ≡
-    Cards.Refusal 8
+singular-8 : Cards.Refusal
+    (Refusal.refusal (withoutRows (image 1 1 4) (cardOf Method.affineProjectionCode singular 0)))
+    ≡ Cards.Refusal 8
 unfolding Refusal.refusal firstOf Refusal.badSize Refusal.badSide Refusal.badChannels Refusal.badStock Refusal.badCode
-    Method.present Arguments.badCount Arguments.badFor Refusal.badNumber Arguments.badNumber Arguments.stillGood
+    Method.present Arguments.badCount Arguments.badFor Refusal.badNumber Arguments.badArgument Arguments.stillGood
     Arguments.goodNumber Refusal.large Arguments.badOrder Arguments.fewPairs Arguments.pairsOf Method.skip
-    Method.leastPairs Refusal.degenerate Refusal.fitOf Build.build Build.made Arguments.refusal Store.valuesOf
-    Store.keep Store.zeros Store.heldOf Store.orderOf Affine.affineProjection Invert.invertAffine Mappings.solvedOr8
-    Mappings.refused numberAt storeNumber upTo turns add sub mul div neg sum round ofBits lt le Magnitude.abs
-    Magnitude.within
+    Method.leastPairs Refusal.degenerate Refusal.fitOf Build.build Build.made Arguments.argumentsRefusal Store.valuesOf
+    Store.keep Store.zeroArguments Store.heldOf Store.orderOf Affine.fitAffineProjection Invert.invertAffine
+    Mappings.solvedOr8 Mappings.refused numberAt storeNumber upTo turns add sub mul div neg sum round ofBits lt le
+    Magnitude.abs Magnitude.within
 singular-8 = refl
 
-identity-box : Cards.Window (Refusal.windowOf (image 4 3 48) (given Method.affineProjection identity 1)) ≡ Cards.Window
+identity-box : Cards.Window (Refusal.windowOf (image 4 3 48) (cardOf Method.affineProjectionCode identity 1))
+    ≡ Cards.Window
     (Placed.Window 6 5 (negsuc 0) (negsuc 0))
 unfolding Refusal.windowOf Refusal.fitOf Build.build Build.made Method.present Arguments.badCount Arguments.badFor
-    Arguments.badNumber Arguments.stillGood Arguments.goodNumber Arguments.badOrder Arguments.fewPairs
-    Arguments.pairsOf Method.skip Method.leastPairs Arguments.refusal firstOf Store.valuesOf Store.keep Store.zeros
-    Store.heldOf Store.orderOf Affine.affineProjection Invert.invertAffine Mappings.solvedOr8 Mappings.mapping numberAt
-    storeNumber upTo turns add sub mul div neg sum round ofBits ofInt lt le Magnitude.abs Magnitude.within
-    Magnitude.fmin Magnitude.fmax Window.window Window.judged Window.joined Bestfit.bestfit Bestfit.affineFound
-    Edges.boxed Edges.grown Edges.unbounded Extent.fitted Extent.reach Extent.held Extent.atLeastOne Extent.goodOffset
-    Extent.goodLength floorℤ Ceil.ceilℤ isNan
+    Arguments.badArgument Arguments.stillGood Arguments.goodNumber Arguments.badOrder Arguments.fewPairs
+    Arguments.pairsOf Method.skip Method.leastPairs Arguments.argumentsRefusal firstOf Store.valuesOf Store.keep
+    Store.zeroArguments Store.heldOf Store.orderOf Affine.fitAffineProjection Invert.invertAffine Mappings.solvedOr8
+    Mappings.mapping numberAt storeNumber upTo turns add sub mul div neg sum round ofBits ofInt lt le Magnitude.abs
+    Magnitude.within Magnitude.fmin Magnitude.fmax Window.window Window.judged Window.ofExtents Bestfit.bestfit
+    Bestfit.affineFound Edges.boxed Edges.grown Edges.unbounded Extent.extentOf Extent.fromTo Extent.held
+    Extent.atLeastOne Extent.goodOffset Extent.goodLength floorℤ Ceil.ceilℤ isNan
 identity-box = refl
 
 barrel-stays : Source (barrelAt 0x3fe0_0000_0000_0000 0x3fe0_0000_0000_0000
-    (Build.build Method.barrel (f64s (0 ∷ 0 ∷ 0 ∷ [])) 4 4 .mapping)) ≡ Source
+    (Build.build Method.barrelCode (f64s (0 ∷ 0 ∷ 0 ∷ [])) 4 4 .mapping)) ≡ Source
     (record { u = double 0x3fe0_0000_0000_0000; v = double 0x3fe0_0000_0000_0000; usable = true })
-unfolding Build.build Build.made Method.present Arguments.badCount Arguments.badFor Arguments.badNumber
+unfolding Build.build Build.made Method.present Arguments.badCount Arguments.badFor Arguments.badArgument
     Arguments.stillGood Arguments.goodNumber Arguments.badOrder Arguments.fewPairs Arguments.pairsOf Method.skip
-    Method.leastPairs Arguments.refusal firstOf Store.valuesOf Store.keep Store.zeros Store.heldOf Store.orderOf
-    Barrel.barrel Barrel.givenOr Mappings.mapping numberAt storeNumber upTo turns add sub mul div neg sum round ofBits
-    ofInt lt le Magnitude.abs Magnitude.within Magnitude.fmin Inverse.inverse Points.barrelFrom Point.usable Root.root
-    Root.rootOf Root.nearestRoot Root.wholeRoot isNan
+    Method.leastPairs Arguments.argumentsRefusal firstOf Store.valuesOf Store.keep Store.zeroArguments Store.heldOf
+    Store.orderOf Barrel.fitBarrel Barrel.givenOr Mappings.mapping numberAt storeNumber upTo turns add sub mul div neg
+    sum round ofBits ofInt lt le Magnitude.abs Magnitude.within Magnitude.fmin Inverse.inverse Points.barrelFrom
+    Point.usable Root.root Root.rootOf Root.nearestRoot Root.wholeRoot isNan
 barrel-stays = refl
 
-nine-pairs-7 : Cards.Refusal (Refusal.refusal (asked (image 1 1 4) (given Method.polynomial ninePairs 0))) ≡
-    Cards.Refusal 7
+nine-pairs-7 : Cards.Refusal (Refusal.refusal (withoutRows (image 1 1 4) (cardOf Method.polynomialCode ninePairs 0)))
+    ≡ Cards.Refusal 7
 unfolding Refusal.refusal firstOf Refusal.badSize Refusal.badSide Refusal.badChannels Refusal.badStock Refusal.badCode
-    Method.present Arguments.badCount Arguments.badFor Arguments.badValues Refusal.badNumber Arguments.badNumber
+    Method.present Arguments.badCount Arguments.badFor Arguments.badValues Refusal.badNumber Arguments.badArgument
     Arguments.stillGood Arguments.goodNumber Refusal.large Arguments.badOrder Order.goodOrder Arguments.fewPairs
     Arguments.pairsOf Method.skip Method.leastPairs Order.termsOf Order.bilinearOrder Order.degree Store.orderOf
     numberAt storeNumber upTo turns add sub mul div neg sum round ofBits lt le Magnitude.abs Magnitude.within

@@ -47,11 +47,11 @@ f32s (b ∷ bs) = storeU32 (replicate 4 0) 0 b ++ f32s bs
 abbrev pub double : ℕ → Float
 double = ofBits binary64
 
-abbrev pub single : ℕ → Float
-single = ofBits binary32
+abbrev pub f32Of : ℕ → Float
+f32Of = ofBits binary32
 
-abbrev pub grey : ℕ → ℕ → Rgba
-grey v alpha = record { r = single v; g = single v; b = single v; a = single alpha }
+abbrev pub greyBits : ℕ → ℕ → Rgba
+greyBits v alpha = record { r = f32Of v; g = f32Of v; b = f32Of v; a = f32Of alpha }
 
 -- ---- calls: a grey picture, `Edge`, `Nearest`, opaque black around and for matte
 abbrev pub opaqueBlack : List ℕ
@@ -60,8 +60,8 @@ opaqueBlack = f32s (0 ∷ 0 ∷ 0 ∷ 0x3f80_0000 ∷ [])
 abbrev pub image : ℕ → ℕ → ℕ → Image
 image width height size = record { bytes = replicate size 0; width = width; height = height; channels = 1 }
 
-abbrev pub given : ℕ → List ℕ → ℕ → Given
-given method arguments bestfit = record {
+abbrev pub cardOf : ℕ → List ℕ → ℕ → Given
+cardOf method arguments bestfit = record {
   method = method;
   arguments = f64s arguments;
   policy = 0;
@@ -77,8 +77,8 @@ given method arguments bestfit = record {
 }
 
 -- for no rows
-abbrev pub asked : Image → Given → Call
-asked p g = record { image = p; given = g; first = 0; rows = 0; band = [] }
+abbrev pub withoutRows : Image → Given → Call
+withoutRows p g = record { image = p; given = g; first = 0; rows = 0; band = [] }
 
 -- ---- the arguments of the cards
 -- 1, 2, 2, 4, 0, 0
@@ -122,38 +122,34 @@ table =
     ∷ ((onChecker (negsuc 0) (pos 0), Named Tap.Background)
     ∷ ((onChecker (pos 2) (pos 2), Named (Tap.Pixel 0 0))
     -- `Catrom` at 0: 0, 1, 0, 0; at 0.5: -0.0625, 0.5625, 0.5625, -0.0625
-    ∷ ((Weights (catrom (single 0)), Weights (single 0 ∷ single 0x3f80_0000 ∷ single 0 ∷ single 0 ∷ []))
+    ∷ ((Weights (catrom (f32Of 0)), Weights (f32Of 0 ∷ f32Of 0x3f80_0000 ∷ f32Of 0 ∷ f32Of 0 ∷ []))
     ∷ ((
-      Weights (catrom (single 0x3f00_0000)),
-      Weights (single 0xbd80_0000 ∷ single 0x3f10_0000 ∷ single 0x3f10_0000
-          ∷ single 0xbd80_0000 ∷ []),
+      Weights (catrom (f32Of 0x3f00_0000)),
+      Weights (f32Of 0xbd80_0000 ∷ f32Of 0x3f10_0000 ∷ f32Of 0x3f10_0000
+          ∷ f32Of 0xbd80_0000 ∷ []),
     )
     -- halfway between opaque 1 and a clear pixel: colour 1, alpha 0.5
     ∷ ((
-      Colour (interpolate halfClear 2 1 4 0 5 (grey 0 0) (double 0x3fe0_0000_0000_0000) (double 0)),
-      Colour (grey 0x3f80_0000 0x3f00_0000),
+      Colour (interpolate halfClear 2 1 4 0 5 (greyBits 0 0) (double 0x3fe0_0000_0000_0000) (double 0)),
+      Colour (greyBits 0x3f80_0000 0x3f00_0000),
     )
     -- `AffineProjection` 1, 2, 2, 4, 0, 0: refusal 8
-    ∷ ((Refusal (refusal (asked (image 1 1 4) (given Method.affineProjection singular 0))), Refusal 8)
+    ∷ ((Refusal (refusal (withoutRows (image 1 1 4) (cardOf Method.affineProjectionCode singular 0))), Refusal 8)
     -- identity bestfit on 4 by 3: 6 by 5 at -1, -1
     ∷ ((
-      Window (windowOf (image 4 3 48) (given Method.affineProjection identity 1)),
+      Window (windowOf (image 4 3 48) (cardOf Method.affineProjectionCode identity 1)),
       Window (Placed.Window 6 5 (negsuc 0) (negsuc 0)),
     )
     -- `Barrel` 0, 0, 0 on 4 by 4 at 0.5, 0.5: itself
     ∷ ((
       Source (barrelAt 0x3fe0_0000_0000_0000 0x3fe0_0000_0000_0000
-          (build Method.barrel (f64s (0 ∷ 0 ∷ 0 ∷ [])) 4 4 .mapping)),
+          (build Method.barrelCode (f64s (0 ∷ 0 ∷ 0 ∷ [])) 4 4 .mapping)),
       Source (record { u = double 0x3fe0_0000_0000_0000; v = double 0x3fe0_0000_0000_0000; usable = true }),
     )
     -- order 2.5 with 9 pairs: refusal 7
-    ∷ ((Refusal (refusal (asked (image 1 1 4) (given Method.polynomial ninePairs 0))), Refusal 7)
+    ∷ ((Refusal (refusal (withoutRows (image 1 1 4) (cardOf Method.polynomialCode ninePairs 0))), Refusal 7)
     ∷ [])))))))))))))))
 
 -- both sides of a row are the same
 abbrev pub Right : Shown × Shown → Type 0
 Right row = row .0 ≡ row .1
-
-abbrev pub Each : (Shown × Shown → Type 0) → List (Shown × Shown) → Type 0
-Each P [] = Unit {0}
-Each P (row ∷ rows) = P row × Each P rows

@@ -8,7 +8,8 @@ use lib.IntN.{pos, negsuc}
 use Rattle.distort.specs.Job.{Image, Given, Call}
 use Rattle.distort.specs.Refusal.{fitOf}
 use Rattle.distort.specs.declared.answer.Answer.the-variants.{Accepted}
-use Rattle.chain.specs.Demand.{Conditions, by-affine-projection, by-perspective, Each, Near}
+use Rattle.chain.specs.Demand.{Conditions, by-affine-projection, by-perspective, Near}
+use Rattle.exact.specs.Each.{Each}
 use Rattle.chain.specs.Exact.{exactly, exactChain}
 use Rattle.chain.specs.Warps.{accepted, allRows, step, run, Warp, after}
 use Rattle.chain.proofs.JoinLaws.{Every, IsAccepted}

@@ -17,7 +17,8 @@ use Rattle.distort.specs.Refusal.{refusal}
 use Rattle.distort.specs.declared.answer.Answer.{Answer}
 use Rattle.distort.proofs.AcceptedLaws.{accepted-call}
 use Rattle.distort.proofs.CallLaws.{answer-accepted, left-accepted}
-use Rattle.chain.specs.Demand.{First, Conditions, Lent, Each, ThirdDemand, NoWarps}
+use Rattle.chain.specs.Demand.{First, Conditions, Lent, ThirdDemand, NoWarps}
+use Rattle.exact.specs.Each.{Each}
 use Rattle.chain.specs.Exact.{ExactImage, exactly, exactWarp, exactChain}
 use Rattle.chain.specs.Warps.{
   heightIn,
@@ -27,7 +28,7 @@ use Rattle.chain.specs.Warps.{
   together,
   Warp,
   State,
-  start,
+  startOf,
   group,
   completes,
   warped,
@@ -141,12 +142,12 @@ module _ (first : Image) where
   run-sound s [] S = S
   run-sound s (c ∷ calls) S = run-sound (step s c) calls (step-sound s c S)
 
-  start-sound : Sound (start first)
+  start-sound : Sound (startOf first)
   unfolding exactChain
   start-sound = record { waiting = tt; faithful = λ F L C. first-faithful first F; none = λ z. refl }
 
   after-sound : (calls : List Call) → Sound (after first calls)
-  after-sound calls = run-sound (start first) calls start-sound
+  after-sound calls = run-sound (startOf first) calls start-sound
 
 pub third-demand : ThirdDemand
 third-demand first calls F L C = after-sound first calls .faithful F L C .near

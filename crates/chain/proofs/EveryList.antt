@@ -9,7 +9,8 @@ use lib.ListN.{length}
 use Rattle.exact.proofs.Booleans.{both}
 use Rattle.distort.specs.Call.{left}
 use Rattle.distort.specs.Job.{Image, Call}
-use Rattle.chain.specs.Demand.{Lent, Each}
+use Rattle.chain.specs.Demand.{Lent}
+use Rattle.exact.specs.Each.{Each}
 use Rattle.chain.specs.Memory.{
   read,
   written,

@@ -18,9 +18,9 @@ use Rattle.chain.proofs.PolynomialExample.{polynomial-worked}
 use Rattle.chain.proofs.Worked.{Witness, witness}
 
 pub every-method : (method : ℕ) → Chained method → Witness method
-every-method method by-affine = witness Method.affine one-worked (inl refl)
-every-method method by-affine-projection = witness Method.affineProjection three-worked (inl refl)
-every-method method by-perspective = witness Method.perspective perspective-worked (inl refl)
-every-method method by-perspective-projection = witness Method.perspectiveProjection three-worked (inr (inl refl))
-every-method method by-bilinear-reverse = witness Method.bilinearReverse three-worked (inr (inr (inl refl)))
-every-method method by-polynomial = witness Method.polynomial polynomial-worked (inl refl)
+every-method method by-affine = witness Method.affineCode one-worked (inl refl)
+every-method method by-affine-projection = witness Method.affineProjectionCode three-worked (inl refl)
+every-method method by-perspective = witness Method.perspectiveCode perspective-worked (inl refl)
+every-method method by-perspective-projection = witness Method.perspectiveProjectionCode three-worked (inr (inl refl))
+every-method method by-bilinear-reverse = witness Method.bilinearReverseCode three-worked (inr (inr (inl refl)))
+every-method method by-polynomial = witness Method.polynomialCode polynomial-worked (inl refl)

@@ -20,9 +20,9 @@ use Rattle.chain.specs.Demand.{
   by-affine-projection,
   by-perspective-projection,
   by-bilinear-reverse,
-  Each,
   Near,
 }
+use Rattle.exact.specs.Each.{Each}
 use Rattle.chain.specs.Exact.{exactly, exactChain}
 use Rattle.chain.specs.Warps.{
   sameBytes,

@@ -13,11 +13,13 @@ use Rattle.exact.proofs.Booleans.{both-pass}
 use Rattle.mappings.specs.declared.mapping.Fitted.{Fitted}
 use Rattle.inverse.specs.Polynomial.{ofU, ofV}
 use Rattle.chain.specs.Conditions.{Terms, Meets}
-use Rattle.chain.specs.ExactPoint.{denominator, pushF, ofDegreeF, monomialsF, many, exactPoint}
+use Rattle.chain.specs.ExactPoint.{denominatorF, pushF, ofDegreeF, monomialsF, many, exactPoint}
 use Rattle.distort.specs.Job.{colourOf}
-use Rattle.distort.specs.Refusal.{transparent, fitOf}
+use Rattle.policies.specs.Named.{transparentCode}
+use Rattle.taps.specs.Interpolation.{bilinearCode}
+use Rattle.distort.specs.Refusal.{fitOf}
 use Rattle.distort.specs.declared.answer.Answer.{Answer}
-use Rattle.chain.specs.Demand.{OpaqueColour, Chained, bilinear, Conditions}
+use Rattle.chain.specs.Demand.{OpaqueColour, Chained, Conditions}
 use Rattle.chain.specs.Warps.{Warp, widthIn, heightIn, xIn, yIn}
 use Rattle.chain.proofs.Closed.{below, below-every, leF, closed}
 use Rattle.chain.proofs.Closed.{linearly, linear, polynomially, poly}
@@ -36,7 +38,7 @@ termwise (suc (suc zero)) order m X Y =
     linearly (at m 0) (at m 1) (at m 2) X Y (frac 16384 1)
     && (linearly (at m 3) (at m 4) (at m 5) X Y (frac 16384 1)
     && (linearly (at m 6) (at m 7) (at m 8) X Y (frac 4 1)
-    && leF (frac 1 1024) (denominator m X Y)))
+    && leF (frac 1 1024) (denominatorF m X Y)))
 termwise (suc (suc (suc zero))) order m X Y =
     polynomially order X Y (ofU m) && polynomially order X Y (ofV m (many order X Y))
 termwise (suc (suc (suc (suc n)))) order m X Y = false
@@ -99,7 +101,7 @@ Pixels a f =
     → Meets (f .mapping .kind) (f .mapping .order) (f .mapping .coef) (askedF i (xIn a)) (askedF j (yIn a))
 
 pub fair : (w : Warp) (f : Fitted) → fitOf (w .chain) (w .given) ≡ f → Chained (w .given .method)
-    → w .given .interpolation ≡ bilinear → (w .given .policy ≡ transparent → ⊥)
+    → w .given .interpolation ≡ bilinearCode → (w .given .policy ≡ transparentCode → ⊥)
     → OpaqueColour (colourOf (w .given .background)) → T (fairly f (w .answered)) → Conditions w
 unfolding fairly
 fair w f fit method interpolation policy background t = record {

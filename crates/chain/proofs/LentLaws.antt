@@ -8,7 +8,8 @@ use Rattle.exact.proofs.Booleans.{both}
 use Rattle.distort.specs.Call.{answer}
 use Rattle.distort.specs.Job.{Call}
 use Rattle.chain.specs.Warps.{Warp, State, sameImage, everyRow, heightIn, group, completes, step}
-use Rattle.chain.specs.Demand.{Lent, Each}
+use Rattle.chain.specs.Demand.{Lent}
+use Rattle.exact.specs.Each.{Each}
 use Rattle.chain.specs.Memory.{
   read,
   Asked,

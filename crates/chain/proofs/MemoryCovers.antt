@@ -7,7 +7,8 @@ use Prim.Native.Nat.{ℕ, _+_}
 use native.Mathlib.Omega.{arith}
 use lib.ListN.{length}
 use Rattle.distort.specs.Job.{Image, Call}
-use Rattle.chain.specs.Demand.{First, Lent, Conditions, Each, ThirdDemand}
+use Rattle.chain.specs.Demand.{First, Lent, Conditions, ThirdDemand}
+use Rattle.exact.specs.Each.{Each}
 use Rattle.chain.specs.Memory.{
   Memory,
   written,

@@ -12,7 +12,8 @@ use lib.IntN.{pos}
 use lib.ListN.{length}
 use Rattle.distort.specs.Call.{left}
 use Rattle.distort.specs.Job.{Image, Call}
-use Rattle.chain.specs.Demand.{Conditions, Each, Near}
+use Rattle.chain.specs.Demand.{Conditions, Near}
+use Rattle.exact.specs.Each.{Each}
 use Rattle.chain.specs.Exact.{exactly, exactChain}
 use Rattle.chain.specs.Memory.{
   Memory,

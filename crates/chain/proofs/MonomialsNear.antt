@@ -12,7 +12,7 @@ use lib.Ieee.{Float}
 use Rattle.exact.specs.Double.{_⊗_}
 use Rattle.exact.specs.Loop.{upTo}
 use Rattle.exact.specs.Fraction.{Fraction, frac, _*F_}
-use Rattle.exact.specs.Sums.{Coordinate, Relative, raised, powF}
+use Rattle.exact.specs.Sums.{PixelCoordinate, Relative, raised, powF}
 use Rattle.exact.proofs.Relative.{relative-one, relative-more}
 use Rattle.exact.proofs.Powers.{coordinate-relative, monomial-relative, product-relative}
 use Rattle.number.specs.Power.{one, power}
@@ -55,7 +55,7 @@ raised-power x (suc (suc (suc zero))) = refl
 raised-power x (suc (suc (suc (suc zero)))) = refl
 raised-power x (suc (suc (suc (suc (suc n))))) = refl
 
-module _ {x y : Float} {X Y : Fraction} (c : Coordinate x X) (d : Coordinate y Y) where
+module _ {x y : Float} {X Y : Fraction} (c : PixelCoordinate x X) (d : PixelCoordinate y Y) where
   power-rounded : (i j : ℕ) → i + j ≤ 5 → Rounded (power x i ⊗ power y j) (powF X i *F powF Y j)
   power-rounded i j h =
       subst (λ (a : Float). Rounded (a ⊗ power y j) (powF X i *F powF Y j)) (raised-power x i)

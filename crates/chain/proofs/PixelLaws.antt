@@ -30,7 +30,7 @@ use Rattle.point.specs.declared.point.Point.{Point}
 use Rattle.chain.proofs.PointNear.{asked-near}
 use Rattle.picture.specs.Colour.{one}
 use Rattle.sampler.specs.Interpolate.{interpolate}
-use Rattle.sampler.specs.Opaque.{NearSample}
+use Rattle.sampler.specs.Opaque.{NearColour}
 use Rattle.picture.specs.Pixel.{Picture}
 use Rattle.picture.specs.declared.colour.Rgba.{Rgba}
 use Rattle.sampler.proofs.AtOpaque.{one-unit}
@@ -39,11 +39,13 @@ use Rattle.window.specs.Window.{xOf, yOf}
 use Rattle.band.specs.Band.{pointAt, shown, colourAt}
 use Rattle.distort.specs.Call.{outWidth, outHeight, mappedOf, sourceOf}
 use Rattle.distort.specs.Job.{Image, Given, colourOf}
-use Rattle.distort.specs.Refusal.{transparent, fitOf, windowOf, widest, channelsOf}
+use Rattle.distort.specs.Refusal.{fitOf, windowOf, widest, channelsOf}
 use Rattle.distort.proofs.SampleLaws.{part as component}
 use Rattle.distort.specs.declared.answer.Answer.{Answer}
 use Rattle.distort.specs.declared.answer.Answer.the-variants.{Accepted}
-use Rattle.chain.specs.Demand.{OpaqueColour, bilinear}
+use Rattle.chain.specs.Demand.{OpaqueColour}
+use Rattle.policies.specs.Named.{transparentCode}
+use Rattle.taps.specs.Interpolation.{bilinearCode}
 use Rattle.chain.specs.Exact.{ExactImage, plane, source, warpedSample}
 use Rattle.chain.proofs.Faithful.{Faithful, error-nonneg}
 use Rattle.chain.proofs.PlaneLaws.{opaque-place, exact, plane-units, plane-near, plane-unit, plane-alpha}
@@ -56,16 +58,16 @@ closed = refl
 not-below : (x : Float) → x ≡ one → lt x one ≡ false
 not-below x e = subst (λ (z : Float). lt z one ≡ false) (sym e) closed
 
-pub channels-kept : (p : Image) (g : Given) → (p .channels ≡ 3) ⊎ (p .channels ≡ 4) → (g .policy ≡ transparent → ⊥)
+pub channels-kept : (p : Image) (g : Given) → (p .channels ≡ 3) ⊎ (p .channels ≡ 4) → (g .policy ≡ transparentCode → ⊥)
     → OpaqueColour (colourOf (g .background)) → channelsOf p g ≡ p .channels
 unfolding widest
 channels-kept p g s f o = ⊎-elim (λ (e : p .channels ≡ 3). along 3 e refl) (λ (e : p .channels ≡ 4). along 4 e refl) s
   where
-    tests : (eqb (g .policy) transparent || lt (colourOf (g .background) .a) one) ≡ false
-    tests = (λ i. ne-eqb (g .policy) transparent f i || not-below (colourOf (g .background) .a) (o .alpha) i)
+    tests : (eqb (g .policy) transparentCode || lt (colourOf (g .background) .a) one) ≡ false
+    tests = (λ i. ne-eqb (g .policy) transparentCode f i || not-below (colourOf (g .background) .a) (o .alpha) i)
 
     along : (c : ℕ) → p .channels ≡ c → cond (eqb c 4 || false) 4 c ≡ c
-        → cond (eqb (p .channels) 4 || (eqb (g .policy) transparent || lt (colourOf (g .background) .a) one)) 4
+        → cond (eqb (p .channels) 4 || (eqb (g .policy) transparentCode || lt (colourOf (g .background) .a) one)) 4
         (p .channels) ≡ p .channels
     along c e h = (λ i. cond (eqb (e i) 4 || tests i) 4 (e i)) ∙ h ∙ sym e
 
@@ -88,7 +90,7 @@ few c s k h = ⊎-elim (λ (e : c ≡ 3). omega arith) (λ (e : c ≡ 4). omega 
 -- ---- the pixel at column i and row j, of a job whose window is within its limits
 module _ (p : Image) (q : ExactImage) (n : ℕ) (F : Faithful p q n)
     (P : Picture (p .bytes) (p .width) (p .height) (p .channels)) (g : Given)
-    (B : OpaqueColour (colourOf (g .background))) (S : g .policy ≡ transparent → ⊥) where
+    (B : OpaqueColour (colourOf (g .background))) (S : g .policy ≡ transparentCode → ⊥) where
   abbrev m : Mapping
   m = fitOf p g .mapping
 
@@ -133,7 +135,7 @@ module _ (p : Image) (q : ExactImage) (n : ℕ) (F : Faithful p q n)
         (λ (x y : ℤ). plane-alpha p q n F P g B S x y e))
 
     -- ---- and the picture's
-    module _ (I : g .interpolation ≡ bilinear) (hi : i ≤ 4096) (hj : j ≤ 4096) (hx : natAbs ox ≤ 1048576)
+    module _ (I : g .interpolation ≡ bilinearCode) (hi : i ≤ 4096) (hj : j ≤ 4096) (hx : natAbs ox ≤ 1048576)
         (hy : natAbs oy ≤ 1048576)
         (M : Conditions.Meets (m .kind) (m .order) (m .coef) (askedF i ox) (askedF j oy)) where
       point : Conditions.Faithful (pointAt (mappedOf p g) i j) there
@@ -151,7 +153,7 @@ module _ (p : Image) (q : ExactImage) (n : ℕ) (F : Faithful p q n)
           (at-point .u ⊖ half) (at-point .v ⊖ half)
 
       abbrev NearHere : Rgba → Type 0
-      NearHere c = NearSample c (exact p q n F P g B S) (there .0 -F frac 1 2) (there .1 -F frac 1 2) (frac n 524288
+      NearHere c = NearColour c (exact p q n F P g B S) (there .0 -F frac 1 2) (there .1 -F frac 1 2) (frac n 524288
           +F frac 1 524288)
 
       colour-near : NearHere it

@@ -18,7 +18,7 @@ use Rattle.exact.proofs.Products.{eq-refl, back, unit-one, unit-same}
 use Rattle.endian.specs.Bytes.{sampleAt}
 use Rattle.picture.specs.At.{tapSamples, at}
 use Rattle.picture.specs.Colour as Colour
-use Rattle.policies.specs.Named.{Policy, Transparent, policies, policy, named, Lies}
+use Rattle.policies.specs.Named.{Policy, Transparent, policies, policy, transparentCode, named, Lies}
 use Rattle.sampler.specs.Opaque.{OpaquePlace, Exact, UnitExact, NearExact}
 use Rattle.picture.specs.Pixel.{Picture, widened, pixelAt}
 use Rattle.taps.specs.Weighted.{Opaque}
@@ -28,7 +28,6 @@ use Rattle.policies.specs.declared.named.Tap.the-variants as Tap
 use Rattle.sampler.proofs.AtOpaque.{at-opaque}
 use Rattle.policies.proofs.NamedLaws.{named-lies}
 use Rattle.distort.specs.Job.{Image, Given, colourOf}
-use Rattle.distort.specs.Refusal.{transparent}
 use Rattle.distort.proofs.SampleLaws.{part as component}
 use Rattle.chain.specs.Demand.{OpaqueColour}
 use Rattle.chain.specs.Exact.{ExactImage, place, part, tapped, plane}
@@ -111,7 +110,7 @@ firm-at [] f n = refl
 firm-at (x ∷ xs) f zero = f .0
 firm-at (x ∷ xs) f (suc n) = firm-at xs (f .1) n
 
-solid-code : (code : ℕ) → (code ≡ transparent → ⊥) → policy code ≡ Transparent → ⊥
+solid-code : (code : ℕ) → (code ≡ transparentCode → ⊥) → policy code ≡ Transparent → ⊥
 unfolding policy
 solid-code zero f e = false≢true (ap clear e)
 solid-code (suc zero) f e = false≢true (ap clear e)
@@ -126,7 +125,7 @@ solid-code (suc (suc (suc (suc (suc (suc n)))))) f e =
 -- ---- the plane
 module _ (p : Image) (q : ExactImage) (n : ℕ) (F : Faithful p q n)
     (P : Picture (p .bytes) (p .width) (p .height) (p .channels)) (g : Given)
-    (B : OpaqueColour (colourOf (g .background))) (S : g .policy ≡ transparent → ⊥) where
+    (B : OpaqueColour (colourOf (g .background))) (S : g .policy ≡ transparentCode → ⊥) where
   abbrev background : Rgba
   background = colourOf (g .background)
 

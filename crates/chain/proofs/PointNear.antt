@@ -10,7 +10,7 @@ use lib.ListN.{length}
 use lib.Ieee.{Float}
 use Rattle.exact.specs.Fraction.{Fraction, frac, value, _≤F_, _*F_, absF}
 use Rattle.exact.specs.Rounds.{Close}
-use Rattle.exact.specs.Sums.{Coordinate, Term, asked, askedF}
+use Rattle.exact.specs.Sums.{PixelCoordinate, Term, asked, askedF}
 use Rattle.exact.specs.Warp.{coordinateError}
 use Rattle.exact.proofs.Near.{le-refl}
 use Rattle.exact.proofs.Steps.{close-more}
@@ -27,7 +27,7 @@ use Rattle.inverse.specs.Affine.{affine}
 use Rattle.inverse.specs.Perspective.{perspective}
 use Rattle.inverse.specs.Polynomial.{dot, dots, ofU, ofV, polynomial}
 use Rattle.inverse.specs.Inverse.{inverse}
-use Rattle.chain.specs.ExactPoint.{sumU, sumV, denominator, monomialsF, powerAt, many, polyF, exactPoint}
+use Rattle.chain.specs.ExactPoint.{sumU, sumV, denominatorF, monomialsF, powerAt, many, polyF, exactPoint}
 use Rattle.chain.specs.Conditions.{AffineTerms, PerspectiveTerms, PolyTerms, Terms, Meets, Faithful}
 use Rattle.point.proofs.UsableLaws.{usable-close}
 use Rattle.inverse.proofs.PolynomialLaws.{monomials-length, terms-few}
@@ -42,7 +42,7 @@ faithful e h c d = record {
   v = close-more h (le-refl (frac 16385 1) (frac 16385 1)) d;
 }
 
-module _ {x y : Float} {X Y : Fraction} (c : Coordinate x X) (d : Coordinate y Y) where
+module _ {x y : Float} {X Y : Fraction} (c : PixelCoordinate x X) (d : PixelCoordinate y Y) where
   pub affine-near : (m : Vector) → AffineTerms m X Y → absF (sumU m X Y) ≤F frac 16384 1
       → absF (sumV m X Y) ≤F frac 16384 1
       → Faithful (affine m x y) (sumU m X Y, sumV m X Y)

@@ -33,7 +33,7 @@ use Rattle.chain.specs.Memory.{
   AllKept,
   born,
 }
-use Rattle.chain.specs.Warps.{State, start, accepted, allRows, completes, group, together, warped, waits}
+use Rattle.chain.specs.Warps.{State, startOf, accepted, allRows, completes, group, together, warped, waits}
 use Rattle.chain.proofs.ApartLaws.{asking, apart-by, write-by}
 use Rattle.chain.proofs.LengthLaws.{keeps-length}
 use Rattle.chain.proofs.ReadLaws.{read-length, read-on, read-back, read-apart}
@@ -71,7 +71,7 @@ module _ (m : Memory) (first : Image) (A B P n k r q : ℕ) (g : Given) where
   pub record TwoBands : Type 0 where
     pub top-accepted : accepted c ≡ true
     pub top-some : allRows c ≡ false
-    pub top-waits : completes (start first) c ≡ false
+    pub top-waits : completes (startOf first) c ≡ false
     pub bottom-accepted : accepted d ≡ true
     pub bottom-some : allRows d ≡ false
     pub bottom-joins : completes (w2 .chain) d ≡ true
@@ -81,8 +81,8 @@ module _ (m : Memory) (first : Image) (A B P n k r q : ℕ) (g : Given) where
     pub bottom-fits : B + k ≤ P
 
   module _ (t : TwoBands) where
-    makes-top : Makes (start first) c (waits (start first) c) (λ band home. home)
-    makes-top = alone-makes (start first) c (t .top-accepted) (t .top-some) (t .top-waits)
+    makes-top : Makes (startOf first) c (waits (startOf first) c) (λ band home. home)
+    makes-top = alone-makes (startOf first) c (t .top-accepted) (t .top-some) (t .top-waits)
 
     makes-bottom : Makes (w2 .chain) d (warped (w2 .chain) d (together (answer d) (group (w2 .chain) d)))
         (λ band home. Nowhere)

@@ -25,7 +25,7 @@ use Rattle.chain.specs.Memory.{
   AllKept,
   born,
 }
-use Rattle.chain.specs.Warps.{State, start, pictured, accepted, allRows, warped}
+use Rattle.chain.specs.Warps.{State, startOf, pictured, accepted, allRows, warped}
 use Rattle.chain.proofs.ApartLaws.{asking, apart-by, write-by}
 use Rattle.chain.proofs.LengthLaws.{keeps-length}
 use Rattle.chain.proofs.ReadLaws.{read-length}
@@ -62,10 +62,10 @@ module _ (m : Memory) (first : Image) (A B n k r q : ℕ) (g h : Given) (bytes :
     pub band-fits : A + k ≤ B
 
   module _ (t : TwoWarps) where
-    makes : Makes (start first) c (warped (start first) c (left c)) (λ band home. At band)
-    makes = whole-makes (start first) c (t .first-accepted) (t .first-whole)
+    makes : Makes (startOf first) c (warped (startOf first) c (left c)) (λ band home. At band)
+    makes = whole-makes (startOf first) c (t .first-accepted) (t .first-whole)
 
-    then-chain : w .chain ≡ warped (start first) c (left c)
+    then-chain : w .chain ≡ warped (startOf first) c (left c)
     unfolding happens
     then-chain = makes .chain
 

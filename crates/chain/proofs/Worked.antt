@@ -14,9 +14,10 @@ use borrow.Author.Tests.{eqb-true}
 use Rattle.distort.specs.Call.{answer, left}
 use Rattle.distort.specs.Job.{Image, Call}
 use Rattle.distort.specs.Refusal.{refusal}
-use Rattle.chain.specs.Demand.{First, Conditions, Lent, Each, Near, warpsOf}
+use Rattle.chain.specs.Demand.{First, Conditions, Lent, Near, warpsOf}
+use Rattle.exact.specs.Each.{Each}
 use Rattle.chain.specs.Exact.{exactly, exactChain}
-use Rattle.chain.specs.Warps.{Warp, State, start, accepted, allRows, group, completes, together, warped, waits}
+use Rattle.chain.specs.Warps.{Warp, State, startOf, accepted, allRows, group, completes, together, warped, waits}
 use Rattle.chain.specs.Warps.{step, run, after}
 use Rattle.chain.proofs.Chain.{third-demand}
 use Rattle.chain.proofs.JoinLaws.{Every, IsAccepted}
@@ -86,7 +87,7 @@ throughout s (c ∷ calls) h = go (most (step s c) calls) (λ e. throughout (ste
 pub all-accepted : {p : Image} {calls : List Call} {s : State} → WorkedOut p calls s
     → length (s .warps) ≡ length calls → Every IsAccepted calls
 all-accepted {p} {calls} w e =
-    throughout (start p) calls (at-end (λ (ws : List Warp). length ws ≡ 0 + length calls) w (e ∙ sym (zero-add _)))
+    throughout (startOf p) calls (at-end (λ (ws : List Warp). length ws ≡ 0 + length calls) w (e ∙ sym (zero-add _)))
 
 -- ---- that a method has such a list
 -- P of one of the warps

@@ -13,7 +13,7 @@ use Rattle.exact.specs.Warp.{Coordinate}
 use Rattle.exact.specs.Vector.{Vector, at}
 use Rattle.point.specs.declared.point.Point.{Point}
 use Rattle.inverse.specs.Polynomial.{ofU, ofV}
-use Rattle.chain.specs.ExactPoint.{denominator, powerAt, many, exactPoint}
+use Rattle.chain.specs.ExactPoint.{denominatorF, powerAt, many, exactPoint}
 
 -- ---- the terms. Each coefficient is a number, so that its bits name a fraction.
 pub record AffineTerms (m : Vector) (X Y : Fraction) : Type 0 where
@@ -24,7 +24,7 @@ pub record PerspectiveTerms (m : Vector) (X Y : Fraction) : Type 0 where
   pub u : Linear (at m 0) (at m 1) (at m 2) X Y (frac 16384 1)
   pub v : Linear (at m 3) (at m 4) (at m 5) X Y (frac 16384 1)
   pub w : Linear (at m 6) (at m 7) (at m 8) X Y (frac 4 1)
-  pub least : frac 1 1024 ≤F denominator m X Y
+  pub least : frac 1 1024 ≤F denominatorF m X Y
 
 pub record PolyTerms (order : ℕ) (X Y : Fraction) (c : ℕ → Float) : Type 0 where
   pub number : (k : ℕ) → k < many order X Y → T (finite (c k))

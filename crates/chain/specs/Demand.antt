@@ -10,16 +10,19 @@ use lib.ListN.{length}
 use lib.Ieee.{Float}
 use lib.Ieee.Scale.{finite}
 use Rattle.exact.specs.Fraction.{Fraction, frac, value, Within, Unit01}
+use Rattle.exact.specs.Each.{Each}
 use Rattle.exact.specs.Sums.{askedF}
 use Rattle.endian.specs.Bytes.{sampleAt}
 use Rattle.arguments.specs.Method as Method
 use Rattle.mappings.specs.declared.mapping.Fitted.{Fitted}
 use Rattle.mappings.specs.declared.mapping.Mapping.{Mapping}
 use Rattle.chain.specs.Conditions.{Meets}
+use Rattle.policies.specs.Named.{transparentCode}
+use Rattle.taps.specs.Interpolation.{bilinearCode}
 use Rattle.picture.specs.Colour.{one}
 use Rattle.picture.specs.declared.colour.Rgba.{Rgba}
 use Rattle.distort.specs.Job.{Image, Given, Call, colourOf}
-use Rattle.distort.specs.Refusal.{transparent, fitOf}
+use Rattle.distort.specs.Refusal.{fitOf}
 use Rattle.distort.specs.declared.answer.Answer.{Answer}
 use Rattle.chain.specs.Exact.{ExactImage, place, exactly, exactChain}
 use Rattle.chain.specs.Warps.{Warp, widthIn, heightIn, xIn, yIn, State, after}
@@ -46,23 +49,19 @@ pub record OpaqueColour (c : Rgba) : Type 0 where
 
 -- the six methods whose source point is a sum or a quotient of sums
 pub data Chained : ℕ → Type 0 where
-  by-affine : Chained Method.affine
-  by-affine-projection : Chained Method.affineProjection
-  by-perspective : Chained Method.perspective
-  by-perspective-projection : Chained Method.perspectiveProjection
-  by-bilinear-reverse : Chained Method.bilinearReverse
-  by-polynomial : Chained Method.polynomial
-
--- the code of `Bilinear`
-abbrev pub bilinear : ℕ
-bilinear = 5
+  by-affine : Chained Method.affineCode
+  by-affine-projection : Chained Method.affineProjectionCode
+  by-perspective : Chained Method.perspectiveCode
+  by-perspective-projection : Chained Method.perspectiveProjectionCode
+  by-bilinear-reverse : Chained Method.bilinearReverseCode
+  by-polynomial : Chained Method.polynomialCode
 
 -- of a warp: method, interpolation, policy, background, and the sums at every output pixel, with the fit's own
 -- coefficients
 pub record Conditions (w : Warp) : Type 0 where
   pub method : Chained (w .given .method)
-  pub interpolation : w .given .interpolation ≡ bilinear
-  pub policy : w .given .policy ≡ transparent → ⊥
+  pub interpolation : w .given .interpolation ≡ bilinearCode
+  pub policy : w .given .policy ≡ transparentCode → ⊥
   pub background : OpaqueColour (colourOf (w .given .background))
   pub pixels : (i j : ℕ) → i < widthIn (w .answered) → j < heightIn (w .answered)
       → Meets (fitOf (w .chain) (w .given) .mapping .kind) (fitOf (w .chain) (w .given) .mapping .order)
@@ -72,11 +71,6 @@ pub record Conditions (w : Warp) : Type 0 where
 -- first picture where there was none
 abbrev pub Lent : Warp → Type 0
 Lent w = w .lent ≡ w .chain
-
--- P of each warp
-abbrev pub Each : (Warp → Type 0) → List Warp → Type 0
-Each P [] = Unit {0}
-Each P (w ∷ ws) = P w × Each P ws
 
 -- ---- the claim
 abbrev pub sampleOf : Image → ℕ → ℕ → ℕ → Float

@@ -20,8 +20,8 @@ sumU m X Y = linearF (at m 0) (at m 1) (at m 2) X Y
 abbrev pub sumV : Vector → Fraction → Fraction → Fraction
 sumV m X Y = linearF (at m 3) (at m 4) (at m 5) X Y
 
-abbrev pub denominator : Vector → Fraction → Fraction → Fraction
-denominator m X Y = linearF (at m 6) (at m 7) (at m 8) X Y
+abbrev pub denominatorF : Vector → Fraction → Fraction → Fraction
+denominatorF m X Y = linearF (at m 6) (at m 7) (at m 8) X Y
 
 -- ---- the monomials, in the order of the rounded ones
 unfoldable pub pushF : Fraction → Fraction → ℕ → ℕ → List Fraction → List Fraction
@@ -48,6 +48,6 @@ polyF order X Y c = summedF (λ (k : ℕ). powerAt order X Y k *F value (c k)) (
 unfoldable pub exactPoint : ℕ → ℕ → Vector → Fraction → Fraction → Fraction × Fraction
 exactPoint zero order m X Y = (frac 0 1, frac 0 1)
 exactPoint (suc zero) order m X Y = (sumU m X Y, sumV m X Y)
-exactPoint (suc (suc zero)) order m X Y = (sumU m X Y /F denominator m X Y, sumV m X Y /F denominator m X Y)
+exactPoint (suc (suc zero)) order m X Y = (sumU m X Y /F denominatorF m X Y, sumV m X Y /F denominatorF m X Y)
 exactPoint (suc (suc (suc zero))) order m X Y = (polyF order X Y (ofU m), polyF order X Y (ofV m (many order X Y)))
 exactPoint (suc (suc (suc (suc n)))) order m X Y = (frac 0 1, frac 0 1)

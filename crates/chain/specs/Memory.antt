@@ -10,9 +10,10 @@ use lib.Dec.{leb, ltb}
 use lib.ListN.{length, getD}
 use Rattle.distort.specs.Call.{left}
 use Rattle.distort.specs.Job.{Image, Given, Call}
-use Rattle.chain.specs.Demand.{First, Conditions, Each, Near}
+use Rattle.chain.specs.Demand.{First, Conditions, Near}
+use Rattle.exact.specs.Each.{Each}
 use Rattle.chain.specs.Exact.{exactly, exactChain}
-use Rattle.chain.specs.Warps.{State, start, step, accepted, allRows, completes}
+use Rattle.chain.specs.Warps.{State, startOf, step, accepted, allRows, completes}
 
 -- ---- memory: a byte at each address
 abbrev pub Memory : Type 0
@@ -137,7 +138,7 @@ AllKept w (e ∷ es) = Kept w e × AllKept (happens w e) es
 
 -- ---- the demand, of every memory that holds a first picture, and of everything that happens
 abbrev pub born : Memory → Image → ℕ → World
-born m first from = record { memory = m; chain = start first; home = At from }
+born m first from = record { memory = m; chain = startOf first; home = At from }
 
 -- what lies there, as the chain's picture
 abbrev pub lying : World → ℕ → Image

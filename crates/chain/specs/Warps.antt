@@ -133,8 +133,8 @@ pub record State : Type 0 where
   pub waiting : List Call
   pub warps : List Warp
 
-abbrev pub start : Image → State
-start first = record { image = first; waiting = []; warps = [] }
+abbrev pub startOf : Image → State
+startOf first = record { image = first; waiting = []; warps = [] }
 
 -- the calls that c joins, and c
 abbrev pub group : State → Call → List Call
@@ -171,4 +171,4 @@ run s (c ∷ cs) = run (step s c) cs
 
 -- after a list of calls, from a first picture on
 abbrev pub after : Image → List Call → State
-after first calls = run (start first) calls
+after first calls = run (startOf first) calls

@@ -12,6 +12,7 @@ use lib.Dec.{T, lit≤}
 use lib.Ieee.{Float, binary32, neg, add, sub, sum, mul, round, ofBits, lt}
 use lib.Ieee.Bits.{is-true}
 use lib.Ieee.Scale.{finite}
+use Rattle.exact.specs.Each.{Each}
 use Rattle.exact.specs.Fraction.{Fraction, frac, value, _≤F_, _<F_, negF, _+F_, _*F_, absF, Within, Unit01}
 use Rattle.exact.specs.Rounds.{Close}
 use Rattle.exact.specs.Single.{_⊕_, _⊖_, _⊗_, _⊘_}
@@ -149,8 +150,7 @@ module _ {b c : Float} {B C : Fraction} (K : Coefficients b c B C) (S : Shape b 
 
 -- ---- the four weights
 abbrev pub BoundedEach : List Float → Type 0
-BoundedEach [] = Unit {0}
-BoundedEach (w ∷ ws) = Bounded (frac 1 1) w × BoundedEach ws
+BoundedEach = Each (Bounded (frac 1 1))
 
 pub weights-bounded : {b c : Float} {B C : Fraction} → Coefficients b c B C → Shape b c B C → (t : Float) → Unit32 t
     → BoundedEach (cubicWeights t b c)

@@ -11,7 +11,7 @@ use lib.Dec.{T, lit≤}
 use lib.Ieee.{Float, binary32, ofBits}
 use lib.Ieee.Scale.{finite}
 use Rattle.exact.specs.Fraction.{Fraction, frac, value, _≤F_, _≈_, negF, _+F_, _-F_, _*F_, absF, Within, Unit01}
-use Rattle.exact.specs.Rounds.{Rounds, Close, power}
+use Rattle.exact.specs.Rounds.{Rounds, Close, powerF}
 use Rattle.exact.specs.Single.{_⊕_, _⊖_}
 use Rattle.exact.specs.Weighted.{Unit32}
 use Rattle.exact.proofs.Scale.{at-le, le-at, at-neg, at-add, at-sub, common}
@@ -117,8 +117,8 @@ module _ {b c : Float} {B C : Fraction} (K : Coefficients b c B C) {r : Float} {
     argument-far l h =
         let k : Close r X far-gap (frac 2 1) = rounds-bound R 150 2 1 1 (2 ^ 24) tt h in
         let j : frac 1 1 ≤F absF (value r) =
-        le-trans (frac 1 1) (power binary32 149) (absF (value r)) (record { le = lit≤ tt })
-        (rounds-least R 149 (lit≤ tt) (le-trans (power binary32 149) (frac 1 1) (absF X) (record { le = lit≤ tt }) l)
+        le-trans (frac 1 1) (powerF binary32 149) (absF (value r)) (record { le = lit≤ tt })
+        (rounds-least R 149 (lit≤ tt) (le-trans (powerF binary32 149) (frac 1 1) (absF X) (record { le = lit≤ tt }) l)
         (k .number)) in
         let w =
         piece-far (absF (value r)) (absF X) far-gap (frac 2 1) (abs-abs (value r) (k .small)) (abs-abs X h)

@@ -4,13 +4,10 @@ use mathlib.Core.Bool.{Bool, not, cond, _&&_}
 use mathlib.Core.List.{List, [], _∷_}
 use lib.Ieee.{Float, binary32, neg, ofBits, lt}
 use Rattle.exact.specs.Single.{_⊕_, _⊖_, _⊗_, _⊘_}
-pub use Rattle.exact.specs.Single.{zero, half, one}
+pub use Rattle.exact.specs.Single.{zero, half, one, two}
 use Rattle.number.specs.Magnitude.{abs}
 
 -- ---- the other constants
-abbrev pub two : Float
-two = ofBits binary32 0x4000_0000  -- 2.0
-
 abbrev pub six : Float
 six = ofBits binary32 0x40c0_0000  -- 6.0
 

@@ -3,8 +3,8 @@
 use lib.IntN.{ℤ, pos, negℤ}
 use Rattle.names.specs.declared.Named.{Named}
 use Rattle.names.specs.declared.Named.the-variants.{Code, Refused}
-use Rattle.names.specs.Names.{refusal}
+use Rattle.names.specs.Names.{namedRefusal}
 
-abbrev pub answer : Named → ℤ
-answer (Code n) = pos n
-answer Refused = negℤ (pos (refusal Refused))
+abbrev pub namedAnswer : Named → ℤ
+namedAnswer (Code n) = pos n
+namedAnswer Refused = negℤ (pos (namedRefusal Refused))

@@ -5,13 +5,13 @@ pub mod call;
 use names::Named;
 ghost use mathlib.Core.Path.{_≡_};
 ghost use Prim.Native.Nat.{_^_};
-ghost use Rattle.names.specs.Names.{lookup, methods, policies, interpolations, Below};
-ghost use Rattle.dihyravo.specs.Answer.{answer};
+ghost use Rattle.names.specs.Names.{lookup, methodNames, policyNames, interpolationNames, Below};
+ghost use Rattle.dihyravo.specs.Answer.{namedAnswer};
 
 // A code, or minus the refusal's number.
 fn number(r: Named) -> i64
     requires { ⌜ Below (2 ^ 63) r ⌝ }
-    ensures { λ z. ⌜ z ≡ answer r ⌝ }
+    ensures { λ z. ⌜ z ≡ namedAnswer r ⌝ }
 {
     match r {
         Named::Code(n) => n as i64,
@@ -22,7 +22,7 @@ fn number(r: Named) -> i64
 // The code of a distortion method's name, or -3.
 #[no_mangle]
 pub extern "C" fn dihyravo_method(name: &[u8]) -> i64
-    ensures { λ r. ⌜ r ≡ answer (lookup methods (now (name .entry))) ⌝ }
+    ensures { λ r. ⌜ r ≡ namedAnswer (lookup methodNames (now (name .entry))) ⌝ }
 {
     number(names::method(name))
 }
@@ -30,7 +30,7 @@ pub extern "C" fn dihyravo_method(name: &[u8]) -> i64
 // The code of a virtual pixel policy's name, or -3.
 #[no_mangle]
 pub extern "C" fn dihyravo_policy(name: &[u8]) -> i64
-    ensures { λ r. ⌜ r ≡ answer (lookup policies (now (name .entry))) ⌝ }
+    ensures { λ r. ⌜ r ≡ namedAnswer (lookup policyNames (now (name .entry))) ⌝ }
 {
     number(names::policy(name))
 }
@@ -38,7 +38,7 @@ pub extern "C" fn dihyravo_policy(name: &[u8]) -> i64
 // The code of an interpolation's name, or -3.
 #[no_mangle]
 pub extern "C" fn dihyravo_interpolation(name: &[u8]) -> i64
-    ensures { λ r. ⌜ r ≡ answer (lookup interpolations (now (name .entry))) ⌝ }
+    ensures { λ r. ⌜ r ≡ namedAnswer (lookup interpolationNames (now (name .entry))) ⌝ }
 {
     number(names::interpolation(name))
 }

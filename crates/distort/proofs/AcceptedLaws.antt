@@ -24,6 +24,7 @@ use Rattle.window.specs.Window.{refusalOf, widthOf, heightOf, xOf, yOf}
 use Rattle.window.specs.declared.window.Placed.{Placed}
 use Rattle.window.specs.declared.window.Placed.the-variants.{Window, Refused}
 use Rattle.window.proofs.WindowLaws.{Side, Limits, window-limits}
+use Rattle.policies.specs.Named.{transparentCode}
 use Rattle.picture.specs.Colour.{one}
 use Rattle.picture.specs.Pixel.{Picture, Channels}
 use Rattle.picture.proofs.SizeLaws.{size-fit, picture-fit}
@@ -35,7 +36,6 @@ use Rattle.distort.specs.Refusal.{
   fitOf,
   viewOf,
   windowOf,
-  transparent,
   widest,
   channelsOf,
   badSize,
@@ -88,7 +88,7 @@ module _ (p : Image) (g : Given) where
 
     -- the four tests of refusal 5
     pub record Small : Type 0 where
-      pub arguments : Arguments.badNumber (g .arguments) ≡ false
+      pub arguments : Arguments.badArgument (g .arguments) ≡ false
       pub samples : large (p .bytes) (p .width * p .height * p .channels) ≡ false
       pub background : large (g .background) 4 ≡ false
       pub matte : large (g .matte) 4 ≡ false
@@ -99,7 +99,7 @@ module _ (p : Image) (g : Given) where
         let m : Bool = large (g .matte) 4 in
         let b : Bool = large (g .background) 4 in
         let s : Bool = large (p .bytes) (p .width * p .height * p .channels) in
-        let x = or-false (Arguments.badNumber (g .arguments)) (s || (b || m)) (t .number) in
+        let x = or-false (Arguments.badArgument (g .arguments)) (s || (b || m)) (t .number) in
         let y = or-false s (b || m) (x .1) in
         let z = or-false b m (y .1) in
         record { arguments = x .0; samples = y .0; background = z .0; matte = z .1 }
@@ -110,8 +110,8 @@ module _ (p : Image) (g : Given) where
         picture-fit (p .bytes) (p .width) (p .height) (p .channels) (t .size) (t .stock) (small .samples)
 
     -- so that none of the refusals of the arguments applies
-    pub arguments-passed : Arguments.refusal (g .method) (g .arguments) ≡ 0
-    unfolding Arguments.refusal
+    pub arguments-passed : Arguments.argumentsRefusal (g .method) (g .arguments) ≡ 0
+    unfolding Arguments.argumentsRefusal
     arguments-passed =
         sym
         (row-passed 3 _ _ (codes .0)
@@ -139,7 +139,8 @@ limits p g =
 pub widest-known : (channels policy : ℕ) (background : Rgba) → Channels channels
     → Channels (widest channels policy background)
 unfolding widest
-widest-known channels policy background h = go (eqb channels 4 || (eqb policy transparent || lt (background .a) one))
+widest-known channels policy background h = go
+    (eqb channels 4 || (eqb policy transparentCode || lt (background .a) one))
   where
     go : (b : Bool) → Channels (cond b 4 channels)
     go true = inr (inr refl)

@@ -8,8 +8,8 @@ use Rattle.exact.specs.Vector.{Vector}
 use Rattle.window.specs.Window.{window}
 use Rattle.window.specs.declared.view.View.{View}
 use Rattle.window.specs.declared.window.Placed.{Placed}
-use Rattle.distort.specs.Job.{givenBy, flag}
-use Rattle.window.specs.View.{yes}
+use Rattle.distort.specs.Job.{givenBy}
+use Rattle.window.specs.View.{yes, flag}
 use Rattle.distort.specs.Refusal.{viewOf}
 use Rattle.distort.specs.declared.job.Job.{Job}
 

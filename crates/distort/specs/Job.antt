@@ -1,14 +1,14 @@
 -- A distort call: the picture it is lent, what it is given besides, the rows it is asked for and the band they go to.
 -- Specification 1.1. Assumes nothing.
 use Prim.Native.Nat.{ℕ}
-use mathlib.Core.Bool.{Bool, cond}
+use mathlib.Core.Bool.{cond}
 use mathlib.Core.List.{List}
 use lib.IntN.{ℤ, pos}
 use Rattle.picture.specs.Pixel.{pixelAt}
 use Rattle.picture.specs.declared.colour.Rgba.{Rgba}
 use Rattle.picture.specs.declared.shape.Shape.{Shape}
 use Rattle.band.specs.declared.rows.Rows.{Rows}
-use Rattle.window.specs.View.{yes}
+use Rattle.window.specs.View.{yes, flag}
 use Rattle.window.specs.declared.view.View.{View}
 use Rattle.distort.specs.declared.job.Job.{Job}
 pub use Rattle.band.specs.Image.{Image, imageOf, shapedImage}
@@ -34,9 +34,6 @@ pub record Call : Type 0 where
   pub first : ℕ
   pub rows : ℕ
   pub band : List ℕ
-
-abbrev pub flag : Bool → ℕ
-flag b = cond b 1 0
 
 -- by the numbers that the code hands on. A yes is 1, and where there is no viewport its numbers are none, so that what
 -- is not given does not count.

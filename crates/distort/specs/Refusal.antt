@@ -14,8 +14,10 @@ use Rattle.arguments.specs.Refusal as Arguments
 use Rattle.fit.specs.Build.{build}
 use Rattle.mappings.specs.declared.mapping.Fitted.{Fitted}
 use Rattle.mappings.specs.declared.mapping.Mapping.{Mapping}
+use Rattle.policies.specs.Named.{transparentCode, randomCode}
 use Rattle.picture.specs.Colour.{one}
 use Rattle.picture.specs.declared.colour.Rgba.{Rgba}
+use Rattle.taps.specs.Interpolation.{backgroundCode}
 use Rattle.window.specs.Window.{window, refusalOf, widthOf, heightOf}
 use Rattle.window.specs.declared.view.View.{View}
 use Rattle.window.specs.declared.window.Placed.{Placed}
@@ -39,15 +41,11 @@ viewOf g = record {
 unfoldable pub windowOf : Image → Given → Placed
 windowOf p g = window (fitOf p g .mapping .kind) (fitOf p g .mapping .coef) (p .width) (p .height) (viewOf g)
 
--- the code of the policy `Transparent`
-abbrev pub transparent : ℕ
-transparent = 5
-
 -- four if the picture has four, the policy is `Transparent`, or the background's alpha is below 1; otherwise the
 -- picture's own
 unfoldable pub widest : ℕ → ℕ → Rgba → ℕ
 widest channels policy background =
-    cond (eqb channels 4 || (eqb policy transparent || lt (background .a) one)) 4 channels
+    cond (eqb channels 4 || (eqb policy transparentCode || lt (background .a) one)) 4 channels
 
 abbrev pub channelsOf : Image → Given → ℕ
 channelsOf p g = widest (p .channels) (g .policy) (colourOf (g .background))
@@ -56,12 +54,13 @@ channelsOf p g = widest (p .channels) (g .policy) (colourOf (g .background))
 
 -- ---- 3, code: fourteen policies and nine interpolations, counted from 0
 unfoldable pub badCode : ℕ → ℕ → ℕ → Bool
-badCode method policy interpolation = not (present method) || (ltb 13 policy || ltb 8 interpolation)
+badCode method policy interpolation = not (present method)
+    || (ltb randomCode policy || ltb backgroundCode interpolation)
 
 -- ---- 5, number
 unfoldable pub badNumber : Image → List ℕ → List ℕ → List ℕ → Bool
 badNumber p arguments background matte =
-    Arguments.badNumber arguments
+    Arguments.badArgument arguments
     || (large (p .bytes) (p .width * p .height * p .channels) || (large background 4 || large matte 4))
 
 -- ---- 8, degenerate: the fit, once the arguments are fit for it, gives no mapping

@@ -41,7 +41,7 @@ pub fn bad_number(
         ⌜ r ≡ badNumber (shapedImage (now (picture .entry)) shape) (now (arguments .entry)) (now (background .entry))
         (now (matte .entry)) ⌝ }
 {
-    if arguments::refusal::bad_number(arguments) {
+    if arguments::refusal::bad_argument(arguments) {
         return true;
     }
     if large(

@@ -1,7 +1,9 @@
 -- How bytes are numbers and floats, for the whole product: a number has its lowest byte first, and a float is its IEEE
 -- 754 pattern as such a number. A list of bytes reads as 0 past its end. Specification 1.1. Assumes nothing.
 use Prim.Native.Nat.{ℕ, zero, suc, _+_, _-_, _*_, _/_, _%_, _^_, _≤_}
-use mathlib.Core.List.{List}
+use Prim.Native.Char.{code}
+use Prim.Native.String.{String, [] as none, _∷_ as _then_}
+use mathlib.Core.List.{List, [], _∷_}
 use lib.IntN.{ℤ, pos, negsuc}
 use lib.ListN.{getD, set}
 use lib.Ieee.{Float, binary32, binary64, ofBits, toBits}
@@ -69,3 +71,10 @@ samplePattern = 0x4780_0000
 
 abbrev pub sampleLimit : Float
 sampleLimit = ofBits binary32 samplePattern  -- 65536.0
+
+-- ---- texts
+
+-- the bytes of an ASCII text
+abbrev pub ascii : String → List ℕ
+ascii none = []
+ascii (c then s) = code c ∷ ascii s

@@ -15,7 +15,7 @@ use lib.Ieee.{Float, fin, Format, binary32, binary64, prec, emax, low, round, di
 use lib.Ieee.Scale.{finite}
 use lib.Ieee.Fits.{and-l, and-r}
 use Rattle.exact.specs.Fraction.{Fraction, frac, value, _≤F_, _<F_, _≈_, _/F_, absF, distance, Within, Unit01}
-use Rattle.exact.specs.Rounds.{Rounds, Close, power, half-ulp, fine}
+use Rattle.exact.specs.Rounds.{Rounds, Close, powerF, half-ulp, fine}
 use Rattle.exact.proofs.Near.{le-trans, eq-le, eq-sym}
 use Rattle.exact.proofs.Signed.{signed-le, signed-eq}
 use Rattle.exact.proofs.NearProducts.{abs-unit}
@@ -43,12 +43,12 @@ rounds-bound {f} {r} {X} R K b d e g t h =
     go : K ≤ low f + emax f → 0 < d → 0 < g → b * 2 ^ low f ≡ 2 ^ K * d → 2 ^ (K - prec f) * g ≤ e * (2 ^ low f * 2)
         → Close r X (frac e g) (frac b d)
     go top D G same small =
-        let s : frac b d ≈ power f K =
+        let s : frac b d ≈ powerF f K =
         signed-eq false b d false (2 ^ K) (2 ^ low f) D (pow-pos (low f)) (ap (λ (z : ℕ). z + 0) same) in
         close-more (signed-le false (2 ^ (K - prec f)) (2 ^ low f * 2) false e g
         (mul-pos (pow-pos (low f)) (zero-lt-suc 1)) G (plain (2 ^ (K - prec f) * g) (e * (2 ^ low f * 2)) small))
-        (eq-le (power f K) (frac b d) (eq-sym (frac b d) (power f K) s))
-        (rounds-within R K top (le-trans (absF X) (frac b d) (power f K) h (eq-le (frac b d) (power f K) s)))
+        (eq-le (powerF f K) (frac b d) (eq-sym (frac b d) (powerF f K) s))
+        (rounds-within R K top (le-trans (absF X) (frac b d) (powerF f K) h (eq-le (frac b d) (powerF f K) s)))
       where
         plain : (x y : ℕ) → x ≤ y → x + 0 ≤ y + 0
         plain x y h = omega arith

@@ -12,7 +12,7 @@ use Rattle.exact.specs.Rounds.{Rounds}
 use Rattle.exact.specs.Surface.{floorF, partF}
 use Rattle.exact.specs.Double.{_⊖_}
 use Rattle.exact.specs.Weighted.{Unit32}
-use Rattle.exact.specs.Warp.{cellError, Cell}
+use Rattle.exact.specs.Warp.{cellError, InCell}
 use Rattle.exact.proofs.Near.{le-refl, within-same, within-trans, within-add}
 use Rattle.exact.proofs.Products.{eq-refl, _⨟_, back, sub-same, add-zero, add-comm}
 use Rattle.exact.proofs.NearProducts.{abs-unit, within-like}
@@ -45,7 +45,7 @@ module _ (x fx : Float) (n : T (finite x)) (m : T (finite fx)) (floor : value fx
               (within32-0 R (abs-unit (value (x ⊖ fx)) u) .near) (cell-rest .1 .1),
         )
 
-    pub cell-of : Cell x (floorF (value x)) t
+    pub cell-of : InCell x (floorF (value x)) t
     cell-of = record {
       floor = refl;
       fraction = cell-fraction .0;

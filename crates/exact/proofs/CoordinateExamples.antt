@@ -19,7 +19,7 @@ use Rattle.exact.specs.Sums.{
   summedF,
   raised,
   powF,
-  Coordinate,
+  PixelCoordinate,
   Linear,
   Term,
 }
@@ -46,10 +46,10 @@ X = askedF 0 (pos 0)
 abbrev Y : Fraction
 Y = askedF 1 (pos 0)
 
-at-x : Coordinate x X
+at-x : PixelCoordinate x X
 at-x = asked-coordinate 0 (pos 0) (lit≤ tt) (lit≤ tt)
 
-at-y : Coordinate y Y
+at-y : PixelCoordinate y Y
 at-y = asked-coordinate 1 (pos 0) (lit≤ tt) (lit≤ tt)
 
 abbrev one : Float

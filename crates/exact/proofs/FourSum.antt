@@ -10,8 +10,8 @@ use lib.Ieee.{Float, binary32}
 use lib.Ieee.Scale.{finite}
 use Rattle.exact.specs.Fraction.{Fraction, frac, value, _≤F_, _≈_, _+F_, _*F_, absF, Within, Unit01}
 use Rattle.exact.specs.Rounds.{Rounds, Close}
-use Rattle.exact.specs.Single.{_⊕_, _⊗_}
-use Rattle.exact.specs.Weighted.{start, fourSum, Unit32, Sample}
+use Rattle.exact.specs.Single.{_⊕_, _⊗_, zero}
+use Rattle.exact.specs.Weighted.{fourSum, Unit32, Sample}
 use Rattle.exact.proofs.Near.{le-trans, add-mono, add-same, within-open, within-trans, within-add}
 use Rattle.exact.proofs.Products.{eq-refl, _⨟_, mul-one, back, add-zero, add-comm, le-same, mul-le}
 use Rattle.exact.proofs.NearProducts.{abs-self, within-like}
@@ -23,8 +23,8 @@ use Rattle.exact.proofs.Samples.{
   halves,
   halves-add,
   halves-le,
-  start-number,
-  start-value,
+  zero-number,
+  zero-value,
   sample-own,
   sample-mul,
 }
@@ -59,16 +59,16 @@ pub record Summed (r : Float) (X : Fraction) (n : ℕ) : Type 0 where
   pub nonneg : frac 0 1 ≤F value r
   pub near : Within (value r) X (halves n)
 
-start-rounds : (x : Float) → T (finite x) → Rounds binary32 (start ⊕ x) (value x)
-start-rounds x t =
-    rounds-along (add-same (value start) (frac 0 1) (value x) (value x) start-value (eq-refl (value x)) ⨟ add-comm
+zero-rounds : (x : Float) → T (finite x) → Rounds binary32 (zero ⊕ x) (value x)
+zero-rounds x t =
+    rounds-along (add-same (value zero) (frac 0 1) (value x) (value x) zero-value (eq-refl (value x)) ⨟ add-comm
     (frac 0 1) (value x) ⨟ add-zero (value x))
-    (add-rounds binary32 start x start-number t)
+    (add-rounds binary32 zero x zero-number t)
 
 -- the first sum is exact
-summed-start : (x : Float) {X : Fraction} (n : ℕ) → Sample x X (halves n) → Summed (start ⊕ x) X n
+summed-start : (x : Float) {X : Fraction} (n : ℕ) → Sample x X (halves n) → Summed (zero ⊕ x) X n
 summed-start x {X} n s =
-    let R = start-rounds x (s .is .number) in
+    let R = zero-rounds x (s .is .number) in
     let w = rounds-exact R x (s .is .held) (s .is .number) (eq-refl (value x)) in
     record {
       number = w .0;
@@ -129,14 +129,14 @@ pub record Sums (r s : Float) (X W : Fraction) (m n : ℕ) : Type 0 where
   pub order : value r ≤F value s
   pub exact : X ≤F W
 
-pub sums-start : {x w : Float} {X W : Fraction} (n : ℕ) → Taken x w X W n → Sums (start ⊕ x) (start ⊕ w) X W (1 + n) n
+pub sums-start : {x w : Float} {X W : Fraction} (n : ℕ) → Taken x w X W n → Sums (zero ⊕ x) (zero ⊕ w) X W (1 + n) n
 sums-start {x} {w} n k =
     let p = summed-start x (1 + n) (k .product) in
     let q = summed-start w n (k .weight) in
     record {
       products = p;
       weights = q;
-      order = rounds-mono (start-rounds x (k .product .is .number)) (start-rounds w (k .weight .is .number))
+      order = rounds-mono (zero-rounds x (k .product .is .number)) (zero-rounds w (k .weight .is .number))
           (p .number) (q .number) (k .order);
       exact = k .exact;
     }

@@ -8,7 +8,7 @@ use mathlib.Core.Logic.{⊎-elim}
 use native.Mathlib.Omega.{arith}
 use lib.IntN.{ℤ, sucℤ}
 use Rattle.exact.specs.Fraction.{Fraction, frac, whole, _≤F_, _<F_, _≈_, _+F_, _-F_, Within, Unit01}
-use Rattle.exact.specs.Surface.{floorF, partF, mix, lin}
+use Rattle.exact.specs.Surface.{floorF, partF, mixF, lin}
 use Rattle.exact.proofs.Scale.{at-le, le-at, lt-at, at-eq, eq-at, at-add, at-sub, common}
 use Rattle.exact.proofs.Near.{
   le-refl,
@@ -46,18 +46,18 @@ lin-like a b x h = mix-same (eq-refl (partF x)) (h (floorF x)) (h (sucℤ (floor
 module _ (a : ℤ → Fraction) where
   -- t below 1: k is the floor and t the part
   inside : (x t : Fraction) (k : ℤ) → frac 0 1 ≤F t → t <F frac 1 1 → x ≈ whole k +F t
-      → lin a x ≈ mix t (a k) (a (sucℤ k))
+      → lin a x ≈ mixF t (a k) (a (sucℤ k))
   unfolding lin
   inside x t k l u h =
       let s = split-only x t k h l u in
-      subst (λ (j : ℤ). mix (partF x) (a (floorF x)) (a (sucℤ (floorF x))) ≈ mix t (a j) (a (sucℤ j))) (s .0)
+      subst (λ (j : ℤ). mixF (partF x) (a (floorF x)) (a (sucℤ (floorF x))) ≈ mixF t (a j) (a (sucℤ j))) (s .0)
       (mix-same (s .1) (eq-refl (a (floorF x))) (eq-refl (a (sucℤ (floorF x)))))
 
   -- t may be 1: then x is the next whole number, and both mixes are its value
-  pub lin-eval : (x t : Fraction) (k : ℤ) → Unit01 t → x ≈ whole k +F t → lin a x ≈ mix t (a k) (a (sucℤ k))
+  pub lin-eval : (x t : Fraction) (k : ℤ) → Unit01 t → x ≈ whole k +F t → lin a x ≈ mixF t (a k) (a (sucℤ k))
   lin-eval x t k u h = ⊎-elim (λ (l : t <F frac 1 1). inside x t k (u .0) l h) border (lt-or-le t (frac 1 1))
     where
-      border : frac 1 1 ≤F t → lin a x ≈ mix t (a k) (a (sucℤ k))
+      border : frac 1 1 ≤F t → lin a x ≈ mixF t (a k) (a (sucℤ k))
       border l =
           let e : t ≈ frac 1 1 = le-antisym t (frac 1 1) (u .1) l in
           inside x (frac 0 1) (sucℤ k) (unit-zero .0) (record { lt = omega arith })
@@ -85,7 +85,7 @@ module _ (a : ℤ → Fraction) where
         within-like (back (there x h)) (back (there y l)) (eq-refl d)
         (mix-slope (x -F whole k) (y -F whole k) (a k) (a (sucℤ k)) d (u k) (u (sucℤ k)) moved)
       where
-        there : (z : Fraction) → In k z → lin a z ≈ mix (z -F whole k) (a k) (a (sucℤ k))
+        there : (z : Fraction) → In k z → lin a z ≈ mixF (z -F whole k) (a k) (a (sucℤ k))
         there z i =
             common (z ∷ whole k ∷ whole (sucℤ k) ∷ [])
             (λ D D0 ((_, _, Z), ((_, _, K), ((_, _, J), _))).

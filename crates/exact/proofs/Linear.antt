@@ -9,7 +9,7 @@ use lib.Ieee.Scale.{finite}
 use Rattle.exact.specs.Fraction.{Fraction, frac, value, _≤F_, _≈_, _+F_, _*F_, absF}
 use Rattle.exact.specs.Rounds.{Close}
 use Rattle.exact.specs.Double.{_⊗_}
-use Rattle.exact.specs.Sums.{linear, linearF, Coordinate, Linear}
+use Rattle.exact.specs.Sums.{linear, linearF, PixelCoordinate, Linear}
 use Rattle.exact.proofs.Near.{le-refl, le-trans}
 use Rattle.exact.proofs.Products.{eq-refl, mul-same}
 use Rattle.exact.proofs.Magnitude.{abs-alike}
@@ -19,7 +19,7 @@ use Rattle.exact.proofs.Sums.{Step, step-fine, add-near, mul-near}
 
 -- a product with a coordinate
 module _ {h B : Fraction} (step : Step binary64 h B) where
-  product-near : (m : Float) {x : Float} {X : Fraction} → T (finite m) → Coordinate x X → absF (value m *F X) ≤F B
+  product-near : (m : Float) {x : Float} {X : Fraction} → T (finite m) → PixelCoordinate x X → absF (value m *F X) ≤F B
       → Close (m ⊗ x) (value m *F X) h B
   product-near m {x} {X} t c k =
       let e : value m *F value x ≈ value m *F X = mul-same (eq-refl (value m)) (c .is) in
@@ -29,13 +29,14 @@ module _ {h B : Fraction} (step : Step binary64 h B) where
 
 module _ {h1 B1 h2 B2 h3 B3 : Fraction} (one : Step binary64 h1 B1) (two : Step binary64 h2 B2)
     (three : Step binary64 h3 B3) (k2 : B1 +F B1 ≤F B2) (k3 : B2 +F B1 ≤F B3) where
-  pub linear-near : {m n o x y : Float} {X Y : Fraction} → Coordinate x X → Coordinate y Y → Linear m n o X Y B1
+  pub linear-near : {m n o x y : Float} {X Y : Fraction} → PixelCoordinate x X → PixelCoordinate y Y
+      → Linear m n o X Y B1
       → Close (linear m n o x y) (linearF m n o X Y) (h3 +F (h2 +F (h1 +F h1) +F frac 0 1)) B3
   linear-near {m} {n} {o} c d L =
       add-near three (add-near two (product-near one m (L .number-m) c (L .term-x))
       (product-near one n (L .number-n) d (L .term-y)) k2) (close-own o B1 (L .number-o) (L .term-1)) k3
 
-module _ {x y : Float} {X Y : Fraction} (c : Coordinate x X) (d : Coordinate y Y) {m n o : Float} where
+module _ {x y : Float} {X Y : Fraction} (c : PixelCoordinate x X) (d : PixelCoordinate y Y) {m n o : Float} where
   pub linear-terms : Linear m n o X Y (frac 16384 1)
       → Close (linear m n o x y) (linearF m n o X Y) (frac 1 (2 ^ 37)) (frac 65536 1)
   linear-terms L =

@@ -11,7 +11,7 @@ use native.Mathlib.Nat.{mul-comm, mul-pos}
 use native.Mathlib.Omega.{arith}
 use lib.Ieee.{unlike}
 use Rattle.exact.specs.Fraction.{Fraction, over, _≤F_, _≈_, _*F_, absF, Within}
-use Rattle.exact.specs.Rounds.{signed}
+use Rattle.exact.specs.Rounds.{signedF}
 use Rattle.exact.proofs.Scale.{At, at-le, le-at, at-ratio, at-change, at-mul, at-more, over-pos, common}
 use Rattle.exact.proofs.Near.{at-abs, at-within, le-refl}
 use Rattle.exact.proofs.NearProducts.{abs-at, at-abs-le}
@@ -25,11 +25,11 @@ at-same {D} {x} {y} {p} {n} e X =
 abbrev pub Sized : ℕ → Fraction → Bool → ℕ → Type 0
 Sized D x s a = At D x (cond s 0 a) (cond s a 0)
 
-pub sized-signed : (s : Bool) (a c : ℕ) → 0 < c → Sized c (signed s a c) s a
+pub sized-signed : (s : Bool) (a c : ℕ) → 0 < c → Sized c (signedF s a c) s a
 sized-signed true a c C = at-ratio 0 a c C
 sized-signed false a c C = at-ratio a 0 c C
 
-pub sized-same : (s : Bool) (a c : ℕ) {x : Fraction} → 0 < c → signed s a c ≈ x → Sized c x s a
+pub sized-same : (s : Bool) (a c : ℕ) {x : Fraction} → 0 < c → signedF s a c ≈ x → Sized c x s a
 sized-same s a c C e = at-same e (sized-signed s a c C)
 
 pub sized-more : (s : Bool) (D a k : ℕ) {x : Fraction} → Sized D x s a → Sized (D * k) x s (a * k)

@@ -17,7 +17,7 @@ use lib.Ieee.Fits.{down-pos, round-fits}
 use lib.Ieee.Order.{drop, kept}
 use lib.Ieee.Scale.{grid, overflow, finite}
 use Rattle.exact.specs.Fraction.{Fraction, frac, value, _≤F_, _≈_, absF}
-use Rattle.exact.specs.Rounds.{signed, Rounds}
+use Rattle.exact.specs.Rounds.{signedF, Rounds}
 use Rattle.exact.proofs.Scale.{At, at-le, le-at}
 use Rattle.exact.proofs.Near.{eq-le, eq-sym, eq-trans, le-antisym}
 use Rattle.exact.proofs.GridOrder.{grid-mono, grid-zero}
@@ -77,7 +77,7 @@ module _ {f : Format} {r : Float} {X : Fraction} (R : Rounds f r X) where
   rounds-fits = subst (λ (z : Float). T (fits f z)) (sym (R .is)) (round-fits f (R .sign) (R .num) (R .den))
 
   pub rounds-fixed : (t : Bool) (q j : ℕ) → q ≤ 2 ^ prec f → q * 2 ^ j < overflow f
-      → X ≈ signed t (q * 2 ^ j) (2 ^ low f) → T (finite r) × (value r ≈ X)
+      → X ≈ signedF t (q * 2 ^ j) (2 ^ low f) → T (finite r) × (value r ≈ X)
   rounds-fixed t q j Q O e =
       let s = R .sign in
       let a = R .num in
@@ -85,10 +85,10 @@ module _ {f : Format} {r : Float} {X : Fraction} (R : Rounds f r X) where
       let n : a * 2 ^ low f ≡ q * 2 ^ j * c =
       level-sizes s (a * 2 ^ low f) t (q * 2 ^ j * c)
       (eq-signed s a c t (q * 2 ^ j) (2 ^ low f) (R .den-pos) (pow-pos (low f))
-      (eq-trans (signed s a c) X (signed t (q * 2 ^ j) (2 ^ low f)) (R .exact) e)) in
+      (eq-trans (signedF s a c) X (signedF t (q * 2 ^ j) (2 ^ low f)) (R .exact) e)) in
       let w = round-fixed f s a c q j (R .den-pos) Q O n in
       subst (λ (z : Float). T (finite z) × (value z ≈ X)) (sym (R .is))
-      (w .0, eq-trans (value (round f s a c)) (signed s a c) X (w .1) (R .exact))
+      (w .0, eq-trans (value (round f s a c)) (signedF s a c) X (w .1) (R .exact))
 
 -- ---- two roundings
 module _ {f : Format} {r : Float} {X : Fraction} (R : Rounds f r X) {q : Float} {Y : Fraction} (Q : Rounds f q Y) where

@@ -51,7 +51,7 @@ use Rattle.exact.specs.Fraction.{
   _/F_,
   absF,
 }
-use Rattle.exact.specs.Rounds.{Rounds, Close, power, half-ulp}
+use Rattle.exact.specs.Rounds.{Rounds, Close, powerF, half-ulp}
 use Rattle.exact.proofs.Scale.{At, lt-at, at-eq, at-add}
 use Rattle.exact.proofs.Near.{add-same}
 use Rattle.exact.proofs.Products.{at-zero}
@@ -178,18 +178,18 @@ int-value f (negsuc n) t =
 
 -- ---- an operation whose exact result is at most 2 ^ K units in size
 module _ (f : Format) (x y : Float) (p : T (finite x)) (q : T (finite y)) (K : ℕ) (top : K ≤ low f + emax f) where
-  pub add-close : absF (value x +F value y) ≤F power f K
-      → Close (add f x y) (value x +F value y) (half-ulp f K) (power f K)
+  pub add-close : absF (value x +F value y) ≤F powerF f K
+      → Close (add f x y) (value x +F value y) (half-ulp f K) (powerF f K)
   add-close h = rounds-within (add-rounds f x y p q) K top h
 
-  pub sub-close : absF (value x -F value y) ≤F power f K
-      → Close (sub f x y) (value x -F value y) (half-ulp f K) (power f K)
+  pub sub-close : absF (value x -F value y) ≤F powerF f K
+      → Close (sub f x y) (value x -F value y) (half-ulp f K) (powerF f K)
   sub-close h = rounds-within (sub-rounds f x y p q) K top h
 
-  pub mul-close : absF (value x *F value y) ≤F power f K
-      → Close (mul f x y) (value x *F value y) (half-ulp f K) (power f K)
+  pub mul-close : absF (value x *F value y) ≤F powerF f K
+      → Close (mul f x y) (value x *F value y) (half-ulp f K) (powerF f K)
   mul-close h = rounds-within (mul-rounds f x y p q) K top h
 
-  pub div-close : frac 0 1 <F absF (value y) → absF (value x /F value y) ≤F power f K
-      → Close (div f x y) (value x /F value y) (half-ulp f K) (power f K)
+  pub div-close : frac 0 1 <F absF (value y) → absF (value x /F value y) ≤F powerF f K
+      → Close (div f x y) (value x /F value y) (half-ulp f K) (powerF f K)
   div-close z h = rounds-within (div-rounds f x y p q z) K top h

@@ -14,7 +14,7 @@ use lib.Ieee.Scale.{finite}
 use Rattle.exact.specs.Fraction.{Fraction, frac, value, _≤F_, _<F_, _+F_, _*F_, _/F_, absF, Within}
 use Rattle.exact.specs.Rounds.{Close}
 use Rattle.exact.specs.Double.{_⊘_, leastDivisor}
-use Rattle.exact.specs.Sums.{linear, linearF, Coordinate, Linear}
+use Rattle.exact.specs.Sums.{linear, linearF, PixelCoordinate, Linear}
 use Rattle.exact.proofs.Scale.{at-le, le-at, at-add, common}
 use Rattle.exact.proofs.Near.{le-refl, le-trans, within-open, within-more}
 use Rattle.exact.proofs.Products.{lt-le-trans}
@@ -118,7 +118,7 @@ module _ {n d : Float} {N D r s : Fraction} (top : Close n N e r) (under : Close
       above = record { lt = lit< tt }
 
 -- of two sums of three terms
-module _ {x y : Float} {X Y : Fraction} (c : Coordinate x X) (d : Coordinate y Y) {m n o : Float}
+module _ {x y : Float} {X Y : Fraction} (c : PixelCoordinate x X) (d : PixelCoordinate y Y) {m n o : Float}
     (L : Linear m n o X Y (frac 4 1)) (h : frac 1 1024 ≤F linearF m n o X Y) where
   pub perspective-passes : le (linear m n o x y) leastDivisor ≡ false
   perspective-passes = denominator-passes (linear-small c d L) h

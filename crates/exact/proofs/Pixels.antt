@@ -12,9 +12,9 @@ use lib.Pow.{pow-pos, shl-lt}
 use lib.Ieee.{Float, binary64, ofBits, ofInt}
 use lib.Ieee.Scale.{finite, overflow}
 use Rattle.exact.specs.Fraction.{frac, whole, value, _≈_, _+F_}
-use Rattle.exact.specs.Rounds.{signed}
+use Rattle.exact.specs.Rounds.{signedF}
 use Rattle.exact.specs.Double.{_⊕_, half}
-use Rattle.exact.specs.Sums.{Coordinate, asked, askedF}
+use Rattle.exact.specs.Sums.{PixelCoordinate, asked, askedF}
 use Rattle.exact.proofs.Scale.{at-le, at-more, at-ratio}
 use Rattle.exact.proofs.Near.{add-same}
 use Rattle.exact.proofs.Products.{eq-refl, _⨟_, back}
@@ -55,7 +55,7 @@ abbrev halves : ℤ → ℕ
 halves (pos n) = 2 * n + 1
 halves (negsuc n) = 2 * n + 1
 
-half-value : (z : ℤ) → whole z +F frac 1 2 ≈ signed (below z) (halves z) 2
+half-value : (z : ℤ) → whole z +F frac 1 2 ≈ signedF (below z) (halves z) 2
 half-value (pos n) = unfold _+F_ in record { eq = omega arith }
 half-value (negsuc n) = unfold _+F_ in record { eq = omega arith }
 
@@ -67,7 +67,7 @@ half-most : (z : ℤ) → natAbs z ≤ 1052672 → halves z ≤ 4194304
 half-most (pos n) h = omega arith
 half-most (negsuc n) h = omega arith
 
-half-units : (s : Bool) (q : ℕ) → signed s q 2 ≈ signed s (q * 2 ^ 1073) (2 ^ 1074)
+half-units : (s : Bool) (q : ℕ) → signedF s q 2 ≈ signedF s (q * 2 ^ 1073) (2 ^ 1074)
 half-units s q = signed-scale s q 2 (q * 2 ^ 1073) (2 ^ 1074) (zero-lt-suc 1) (pow-pos 1074)
     (sym (mul-assoc q (2 ^ 1073) 2))
 
@@ -76,10 +76,10 @@ unfolding ofBits
 half-is = (tt, eq-refl (frac 1 2))
 
 module _ (z : ℤ) (h : natAbs z ≤ 1052672) where
-  half-exact : T (finite (ofInt binary64 z ⊕ half)) × (value (ofInt binary64 z ⊕ half) ≈ signed (below z) (halves z) 2)
+  half-exact : T (finite (ofInt binary64 z ⊕ half)) × (value (ofInt binary64 z ⊕ half) ≈ signedF (below z) (halves z) 2)
   half-exact =
       let w = int-value binary64 z (counted binary64 z (le-trans h (lit≤ tt))) in
-      let e : value (ofInt binary64 z) +F value half ≈ signed (below z) (halves z) 2 =
+      let e : value (ofInt binary64 z) +F value half ≈ signedF (below z) (halves z) 2 =
       add-same (value (ofInt binary64 z)) (whole z) (value half) (frac 1 2) (w .1) (half-is .1) ⨟ half-value z in
       let q = rounds-fixed (add-rounds binary64 (ofInt binary64 z) half (w .0) (half-is .0)) (below z) (halves z) 1073
       (le-trans (half-most z h) (lit≤ tt)) (under (halves z) (half-most z h))
@@ -102,8 +102,8 @@ module _ (i : ℕ) (o : ℤ) (I : i ≤ 4096) (O : natAbs o ≤ 1048576) where
       (ofInt-add binary64 (pos i) o (counted binary64 (pos i) (le-trans I (lit≤ tt)))
       (counted binary64 o (le-trans O (lit≤ tt))))
 
-  halved : T (finite (asked i o)) × (value (asked i o) ≈ signed (below (pos i +ℤ o)) (halves (pos i +ℤ o)) 2)
-  halved = subst⁻¹ (λ (r : Float). T (finite r) × (value r ≈ signed (below (pos i +ℤ o)) (halves (pos i +ℤ o)) 2))
+  halved : T (finite (asked i o)) × (value (asked i o) ≈ signedF (below (pos i +ℤ o)) (halves (pos i +ℤ o)) 2)
+  halved = subst⁻¹ (λ (r : Float). T (finite r) × (value r ≈ signedF (below (pos i +ℤ o)) (halves (pos i +ℤ o)) 2))
       is-int (half-exact (pos i +ℤ o) in-all)
 
   pub asked-exact : T (finite (asked i o)) × (value (asked i o) ≈ askedF i o)
@@ -113,7 +113,7 @@ module _ (i : ℕ) (o : ℤ) (I : i ≤ 4096) (O : natAbs o ≤ 1048576) where
         +F whole o) (frac 1 2) (frac 1 2) (whole-add i o) (eq-refl (frac 1 2)),
   )
 
-  pub asked-coordinate : Coordinate (asked i o) (askedF i o)
+  pub asked-coordinate : PixelCoordinate (asked i o) (askedF i o)
   asked-coordinate =
       let z : ℤ = pos i +ℤ o in
       let A = abs-sized 2 (zero-lt-suc 1) (below z) (halves z)

@@ -1,6 +1,6 @@
 -- Powers, monomials and terms of a polynomial at a coordinate from 1/2 to 2 ^ 21 in size: each product is one rounding
 -- more, so a monomial of degree up to 5 is exact but for a factor within 10 2 ^ -53 of 1; and a coefficient of any size
--- changes nothing about that, so a term of size up to 16,384 is near. Provides, of a `Coordinate` (specs/Sums):
+-- changes nothing about that, so a term of size up to 16,384 is near. Provides, of a `PixelCoordinate` (specs/Sums):
 -- `coordinate-relative`, `raised-relative`, `monomial-relative`, `product-relative` (x y); terms with a coefficient:
 -- `term`, `term-monomial`, `term-one`, `term-x`, `term-y`, `term-xy`, and `term-close` (within 11 2 ^ -39, at most
 -- 16,385 in size); `close-size`. Assumes nothing.
@@ -12,7 +12,7 @@ use lib.Ieee.Scale.{finite}
 use Rattle.exact.specs.Fraction.{Fraction, frac, value, _≤F_, _≈_, _+F_, _*F_, absF, Within}
 use Rattle.exact.specs.Rounds.{Close}
 use Rattle.exact.specs.Double.{_⊗_}
-use Rattle.exact.specs.Sums.{Coordinate, Term, raised, powF, Relative}
+use Rattle.exact.specs.Sums.{PixelCoordinate, Term, raised, powF, Relative}
 use Rattle.exact.proofs.Near.{le-refl, le-trans}
 use Rattle.exact.proofs.Products.{eq-refl, _⨟_, back, mul-same, mul-one, mul-assoc}
 use Rattle.exact.proofs.NearProducts.{abs-near}
@@ -28,7 +28,7 @@ use Rattle.exact.proofs.Relative.{
   relative-within,
 }
 
-pub coordinate-relative : {x : Float} {X : Fraction} → Coordinate x X → Relative x X 0 1
+pub coordinate-relative : {x : Float} {X : Fraction} → PixelCoordinate x X → Relative x X 0 1
 coordinate-relative {x} c = relative-along (relative-own x (c .number) 1 (c .least) (c .most)) (c .is)
 
 -- ---- powers by repeated squaring
@@ -45,7 +45,7 @@ module _ (X : Fraction) where
   five : X *F (X *F X *F (X *F X)) ≈ powF X 5
   five = unfold powF in mul-same (eq-refl X) four
 
-module _ {x : Float} {X : Fraction} (c : Coordinate x X) where
+module _ {x : Float} {X : Fraction} (c : PixelCoordinate x X) where
   square : Relative (x ⊗ x) (X *F X) 2 2
   square = relative-mul (coordinate-relative c) (coordinate-relative c) (lit≤ tt) (lit≤ tt) (lit≤ tt)
 
@@ -68,7 +68,7 @@ module _ {x : Float} {X : Fraction} (c : Coordinate x X) where
       past n h = omega arith
 
 -- ---- monomials: x ^ i y ^ j with i + j up to 5
-module _ {x y : Float} {X Y : Fraction} (c : Coordinate x X) (d : Coordinate y Y) where
+module _ {x y : Float} {X Y : Fraction} (c : PixelCoordinate x X) (d : PixelCoordinate y Y) where
   pub monomial-relative : (i j : ℕ) → i + j ≤ 5 → Relative (raised x i ⊗ raised y j) (powF X i *F powF Y j) 10 (i + j)
   monomial-relative i j h =
       relative-more (relative-mul (raised-relative c i (left i j h)) (raised-relative d j (right i j h)) (few i j h)
@@ -101,7 +101,8 @@ module _ {a : Float} {M : Fraction} {m k : ℕ} (R : Relative a M m k) (few : m 
   pub term : Term a M c
   term = record { degree = k; monomial = relative-more R 10 few; number = t; size = h }
 
-module _ {x y : Float} {X Y : Fraction} (p : Coordinate x X) (q : Coordinate y Y) (c : Float) (t : T (finite c)) where
+module _ {x y : Float} {X Y : Fraction} (p : PixelCoordinate x X) (q : PixelCoordinate y Y) (c : Float)
+    (t : T (finite c)) where
   pub term-monomial : (i j : ℕ) → i + j ≤ 5 → absF (powF X i *F powF Y j *F value c) ≤F frac 16384 1
       → Term (raised x i ⊗ raised y j) (powF X i *F powF Y j) c
   term-monomial i j l h = term (monomial-relative p q i j l) (lit≤ tt) c t h

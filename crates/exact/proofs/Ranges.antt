@@ -13,7 +13,7 @@ use lib.Pow.{pow-add, pow-pos, pow-mono, pow-lt}
 use lib.Ieee.{Float, Format, prec, emax, low, round}
 use lib.Ieee.Scale.{finite, overflow}
 use Rattle.exact.specs.Fraction.{Fraction, frac, value, _≤F_, _<F_, _≈_, _*F_, absF}
-use Rattle.exact.specs.Rounds.{signed, Rounds, Close, power, half-ulp}
+use Rattle.exact.specs.Rounds.{signedF, Rounds, Close, powerF, half-ulp}
 use Rattle.exact.proofs.Scale.{At, at-eq, at-mul, at-ratio}
 use Rattle.exact.proofs.Near.{le-refl, le-trans, lt-le, eq-le, eq-sym}
 use Rattle.exact.proofs.Products.{eq-refl, back, le-same, lt-le-trans}
@@ -31,11 +31,11 @@ level : {x y : ℕ} → x ≡ y → x + 0 ≡ y + 0
 level h = omega arith
 
 module _ (f : Format) where
-  pub power-mono : (i j : ℕ) → i ≤ j → power f i ≤F power f j
+  pub power-mono : (i j : ℕ) → i ≤ j → powerF f i ≤F powerF f j
   power-mono i j h = signed-le false (2 ^ i) (2 ^ low f) false (2 ^ j) (2 ^ low f) (pow-pos (low f)) (pow-pos (low f))
       (plain (mul-le-mul-right (2 ^ low f) (pow-mono h)))
 
-  pub least-power : (k : ℕ) → k ≤ low f → frac 1 (2 ^ k) ≈ power f (low f - k)
+  pub least-power : (k : ℕ) → k ≤ low f → frac 1 (2 ^ k) ≈ powerF f (low f - k)
   least-power k h =
       signed-eq false 1 (2 ^ k) false (2 ^ (low f - k)) (2 ^ low f) (pow-pos k) (pow-pos (low f))
       (level (one-mul (2 ^ low f) ∙ ap (λ (z : ℕ). 2 ^ z) (whole (low f) k h) ∙ pow-add 2 (low f - k) k))
@@ -43,7 +43,7 @@ module _ (f : Format) where
       whole : (l k : ℕ) → k ≤ l → l ≡ l - k + k
       whole l k h = omega arith
 
-  pub most-power : (n : ℕ) → frac (2 ^ n) 1 ≈ power f (low f + n)
+  pub most-power : (n : ℕ) → frac (2 ^ n) 1 ≈ powerF f (low f + n)
   most-power n =
       signed-eq false (2 ^ n) 1 false (2 ^ (low f + n)) (2 ^ low f) (zero-lt-suc 0) (pow-pos (low f))
       (level (mul-comm (2 ^ n) (2 ^ low f) ∙ sym (pow-add 2 (low f) n) ∙ sym (mul-one (2 ^ (low f + n)))))
@@ -77,16 +77,16 @@ abs-grow x = abs-open x (absF x) (le-refl (absF x) (absF x)) .0
 
 -- ---- rounding
 module _ {f : Format} {r : Float} {X : Fraction} (R : Rounds f r X) where
-  pub rounds-least : (K : ℕ) → K ≤ low f + emax f → power f K ≤F absF X → T (finite r) → power f K ≤F absF (value r)
+  pub rounds-least : (K : ℕ) → K ≤ low f + emax f → powerF f K ≤F absF X → T (finite r) → powerF f K ≤F absF (value r)
   rounds-least K top h t =
       let L = 2 ^ low f in
       let q = round f false (2 ^ K) L in
       let Q = rounds-self f false (2 ^ K) L (pow-pos (low f)) in
       let w = rounds-fixed Q false 1 K (pow-pos (prec f)) under own in
-      le-trans (power f K) (absF (value q)) (absF (value r))
-      (le-trans (power f K) (value q) (absF (value q))
-      (eq-le (power f K) (value q) (eq-sym (value q) (power f K) (w .1))) (abs-grow (value q)))
-      (rounds-abs Q R (w .0) t (le-trans (absF (power f K)) (power f K) (absF X) (abs-self (power f K) nonneg) h))
+      le-trans (powerF f K) (absF (value q)) (absF (value r))
+      (le-trans (powerF f K) (value q) (absF (value q))
+      (eq-le (powerF f K) (value q) (eq-sym (value q) (powerF f K) (w .1))) (abs-grow (value q)))
+      (rounds-abs Q R (w .0) t (le-trans (absF (powerF f K)) (powerF f K) (absF X) (abs-self (powerF f K) nonneg) h))
     where
       up : (K l e : ℕ) → K ≤ l + e → K < l + suc e
       up K l e h = omega arith
@@ -94,10 +94,10 @@ module _ {f : Format} {r : Float} {X : Fraction} (R : Rounds f r X) where
       under : 1 * 2 ^ K < overflow f
       under = subst (λ (z : ℕ). z < overflow f) (sym (one-mul (2 ^ K))) (pow-lt (up K (low f) (emax f) top))
 
-      own : power f K ≈ signed false (1 * 2 ^ K) (2 ^ low f)
-      own = subst (λ (z : ℕ). power f K ≈ signed false z (2 ^ low f)) (sym (one-mul (2 ^ K))) (eq-refl (power f K))
+      own : powerF f K ≈ signedF false (1 * 2 ^ K) (2 ^ low f)
+      own = subst (λ (z : ℕ). powerF f K ≈ signedF false z (2 ^ low f)) (sym (one-mul (2 ^ K))) (eq-refl (powerF f K))
 
-      nonneg : frac 0 1 ≤F power f K
+      nonneg : frac 0 1 ≤F powerF f K
       nonneg = signed-le false 0 1 false (2 ^ K) (2 ^ low f) (zero-lt-suc 0) (pow-pos (low f)) (go (2 ^ low f) (2 ^ K))
         where
           go : (a b : ℕ) → 0 * a + 0 ≤ b * 1 + 0
@@ -111,15 +111,15 @@ module _ {f : Format} {r : Float} {X : Fraction} (R : Rounds f r X) where
   rounds-range k n normal top h g =
       let lo = least-power f k (small (prec f - 1) k (low f) normal) in
       let hi = most-power f n in
-      let least : power f (low f - k) ≤F absF X = le-same lo (eq-refl (absF X)) h in
-      let c : Close r X (half-ulp f (low f + n)) (power f (low f + n)) =
+      let least : powerF f (low f - k) ≤F absF X = le-same lo (eq-refl (absF X)) h in
+      let c : Close r X (half-ulp f (low f + n)) (powerF f (low f + n)) =
       rounds-within R (low f + n) (more (low f) n (emax f) top) (le-same (eq-refl (absF X)) hi g) in (
         c .number,
         factor-near (value r) X (frac 1 (2 ^ prec f))
             (lt-le (frac 0 1) (frac 1 (2 ^ prec f)) (part-pos (2 ^ prec f) (pow-pos (prec f))))
             (lt-le-trans (part-pos (2 ^ k) (pow-pos k)) h)
             (rounds-normal R (c .number)
-            (le-trans (power f (prec f - 1)) (power f (low f - k)) (absF X)
+            (le-trans (powerF f (prec f - 1)) (powerF f (low f - k)) (absF X)
             (power-mono f (prec f - 1) (low f - k) (room (prec f - 1) k (low f) normal)) least)),
         le-same (back lo) (eq-refl (absF (value r)))
             (rounds-least (low f - k) (fewer (low f) k (emax f)) least (c .number)),

@@ -13,7 +13,7 @@ use lib.Ieee.{Format, prec, low, round}
 use lib.Ieee.Exact.{HasValue, round-exact}
 use lib.Ieee.Scale.{grid, overflow, finite}
 use Rattle.exact.specs.Fraction.{value, _≈_}
-use Rattle.exact.specs.Rounds.{signed}
+use Rattle.exact.specs.Rounds.{signedF}
 use Rattle.exact.proofs.Near.{eq-sym}
 use Rattle.exact.proofs.Formats.{prec-pos}
 use Rattle.exact.proofs.Magnitude.{Sized, sized-same}
@@ -24,19 +24,19 @@ module _ (f : Format) (s : Bool) (a c : ℕ) where
   pub round-finite : grid f a c < overflow f → T (finite (round f s a c))
   round-finite h = has-finite (round f s a c) s (grid f a c) (2 ^ low f) (round-has f s a c h)
 
-  pub round-value : T (finite (round f s a c)) → value (round f s a c) ≈ signed s (grid f a c) (2 ^ low f)
+  pub round-value : T (finite (round f s a c)) → value (round f s a c) ≈ signedF s (grid f a c) (2 ^ low f)
   round-value t = has-value (round f s a c) s (grid f a c) (2 ^ low f) (pow-pos (low f))
       (round-has f s a c (round-under f s a c t))
 
   pub round-sized : T (finite (round f s a c)) → Sized (2 ^ low f) (value (round f s a c)) s (grid f a c)
   round-sized t =
       sized-same s (grid f a c) (2 ^ low f) (pow-pos (low f))
-      (eq-sym (value (round f s a c)) (signed s (grid f a c) (2 ^ low f)) (round-value t))
+      (eq-sym (value (round f s a c)) (signedF s (grid f a c) (2 ^ low f)) (round-value t))
 
 -- ---- exact: a / c is q * 2 ^ j units, with no more digits in q than the format keeps
 pub round-fixed : (f : Format) (s : Bool) (a c q j : ℕ) → 0 < c → q ≤ 2 ^ prec f → q * 2 ^ j < overflow f
     → a * 2 ^ low f ≡ q * 2 ^ j * c
-    → T (finite (round f s a c)) × (value (round f s a c) ≈ signed s a c)
+    → T (finite (round f s a c)) × (value (round f s a c) ≈ signedF s a c)
 round-fixed f s a c q j C Q O e =
     let v : HasValue (round f s a c) s a c =
     elim (eq-or-lt-of-le Q) [ inl h ↦ top h | inr h ↦ round-exact f s a c q j C h O e ] in

@@ -13,7 +13,7 @@ use lib.Pow.{pow-pos, pow-lt}
 use lib.Ieee.{Float, Format, prec, emax, low, round}
 use lib.Ieee.Scale.{grid, finite}
 use Rattle.exact.specs.Fraction.{Fraction, frac, value, _≤F_, _≈_, _+F_, _*F_, absF, Within}
-use Rattle.exact.specs.Rounds.{signed, Rounds, Close, least-normal, power, half-ulp}
+use Rattle.exact.specs.Rounds.{signedF, Rounds, Close, least-normal, powerF, half-ulp}
 use Rattle.exact.proofs.Scale.{At, at-ratio, at-add, at-mul, at-more}
 use Rattle.exact.proofs.Near.{eq-trans}
 use Rattle.exact.proofs.Ulp.{grid-under, grid-sharp, grid-relative, grid-normal}
@@ -21,7 +21,7 @@ use Rattle.exact.proofs.Magnitude.{Sized, sized-same, sized-more, size-
 use Rattle.exact.proofs.Formats.{prec-pos}
 use Rattle.exact.proofs.Rounding.{round-finite, round-sized}
 
-pub rounds-self : (f : Format) (s : Bool) (a c : ℕ) → 0 < c → Rounds f (round f s a c) (signed s a c)
+pub rounds-self : (f : Format) (s : Bool) (a c : ℕ) → 0 < c → Rounds f (round f s a c) (signedF s a c)
 rounds-self f s a c C = record { sign = s; num = a; den = c; den-pos = C; is = refl; exact = record { eq = refl } }
 
 pub rounds-along : {f : Format} {r : Float} {X Y : Fraction} → X ≈ Y → Rounds f r X → Rounds f r Y
@@ -31,24 +31,24 @@ rounds-along {X = X} {Y = Y} e R = record {
   den = R .den;
   den-pos = R .den-pos;
   is = R .is;
-  exact = eq-trans (signed (R .sign) (R .num) (R .den)) X Y (R .exact) e;
+  exact = eq-trans (signedF (R .sign) (R .num) (R .den)) X Y (R .exact) e;
 }
 
 -- ---- of `round f s a c`, for an X that is a / c
-module _ (f : Format) (s : Bool) (a c : ℕ) (C : 0 < c) (X : Fraction) (x : signed s a c ≈ X) where
+module _ (f : Format) (s : Bool) (a c : ℕ) (C : 0 < c) (X : Fraction) (x : signedF s a c ≈ X) where
   sized : Sized c X s a
   sized = sized-same s a c C x
 
   -- |X| ≤ 2 ^ K units
-  under : (K : ℕ) → absF X ≤F power f K → a * 2 ^ low f ≤ 2 ^ K * c
+  under : (K : ℕ) → absF X ≤F powerF f K → a * 2 ^ low f ≤ 2 ^ K * c
   under K h =
       let L = 2 ^ low f in
       le-size (c * L) (mul-pos C (pow-pos (low f))) (sized-more false c a L (abs-sized c C s a sized))
-      (subst (λ (z : ℕ). At z (power f K) (2 ^ K * c) 0) (mul-comm L c)
+      (subst (λ (z : ℕ). At z (powerF f K) (2 ^ K * c) 0) (mul-comm L c)
       (sized-more false L (2 ^ K) c (at-ratio (2 ^ K) 0 L (pow-pos (low f))))) h
 
   pub round-within : (K : ℕ) → K ≤ low f + emax f → a * 2 ^ low f ≤ 2 ^ K * c
-      → Close (round f s a c) X (half-ulp f K) (power f K)
+      → Close (round f s a c) X (half-ulp f K) (powerF f K)
   round-within K top n =
       let L = 2 ^ low f in
       let g = grid f a c in
@@ -140,9 +140,9 @@ module _ (f : Format) (s : Bool) (a c : ℕ) (C : 0 < c) (X : Fraction) (x : sig
 
 -- ---- of a rounding
 module _ {f : Format} {r : Float} {X : Fraction} (R : Rounds f r X) where
-  pub rounds-within : (K : ℕ) → K ≤ low f + emax f → absF X ≤F power f K → Close r X (half-ulp f K) (power f K)
+  pub rounds-within : (K : ℕ) → K ≤ low f + emax f → absF X ≤F powerF f K → Close r X (half-ulp f K) (powerF f K)
   rounds-within K top h =
-      subst (λ (z : Float). Close z X (half-ulp f K) (power f K)) (sym (R .is))
+      subst (λ (z : Float). Close z X (half-ulp f K) (powerF f K)) (sym (R .is))
       (round-within f (R .sign) (R .num) (R .den) (R .den-pos) X (R .exact) K top
       (under f (R .sign) (R .num) (R .den) (R .den-pos) X (R .exact) K h))
 

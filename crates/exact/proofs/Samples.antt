@@ -1,7 +1,7 @@
 -- Samples from 0 to 1, step by step: one rounding of a value from 0 to 1 keeps it there and adds half a unit of 2 ^
 -- -24; a product of two such values adds their errors. Errors are counted in halves of a unit, so that a chain's error
 -- is a sum of numerals. Provides: `halves`, `at-halves`, `halves-add`, `halves-le`, `halves-nonneg`, `halves-units`; of
--- `one` and `start`: `one-number`, `one-value`, `start-number`, `start-value`; `sample-own`, `sample-more`,
+-- `one` and `zero`: `one-number`, `one-value`, `zero-number`, `zero-value`; `sample-own`, `sample-more`,
 -- `sample-along`, `sample-round`, `sample-rest` (1 - t), `sample-mul`. Assumes nothing.
 use mathlib.Core.Path.{refl}
 use Prim.Native.Nat.{ℕ, _+_, _*_, _^_, _≤_, _<_}
@@ -11,8 +11,8 @@ use lib.Ieee.{Float, binary32, ofBits}
 use lib.Ieee.Scale.{finite}
 use Rattle.exact.specs.Fraction.{Fraction, frac, value, _≤F_, _≈_, _+F_, _-F_, _*F_, Within, Unit01}
 use Rattle.exact.specs.Rounds.{Rounds}
-use Rattle.exact.specs.Single.{_⊖_, _⊗_}
-use Rattle.exact.specs.Weighted.{one, start, units24, Unit32, Sample}
+use Rattle.exact.specs.Single.{_⊖_, _⊗_, zero}
+use Rattle.exact.specs.Weighted.{one, units24, Unit32, Sample}
 use Rattle.exact.proofs.Scale.{At, at-le, at-eq, at-ratio, at-add}
 use Rattle.exact.proofs.Near.{within-same, within-more, within-trans}
 use Rattle.exact.proofs.Products.{eq-refl, at-zero, sub-same, unit-mul, unit-rest}
@@ -57,13 +57,13 @@ pub one-value : value one ≈ frac 1 1
 unfolding ofBits
 one-value = record { eq = refl }
 
-pub start-number : T (finite start)
+pub zero-number : T (finite zero)
 unfolding ofBits
-start-number = tt
+zero-number = tt
 
-pub start-value : value start ≈ frac 0 1
+pub zero-value : value zero ≈ frac 0 1
 unfolding ofBits
-start-value = record { eq = refl }
+zero-value = record { eq = refl }
 
 -- ---- from sample to sample
 pub sample-own : {r : Float} → Unit32 r → Sample r (value r) (halves 0)

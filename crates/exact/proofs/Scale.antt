@@ -22,7 +22,7 @@ use native.Mathlib.Nat.{
   le-trans,
 }
 use native.Mathlib.Omega.{arith}
-use Rattle.exact.specs.Fraction.{Fraction, over, ratio, _≤F_, _<F_, _≈_, both, negF, _+F_, _-F_, _*F_}
+use Rattle.exact.specs.Fraction.{Fraction, over, ratio, _≤F_, _<F_, _≈_, underBoth, negF, _+F_, _-F_, _*F_}
 
 pub record At (D : ℕ) (x : Fraction) (p n : ℕ) : Type 0 where
   pub at : x .plus * D + n * over x ≡ p * over x + x .minus * D
@@ -142,7 +142,8 @@ at-add {D} {x} {y} {p} {n} {q} {m} X Y =
     record { at = go (x .plus) (x .minus) (x .under) (y .plus) (y .minus) (y .under) D p n q m (X .at) (Y .at) }
   where
     go : (a b u c f v D p n q m : ℕ) → a * D + n * suc u ≡ p * suc u + b * D → c * D + m * suc v ≡ q * suc v + f * D
-        → (a * suc v + c * suc u) * D + (n + m) * suc (both u v) ≡ (p + q) * suc (both u v) + (b * suc v + f * suc u) *
+        → (a * suc v + c * suc u) * D + (n + m) * suc (underBoth u v) ≡ (p + q) * suc (underBoth u v)
+        + (b * suc v + f * suc u) *
         D
     go a b u c f v D p n q m h k =
         let h' : (a * D + n * suc u) * suc v ≡ (p * suc u + b * D) * suc v = times (suc v) h in
@@ -170,15 +171,15 @@ at-mul {D} {E} {x} {y} {p} {n} {q} {m} X Y =
     record { at = go (x .plus) (x .minus) (x .under) (y .plus) (y .minus) (y .under) D E p n q m (X .at) (Y .at) }
   where
     left : (a b c f D E p m n q s t : ℕ)
-        → (a * c + b * f) * (D * E) + (p * m + n * q) * (s * t) ≡ a * D * (c * E) + b * D * (f * E) +
-        (p * s * (m * t) + n * s * (q * t))
+        → (a * c + b * f) * (D * E) + (p * m + n * q) * (s * t) ≡ a * D * (c * E) + b * D * (f * E)
+        + (p * s * (m * t) + n * s * (q * t))
     left a b c f D E p m n q s t = omega arith
 
     go : (a b u c f v D E p n q m : ℕ) → a * D + n * suc u ≡ p * suc u + b * D → c * E + m * suc v ≡ q * suc v + f * E
-        → (a * c + b * f) * (D * E) + (p * m + n * q) * suc (both u v) ≡ (p * q + n * m) * suc (both u v) +
-        (a * f + b * c) * (D * E)
+        → (a * c + b * f) * (D * E) + (p * m + n * q) * suc (underBoth u v) ≡ (p * q + n * m) * suc (underBoth u v)
+        + (a * f + b * c) * (D * E)
     go a b u c f v D E p n q m h k =
-        let w : suc (both u v) ≡ suc u * suc v = omega arith in
+        let w : suc (underBoth u v) ≡ suc u * suc v = omega arith in
         ap (λ (z : ℕ). (a * c + b * f) * (D * E) + (p * m + n * q) * z) w
         ∙ left a b c f D E p m n q (suc u) (suc v)
         ∙ products (a * D) (b * D) (c * E) (f * E) (p * suc u) (n * suc u) (q * suc v) (m * suc v) h k

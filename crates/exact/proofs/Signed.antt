@@ -16,13 +16,13 @@ use lib.Ieee.Fits.{down-pos, eq→eqb, and-i, and-l, and-r}
 use lib.Ieee.Exact.{HasValue}
 use lib.Ieee.Scale.{finite}
 use Rattle.exact.specs.Fraction.{ratio, value, negF, _≤F_, _<F_, _≈_}
-use Rattle.exact.specs.Rounds.{signed}
+use Rattle.exact.specs.Rounds.{signedF}
 use Rattle.exact.proofs.Scale.{At, at-le, le-at, at-lt, lt-at, at-eq, eq-at, at-more, at-ratio}
 use Rattle.exact.proofs.Near.{lt-le, eq-le}
 use Rattle.exact.proofs.Products.{eq-refl}
 
 -- ---- at a scale
-pub signed-at : (s : Bool) (a c k : ℕ) → 0 < c → At (c * k) (signed s a c) (cond s 0 (a * k)) (cond s (a * k) 0)
+pub signed-at : (s : Bool) (a c k : ℕ) → 0 < c → At (c * k) (signedF s a c) (cond s 0 (a * k)) (cond s (a * k) 0)
 signed-at true a c k C =
     subst (λ (z : ℕ). At (c * k) (ratio 0 a c) z (a * k)) (zero-mul k) (at-more c k (at-ratio 0 a c C))
 signed-at false a c k C =
@@ -39,29 +39,29 @@ abbrev pub Level : Bool → ℕ → Bool → ℕ → Type 0
 Level s x t y = cond s 0 x + cond t y 0 ≡ cond t 0 y + cond s x 0
 
 module _ (s : Bool) (a c : ℕ) (t : Bool) (b d : ℕ) (C : 0 < c) (D : 0 < d) where
-  left : At (c * d) (signed s a c) (cond s 0 (a * d)) (cond s (a * d) 0)
+  left : At (c * d) (signedF s a c) (cond s 0 (a * d)) (cond s (a * d) 0)
   left = signed-at s a c d C
 
-  right : At (c * d) (signed t b d) (cond t 0 (b * c)) (cond t (b * c) 0)
-  right = subst (λ (z : ℕ). At z (signed t b d) (cond t 0 (b * c)) (cond t (b * c) 0)) (mul-comm d c)
+  right : At (c * d) (signedF t b d) (cond t 0 (b * c)) (cond t (b * c) 0)
+  right = subst (λ (z : ℕ). At z (signedF t b d) (cond t 0 (b * c)) (cond t (b * c) 0)) (mul-comm d c)
       (signed-at t b d c D)
 
-  pub signed-le : Lower s (a * d) t (b * c) → signed s a c ≤F signed t b d
+  pub signed-le : Lower s (a * d) t (b * c) → signedF s a c ≤F signedF t b d
   signed-le h = at-le (c * d) (mul-pos C D) left right h
 
-  pub le-signed : signed s a c ≤F signed t b d → Lower s (a * d) t (b * c)
+  pub le-signed : signedF s a c ≤F signedF t b d → Lower s (a * d) t (b * c)
   le-signed h = le-at (c * d) (mul-pos C D) left right h
 
-  pub signed-lt : Less s (a * d) t (b * c) → signed s a c <F signed t b d
+  pub signed-lt : Less s (a * d) t (b * c) → signedF s a c <F signedF t b d
   signed-lt h = at-lt (c * d) (mul-pos C D) left right h
 
-  pub lt-signed : signed s a c <F signed t b d → Less s (a * d) t (b * c)
+  pub lt-signed : signedF s a c <F signedF t b d → Less s (a * d) t (b * c)
   lt-signed h = lt-at (c * d) (mul-pos C D) left right h
 
-  pub signed-eq : Level s (a * d) t (b * c) → signed s a c ≈ signed t b d
+  pub signed-eq : Level s (a * d) t (b * c) → signedF s a c ≈ signedF t b d
   signed-eq h = at-eq (c * d) (mul-pos C D) left right h
 
-  pub eq-signed : signed s a c ≈ signed t b d → Level s (a * d) t (b * c)
+  pub eq-signed : signedF s a c ≈ signedF t b d → Level s (a * d) t (b * c)
   eq-signed h = eq-at (c * d) (mul-pos C D) left right h
 
 level-self : (s : Bool) (x y : ℕ) → x ≡ y → Level s x s y
@@ -69,15 +69,15 @@ level-self true x y e = omega arith
 level-self false x y e = omega arith
 
 -- a / c and b / d are one fraction
-pub signed-scale : (s : Bool) (a c b d : ℕ) → 0 < c → 0 < d → a * d ≡ b * c → signed s a c ≈ signed s b d
+pub signed-scale : (s : Bool) (a c b d : ℕ) → 0 < c → 0 < d → a * d ≡ b * c → signedF s a c ≈ signedF s b d
 signed-scale s a c b d C D e = signed-eq s a c s b d C D (level-self s (a * d) (b * c) e)
 
 -- ---- a float's value
-pub has-value : (x : Float) (s : Bool) (a c : ℕ) → 0 < c → HasValue x s a c → value x ≈ signed s a c
+pub has-value : (x : Float) (s : Bool) (a c : ℕ) → 0 < c → HasValue x s a c → value x ≈ signedF s a c
 has-value nan s a c C v = absurd v
 has-value (inf t) s a c C v = absurd v
 has-value (fin t m e) s a c C v =
-    subst (λ (z : Bool). signed t (m * up e) (down e) ≈ signed z a c) (v .0)
+    subst (λ (z : Bool). signedF t (m * up e) (down e) ≈ signedF z a c) (v .0)
     (signed-scale t (m * up e) (down e) a c (down-pos e) C (v .1))
 
 pub has-finite : (x : Float) (s : Bool) (a c : ℕ) → HasValue x s a c → T (finite x)

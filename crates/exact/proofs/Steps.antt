@@ -10,7 +10,7 @@ use lib.Dec.{T}
 use lib.Ieee.{Float, Format, emax, low, add, sub, mul, div}
 use lib.Ieee.Scale.{finite}
 use Rattle.exact.specs.Fraction.{Fraction, frac, value, _≤F_, _<F_, _≈_, _+F_, _-F_, _*F_, _/F_, absF, Within}
-use Rattle.exact.specs.Rounds.{Close, power, half-ulp}
+use Rattle.exact.specs.Rounds.{Close, powerF, half-ulp}
 use Rattle.exact.proofs.Scale.{at-add, at-sub, common}
 use Rattle.exact.proofs.Near.{
   le-refl,
@@ -88,40 +88,40 @@ abs-div x y b l l0 ly h =
 
 module _ (f : Format) {x y : Float} {X Y e g b d : Fraction} (c : Close x X e b) (c' : Close y Y g d) (K : ℕ)
     (top : K ≤ low f + emax f) where
-  pub add-step : b +F d ≤F power f K → Close (add f x y) (X +F Y) (half-ulp f K +F (e +F g)) (power f K)
+  pub add-step : b +F d ≤F powerF f K → Close (add f x y) (X +F Y) (half-ulp f K +F (e +F g)) (powerF f K)
   add-step h =
       close-move
       (add-close f x y (c .number) (c' .number) K top
-      (le-trans (absF (value x +F value y)) (b +F d) (power f K)
+      (le-trans (absF (value x +F value y)) (b +F d) (powerF f K)
       (abs-add (value x) (value y) b d (c .small) (c' .small)) h))
       (within-add (value x) X (value y) Y e g (c .near) (c' .near))
 
-  pub sub-step : b +F d ≤F power f K → Close (sub f x y) (X -F Y) (half-ulp f K +F (e +F g)) (power f K)
+  pub sub-step : b +F d ≤F powerF f K → Close (sub f x y) (X -F Y) (half-ulp f K +F (e +F g)) (powerF f K)
   sub-step h =
       close-move
       (sub-close f x y (c .number) (c' .number) K top
-      (le-trans (absF (value x -F value y)) (b +F d) (power f K)
+      (le-trans (absF (value x -F value y)) (b +F d) (powerF f K)
       (abs-sub (value x) (value y) b d (c .small) (c' .small)) h))
       (within-sub (value x) X (value y) Y e g (c .near) (c' .near))
 
   -- a bounds the exact first factor
-  pub mul-step : b *F d ≤F power f K → (a : Fraction) → absF X ≤F a
-      → Close (mul f x y) (X *F Y) (half-ulp f K +F (e *F d +F a *F g)) (power f K)
+  pub mul-step : b *F d ≤F powerF f K → (a : Fraction) → absF X ≤F a
+      → Close (mul f x y) (X *F Y) (half-ulp f K +F (e *F d +F a *F g)) (powerF f K)
   mul-step h a k =
       close-move
       (mul-close f x y (c .number) (c' .number) K top
-      (le-trans (absF (value x *F value y)) (b *F d) (power f K)
+      (le-trans (absF (value x *F value y)) (b *F d) (powerF f K)
       (abs-mul (value x) (value y) b d (c .small) (c' .small)) h))
       (within-mul (value x) X (value y) Y e g a d k (c' .small) (c .near) (c' .near))
 
   -- both divisors are above 0, the rounded one at least l; q bounds the exact quotient
-  pub div-step : (l q : Fraction) → frac 0 1 <F l → l ≤F value y → frac 0 1 <F Y → b /F l ≤F power f K
+  pub div-step : (l q : Fraction) → frac 0 1 <F l → l ≤F value y → frac 0 1 <F Y → b /F l ≤F powerF f K
       → absF (X /F Y) ≤F q
-      → Close (div f x y) (X /F Y) (half-ulp f K +F (e +F q *F g) /F l) (power f K)
+      → Close (div f x y) (X /F Y) (half-ulp f K +F (e +F q *F g) /F l) (powerF f K)
   div-step l q l0 ly Y0 h k =
       close-move
       (div-close f x y (c .number) (c' .number) K top
       (lt-le-trans (lt-le-trans l0 ly)
       (abs-open (value y) (absF (value y)) (le-refl (absF (value y)) (value y)) .0))
-      (le-trans (absF (value x /F value y)) (b /F l) (power f K) (abs-div (value x) (value y) b l l0 ly (c .small)) h))
+      (le-trans (absF (value x /F value y)) (b /F l) (powerF f K) (abs-div (value x) (value y) b l l0 ly (c .small)) h))
       (within-div (value x) X (value y) Y e g l q l0 ly Y0 k (c .near) (c' .near))

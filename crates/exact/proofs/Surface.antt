@@ -2,7 +2,7 @@
 -- Provides: `surface-unit`, `surface-near`, `surface-move`, `surface-eval`, `surface-same`. Assumes nothing.
 use lib.IntN.{ℤ, sucℤ}
 use Rattle.exact.specs.Fraction.{Fraction, whole, _≈_, _+F_, Within, Unit01}
-use Rattle.exact.specs.Surface.{mix, lin, surface}
+use Rattle.exact.specs.Surface.{mixF, lin, surface}
 use Rattle.exact.proofs.Near.{within-trans}
 use Rattle.exact.proofs.Products.{eq-refl, _⨟_}
 use Rattle.exact.proofs.Mix.{mix-same}
@@ -33,7 +33,7 @@ module _ (a : ℤ → ℤ → Fraction) where
 
   -- in any cell that the point touches: the fractions may be 1
   pub surface-eval : (x y t s : Fraction) (k l : ℤ) → Unit01 t → Unit01 s → x ≈ whole k +F t → y ≈ whole l +F s
-      → surface a x y ≈ mix s (mix t (a k l) (a (sucℤ k) l)) (mix t (a k (sucℤ l)) (a (sucℤ k) (sucℤ l)))
+      → surface a x y ≈ mixF s (mixF t (a k l) (a (sucℤ k) l)) (mixF t (a k (sucℤ l)) (a (sucℤ k) (sucℤ l)))
   unfolding surface
   surface-eval x y t s k l u v h g =
       lin-eval (along a x) y s l v g ⨟ mix-same (eq-refl s) (lin-eval (row a l) x t k u h)

@@ -10,8 +10,8 @@ use native.Mathlib.Omega.{arith}
 use lib.Dec.{eqb}
 use lib.IntN.{ℤ, pos, negsuc, sucℤ}
 use Rattle.exact.specs.Fraction.{Fraction, frac, ratio, whole, _≤F_, _≈_, _+F_, _-F_, _*F_, Within, Unit01}
-use Rattle.exact.specs.Surface.{mix, surface}
-use Rattle.exact.specs.Blend.{weights, dot, blend, folded, fourAround, Pairwise}
+use Rattle.exact.specs.Surface.{mixF, surface}
+use Rattle.exact.specs.Blend.{weightsF, dotF, blendF, foldedF, fourAround, Pairwise}
 use Rattle.exact.proofs.Scale.{at-eq, at-add, common}
 use Rattle.exact.proofs.Near.{within-trans}
 use Rattle.exact.proofs.Products.{eq-refl, _⨟_, back, at-zero}
@@ -22,29 +22,29 @@ use Rattle.exact.proofs.Dot.{dot-same}
 use Rattle.exact.proofs.Blend.{blend-near, blend-fold, blend-one}
 
 -- ---- two axes and three
-pub bilinear : (t s a b c d : Fraction) → blend (t ∷ s ∷ []) (a ∷ b ∷ c ∷ d ∷ []) ≈ mix s (mix t a b) (mix t c d)
-unfolding folded
+pub bilinear : (t s a b c d : Fraction) → blendF (t ∷ s ∷ []) (a ∷ b ∷ c ∷ d ∷ []) ≈ mixF s (mixF t a b) (mixF t c d)
+unfolding foldedF
 bilinear t s a b c d =
-    blend-fold t (s ∷ []) (a ∷ b ∷ c ∷ d ∷ []) ⨟ blend-fold s [] (mix t a b ∷ mix t c d ∷ []) ⨟ blend-one
-    (mix s (mix t a b) (mix t c d))
+    blend-fold t (s ∷ []) (a ∷ b ∷ c ∷ d ∷ []) ⨟ blend-fold s [] (mixF t a b ∷ mixF t c d ∷ []) ⨟ blend-one
+    (mixF s (mixF t a b) (mixF t c d))
 
 pub trilinear : (t s r a b c d a' b' c' d' : Fraction)
-    → blend (t ∷ s ∷ r ∷ []) (a ∷ b ∷ c ∷ d ∷ a' ∷ b' ∷ c' ∷ d' ∷ []) ≈ mix r (mix s (mix t a b) (mix t c d))
-    (mix s (mix t a' b') (mix t c' d'))
-unfolding folded
+    → blendF (t ∷ s ∷ r ∷ []) (a ∷ b ∷ c ∷ d ∷ a' ∷ b' ∷ c' ∷ d' ∷ []) ≈ mixF r (mixF s (mixF t a b) (mixF t c d))
+    (mixF s (mixF t a' b') (mixF t c' d'))
+unfolding foldedF
 trilinear t s r a b c d a' b' c' d' =
-    blend-fold t (s ∷ r ∷ []) (a ∷ b ∷ c ∷ d ∷ a' ∷ b' ∷ c' ∷ d' ∷ []) ⨟ bilinear s r (mix t a b) (mix t c d)
-    (mix t a' b') (mix t c' d')
+    blend-fold t (s ∷ r ∷ []) (a ∷ b ∷ c ∷ d ∷ a' ∷ b' ∷ c' ∷ d' ∷ []) ⨟ bilinear s r (mixF t a b) (mixF t c d)
+    (mixF t a' b') (mixF t c' d')
 
 -- the sum of four taps, from the left
 pub four-taps : (t s a b c d : Fraction)
-    → blend (t ∷ s ∷ []) (a ∷ b ∷ c ∷ d ∷ []) ≈ (frac 1 1 -F t) *F (frac 1 1 -F s) *F a +F t *F (frac 1 1 -F s) *F b
+    → blendF (t ∷ s ∷ []) (a ∷ b ∷ c ∷ d ∷ []) ≈ (frac 1 1 -F t) *F (frac 1 1 -F s) *F a +F t *F (frac 1 1 -F s) *F b
     +F (frac 1 1 -F t) *F s *F c +F t *F s *F d
-unfolding blend dot
+unfolding blendF dotF
 four-taps t s a b c d =
     let t' : Fraction = frac 1 1 -F t in
     let s' : Fraction = frac 1 1 -F s in
-    dot-same (weights (t ∷ s ∷ [])) ((t' *F s') ∷ (t *F s') ∷ (t' *F s) ∷ (t *F s) ∷ []) (a ∷ b ∷ c ∷ d ∷ []) (a ∷ b
+    dot-same (weightsF (t ∷ s ∷ [])) ((t' *F s') ∷ (t *F s') ∷ (t' *F s) ∷ (t *F s) ∷ []) (a ∷ b ∷ c ∷ d ∷ []) (a ∷ b
     ∷ c ∷ d ∷ []) (weights-two t s)
     (eq-refl a, (eq-refl b, (eq-refl c, (eq-refl d, tt))))
     ⨟ left (t' *F s' *F a) (t *F s' *F b) (t' *F s *F c) (t *F s *F d)
@@ -59,7 +59,7 @@ four-taps t s a b c d =
 -- ---- the surface is the blend of the four values around the point, in any cell that the point touches
 module _ (a : ℤ → ℤ → Fraction) where
   pub surface-blend : (x y t s : Fraction) (k l : ℤ) → Unit01 t → Unit01 s → x ≈ whole k +F t → y ≈ whole l +F s
-      → surface a x y ≈ blend (t ∷ s ∷ []) (fourAround a k l)
+      → surface a x y ≈ blendF (t ∷ s ∷ []) (fourAround a k l)
   surface-blend x y t s k l u v h g =
       surface-eval a x y t s k l u v h g ⨟ back
       (bilinear t s (a k l) (a (sucℤ k) l) (a k (sucℤ l)) (a (sucℤ k) (sucℤ l)))
@@ -69,22 +69,22 @@ module _ (a : ℤ → ℤ → Fraction) where
       → Unit01 s
       → Within (whole k +F t) x d → Within (whole l +F s) y e → frac 0 1 ≤F c
       → Pairwise (λ v w. Within v w c) vs (fourAround a k l)
-      → Within (blend (t ∷ s ∷ []) vs) (surface a x y) (c +F (d +F e))
+      → Within (blendF (t ∷ s ∷ []) vs) (surface a x y) (c +F (d +F e))
   taps-near values x y t s d e c k l vs u v h g c0 near =
-      within-trans (blend (t ∷ s ∷ []) vs) (blend (t ∷ s ∷ []) (fourAround a k l)) (surface a x y) c (d +F e)
+      within-trans (blendF (t ∷ s ∷ []) vs) (blendF (t ∷ s ∷ []) (fourAround a k l)) (surface a x y) c (d +F e)
       (blend-near (t ∷ s ∷ []) (u, (v, tt)) vs (fourAround a k l) c c0 near)
       (within-like (surface-blend (whole k +F t) (whole l +F s) t s k l u v (eq-refl (whole k +F t))
       (eq-refl (whole l +F s))) (eq-refl (surface a x y)) (eq-refl (d +F e))
       (surface-move a values (whole k +F t) x (whole l +F s) y d e h g))
 
 -- ---- by example
-halfway : blend (frac 1 2 ∷ frac 1 4 ∷ []) (frac 0 1 ∷ frac 1 1 ∷ frac 0 1 ∷ frac 1 1 ∷ []) ≈ frac 1 2
-unfolding blend
+halfway : blendF (frac 1 2 ∷ frac 1 4 ∷ []) (frac 0 1 ∷ frac 1 1 ∷ frac 0 1 ∷ frac 1 1 ∷ []) ≈ frac 1 2
+unfolding blendF
 halfway = record { eq = refl }
 
 -- the second corner's weight is t (1 - s)
-second : blend (frac 1 4 ∷ frac 1 3 ∷ []) (frac 0 1 ∷ frac 1 1 ∷ frac 0 1 ∷ frac 0 1 ∷ []) ≈ frac 1 6
-unfolding blend
+second : blendF (frac 1 4 ∷ frac 1 3 ∷ []) (frac 0 1 ∷ frac 1 1 ∷ frac 0 1 ∷ frac 0 1 ∷ []) ≈ frac 1 6
+unfolding blendF
 second = record { eq = refl }
 
 -- 1 at column 0 and row 2, and 0 elsewhere: at (-1/4, 5/3) the surface is 3/4 of 2/3

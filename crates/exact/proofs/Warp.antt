@@ -15,13 +15,13 @@ use lib.Ieee.Scale.{finite}
 use Rattle.exact.specs.Fraction.{Fraction, frac, whole, value, _≤F_, _≈_, _+F_, _-F_, _*F_, absF, Within, Unit01}
 use Rattle.exact.specs.Rounds.{Rounds}
 use Rattle.exact.specs.Surface.{floorF, partF, surface}
-use Rattle.exact.specs.Blend.{blend}
+use Rattle.exact.specs.Blend.{blendF}
 use Rattle.exact.specs.Double.{_⊖_}
 use Rattle.exact.specs.Weighted.{one, e00, e10, e01, e11, colour, alpha, Sample, blendError}
 use Rattle.exact.specs.Warp.{
   half,
   cellError,
-  Cell,
+  InCell,
   coordinateError,
   Coordinate,
   positionError,
@@ -60,7 +60,7 @@ half-value : value half ≈ frac 1 2
 unfolding ofBits
 half-value = record { eq = refl }
 
-module _ (u t : Float) (exact : Fraction) (k : ℤ) (c : Coordinate u exact) (p : Cell (u ⊖ half) k t) where
+module _ (u t : Float) (exact : Fraction) (k : ℤ) (c : Coordinate u exact) (p : InCell (u ⊖ half) k t) where
   less-half : Rounds binary64 (u ⊖ half) (value u -F frac 1 2)
   less-half = rounds-along (sub-same (eq-refl (value u)) half-value)
       (sub-rounds binary64 u half (c .number) half-number)
@@ -133,7 +133,7 @@ to-demand a x y e s =
 -- Q is the exact picture over the whole plane: a policy names a pixel or a colour for each index for good
 module _ (Q : ℤ → ℤ → Fraction) (values : (i j : ℤ) → Unit01 (Q i j)) (e : Fraction) where
   module _ (u v tx ty : Float) (ue ve : Fraction) (k l : ℤ) (cu : Coordinate u ue) (cv : Coordinate v ve)
-      (px : Cell (u ⊖ half) k tx) (py : Cell (v ⊖ half) l ty) where
+      (px : InCell (u ⊖ half) k tx) (py : InCell (v ⊖ half) l ty) where
     pub warp-taps : (a b c d : Float) → Sample a (Q k l) e → Sample b (Q (sucℤ k) l) e → Sample c (Q k (sucℤ l)) e
         → Sample d (Q (sucℤ k) (sucℤ l)) e
         → Sample (colour tx ty a b c d) (surface Q (ue -F frac 1 2) (ve -F frac 1 2)) (e +F warpError)
@@ -152,7 +152,7 @@ module _ (Q : ℤ → ℤ → Fraction) (values : (i j : ℤ) → Unit01 (Q i j)
         r = colour tx ty a b c d
 
         here : Fraction
-        here = blend (value tx ∷ value ty ∷ []) (value a ∷ value b ∷ value c ∷ value d ∷ [])
+        here = blendF (value tx ∷ value ty ∷ []) (value a ∷ value b ∷ value c ∷ value d ∷ [])
 
         there : Fraction
         there = surface Q (ue -F frac 1 2) (ve -F frac 1 2)

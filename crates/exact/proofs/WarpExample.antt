@@ -8,9 +8,9 @@ use lib.Dec.{eqb, lit≤, lit<}
 use lib.Ieee.{Float, fin, binary32, binary64, ofBits, add, sub, mul, div, fits}
 use Rattle.exact.specs.Fraction.{Fraction, frac, value, _≤F_, _<F_, _+F_, _-F_, absF, distance}
 use Rattle.exact.specs.Surface.{floorF}
-use Rattle.exact.specs.Blend.{blend}
+use Rattle.exact.specs.Blend.{blendF}
 use Rattle.exact.specs.Weighted.{colour, units24, blendError, Unit32, Sample}
-use Rattle.exact.specs.Warp.{half, Cell, Coordinate, exactSample}
+use Rattle.exact.specs.Warp.{half, InCell, Coordinate, exactSample}
 use Rattle.exact.proofs.Near.{le-refl, within-same}
 use Rattle.exact.proofs.Products.{eq-refl}
 use Rattle.exact.proofs.Rounds.{rounds-along}
@@ -38,7 +38,7 @@ abbrev d : Float
 d = ofBits binary32 0x3f7e_b39c  -- 0.9949281
 
 abbrev taps : Fraction
-taps = blend (value t ∷ value s ∷ []) (value a ∷ value b ∷ value c ∷ value d ∷ [])
+taps = blendF (value t ∷ value s ∷ []) (value a ∷ value b ∷ value c ∷ value d ∷ [])
 
 colour-is : colour t s a b c d ≡ fin false 4098139 (negsuc 21)
 unfolding ofBits add sub mul div
@@ -46,11 +46,11 @@ colour-is = refl
 
 -- the f32 blend is further than 4 units from the exact one, and as near as the law says
 far : units24 4 <F distance (value (colour t s a b c d)) taps
-unfolding ofBits add sub mul div distance blend
+unfolding ofBits add sub mul div distance blendF
 far = record { lt = lit< tt }
 
 near : distance (value (colour t s a b c d)) taps ≤F blendError
-unfolding ofBits add sub mul div distance blend
+unfolding ofBits add sub mul div distance blendF
 near = record { le = lit≤ tt }
 
 -- ---- one sample of a warp: the coordinate 1.75 in both directions, where 1.75 + 2^-26 and 1.75 - 2^-26 are exact
@@ -75,7 +75,7 @@ u-less = record { number = tt; near = record { le = lit≤ tt }; small = record 
 quarter : Float
 quarter = fin false 1 (negsuc 1)
 
-cell : Cell (sub binary64 u half) (pos 1) quarter
+cell : InCell (sub binary64 u half) (pos 1) quarter
 unfolding ofBits sub floorF quarter fits
 cell =
     cell-of (sub binary64 u half) (fin false 1 (pos 0)) tt tt (record { eq = refl }) quarter

@@ -14,12 +14,11 @@ use lib.Dec.{T, lit≤}
 use lib.Ieee.{Float, fin, ofBits, lt}
 use lib.Ieee.Scale.{finite}
 use Rattle.exact.specs.Fraction.{Fraction, frac, value, _≤F_, _<F_, _≈_, _+F_, _*F_, Within, Unit01}
-use Rattle.exact.specs.Blend.{blend}
+use Rattle.exact.specs.Blend.{blendF}
 use Rattle.exact.specs.Loop.{upTo}
-use Rattle.exact.specs.Single.{_⊕_, _⊗_, _⊘_}
+use Rattle.exact.specs.Single.{_⊕_, _⊗_, _⊘_, zero}
 use Rattle.exact.specs.Weighted.{
   one,
-  start,
   least,
   w00,
   w10,
@@ -59,7 +58,7 @@ use Rattle.exact.proofs.FourSum.{Taken, taken, Sums, sums-four}
 use Rattle.exact.proofs.SumQuotient.{sum-near, sum-least, sum-positive, quotient}
 
 -- a loop over four taps is the sum written out
-pub four-turns : (f : ℕ → Float) → upTo (λ (k : ℕ) (acc : Float). acc ⊕ f k) 0 4 start ≡ fourSum (f 0) (f 1) (f 2) (f 3)
+pub four-turns : (f : ℕ → Float) → upTo (λ (k : ℕ) (acc : Float). acc ⊕ f k) 0 4 zero ≡ fourSum (f 0) (f 1) (f 2) (f 3)
 unfolding upTo
 four-turns f = refl
 
@@ -151,9 +150,9 @@ module _ (tx ty : Float) (x : Unit32 tx) (y : Unit32 ty) where
         plain {z} t = sym (times-one z (t .product .is .held) (t .product .is .number))
 
     pub colour-near : Sample (colour tx ty a b c d)
-        (blend (value tx ∷ value ty ∷ []) (value a ∷ value b ∷ value c ∷ value d ∷ [])) blendError
+        (blendF (value tx ∷ value ty ∷ []) (value a ∷ value b ∷ value c ∷ value d ∷ [])) blendError
     colour-near =
-        subst (λ (z : Float). Sample z (blend (value tx ∷ value ty ∷ []) (value a ∷ value b ∷ value c ∷ value d ∷ []))
+        subst (λ (z : Float). Sample z (blendF (value tx ∷ value ty ∷ []) (value a ∷ value b ∷ value c ∷ value d ∷ []))
         blendError) colour-is
         (sample-more enough (sample-along (back taps) (eq-refl (halves 34))
         (quotient sums (total-one (value tx) (value ty)) (unit-same taps unit))))
@@ -161,10 +160,10 @@ module _ (tx ty : Float) (x : Unit32 tx) (y : Unit32 ty) where
         enough : halves 34 ≤F blendError
         enough = unfold halves in record { le = lit≤ tt }
 
-        taps : blend (value tx ∷ value ty ∷ []) (value a ∷ value b ∷ value c ∷ value d ∷ []) ≈ exact
+        taps : blendF (value tx ∷ value ty ∷ []) (value a ∷ value b ∷ value c ∷ value d ∷ []) ≈ exact
         taps = four-taps (value tx) (value ty) (value a) (value b) (value c) (value d)
 
-        unit : Unit01 (blend (value tx ∷ value ty ∷ []) (value a ∷ value b ∷ value c ∷ value d ∷ []))
+        unit : Unit01 (blendF (value tx ∷ value ty ∷ []) (value a ∷ value b ∷ value c ∷ value d ∷ []))
         unit = blend-unit (value tx ∷ value ty ∷ []) (x .unit, (y .unit, tt)) (value a ∷ value b ∷ value c ∷ value d
             ∷ []) (pa .unit, (pb .unit, (pc .unit, (pd .unit, tt))))
 

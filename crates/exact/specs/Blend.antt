@@ -4,29 +4,29 @@
 use mathlib.Core.List.{List, [], _∷_}
 use lib.IntN.{ℤ, sucℤ}
 use Rattle.exact.specs.Fraction.{Fraction, frac, _+F_, _-F_, _*F_, distance}
-use Rattle.exact.specs.Surface.{mix}
+use Rattle.exact.specs.Surface.{mixF}
 
 -- each weight parted between the two ends of one more axis
-unfoldable pub parted : Fraction → List Fraction → List Fraction
+unfoldable pub partedF : Fraction → List Fraction → List Fraction
 unfolding _-F_ _*F_
-parted t [] = []
-parted t (w ∷ ws) = ((frac 1 1 -F t) *F w) ∷ ((t *F w) ∷ parted t ws)
+partedF t [] = []
+partedF t (w ∷ ws) = ((frac 1 1 -F t) *F w) ∷ ((t *F w) ∷ partedF t ws)
 
-unfoldable pub weights : List Fraction → List Fraction
-unfolding parted
-weights [] = frac 1 1 ∷ []
-weights (t ∷ ts) = parted t (weights ts)
+unfoldable pub weightsF : List Fraction → List Fraction
+unfolding partedF
+weightsF [] = frac 1 1 ∷ []
+weightsF (t ∷ ts) = partedF t (weightsF ts)
 
 -- the sum of products, pair by pair
-unfoldable pub dot : List Fraction → List Fraction → Fraction
+unfoldable pub dotF : List Fraction → List Fraction → Fraction
 unfolding _+F_ _*F_
-dot [] vs = frac 0 1
-dot (w ∷ ws) [] = frac 0 1
-dot (w ∷ ws) (v ∷ vs) = w *F v +F dot ws vs
+dotF [] vs = frac 0 1
+dotF (w ∷ ws) [] = frac 0 1
+dotF (w ∷ ws) (v ∷ vs) = w *F v +F dotF ws vs
 
-unfoldable pub blend : List Fraction → List Fraction → Fraction
-unfolding weights dot
-blend ts vs = dot (weights ts) vs
+unfoldable pub blendF : List Fraction → List Fraction → Fraction
+unfolding weightsF dotF
+blendF ts vs = dotF (weightsF ts) vs
 
 -- the four values around a point of the cell of column k and row l
 abbrev pub fourAround : (ℤ → ℤ → Fraction) → ℤ → ℤ → List Fraction
@@ -40,23 +40,18 @@ total (w ∷ ws) = w +F total ws
 
 -- the corners' values mixed along the first axis: half as many are left (a last one that has no partner counts against
 -- 0)
-unfoldable pub folded : Fraction → List Fraction → List Fraction
-unfolding mix _-F_ _*F_
-folded t [] = []
-folded t (a ∷ []) = ((frac 1 1 -F t) *F a) ∷ []
-folded t (a ∷ (b ∷ vs)) = mix t a b ∷ folded t vs
+unfoldable pub foldedF : Fraction → List Fraction → List Fraction
+unfolding mixF _-F_ _*F_
+foldedF t [] = []
+foldedF t (a ∷ []) = ((frac 1 1 -F t) *F a) ∷ []
+foldedF t (a ∷ (b ∷ vs)) = mixF t a b ∷ foldedF t vs
 
 -- the sum of the distances of two lists, pair by pair
-unfoldable pub apart : List Fraction → List Fraction → Fraction
+unfoldable pub apartF : List Fraction → List Fraction → Fraction
 unfolding distance _+F_
-apart [] us = frac 0 1
-apart (t ∷ ts) [] = frac 0 1
-apart (t ∷ ts) (u ∷ us) = distance t u +F apart ts us
-
--- P of each element
-abbrev pub Each : (Fraction → Type 0) → List Fraction → Type 0
-Each P [] = Unit {0}
-Each P (x ∷ xs) = P x × Each P xs
+apartF [] us = frac 0 1
+apartF (t ∷ ts) [] = frac 0 1
+apartF (t ∷ ts) (u ∷ us) = distance t u +F apartF ts us
 
 -- R of each pair, and as many on the left as on the right
 abbrev pub Pairwise : (Fraction → Fraction → Type 0) → List Fraction → List Fraction → Type 0

@@ -26,6 +26,9 @@ half = ofBits binary64 0x3fe0_0000_0000_0000  -- 0.5
 abbrev pub one : Float
 one = ofBits binary64 0x3ff0_0000_0000_0000  -- 1.0
 
+abbrev pub two : Float
+two = ofBits binary64 0x4000_0000_0000_0000  -- 2.0
+
 -- what is below it in magnitude is too small to divide by: a pivot, a determinant, a denominator, a factor, a squared
 -- distance
 abbrev pub leastDivisor : Float

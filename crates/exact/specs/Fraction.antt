@@ -53,8 +53,8 @@ pub record _≈_ (x y : Fraction) : Type 0 where
 infixl 6 _+F_ _-F_
 infixl 7 _*F_ _/F_
 -- (u + 1) (v + 1) - 1
-abbrev pub both : ℕ → ℕ → ℕ
-both u v = u * v + u + v
+abbrev pub underBoth : ℕ → ℕ → ℕ
+underBoth u v = u * v + u + v
 
 unfoldable pub negF : Fraction → Fraction
 negF x = record { plus = x .minus; minus = x .plus; under = x .under }
@@ -63,7 +63,7 @@ unfoldable pub _+F_ : Fraction → Fraction → Fraction
 x +F y = record {
   plus = x .plus * over y + y .plus * over x;
   minus = x .minus * over y + y .minus * over x;
-  under = both (x .under) (y .under);
+  under = underBoth (x .under) (y .under);
 }
 
 unfoldable pub _-F_ : Fraction → Fraction → Fraction
@@ -74,7 +74,7 @@ unfoldable pub _*F_ : Fraction → Fraction → Fraction
 x *F y = record {
   plus = x .plus * y .plus + x .minus * y .minus;
   minus = x .plus * y .minus + x .minus * y .plus;
-  under = both (x .under) (y .under);
+  under = underBoth (x .under) (y .under);
 }
 
 -- x / y for a y that is not 0: the denominator of y over its numerator, with the numerator's sign

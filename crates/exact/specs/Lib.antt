@@ -1,6 +1,7 @@
 -- The words that the crates' definitions are written in, and that the bounds need. No pictures here.
 pub mod Blend
 pub mod Double
+pub mod Each
 pub mod Fraction
 pub mod Loop
 pub mod Rounds

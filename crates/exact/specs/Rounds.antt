@@ -9,8 +9,8 @@ use lib.Ieee.Scale.{finite}
 use Rattle.exact.specs.Fraction.{Fraction, ratio, frac, value, _≤F_, _≈_, _*F_, absF, Within}
 
 -- a / c with its sign, for a c above 0
-abbrev pub signed : Bool → ℕ → ℕ → Fraction
-signed s a c = cond s (ratio 0 a c) (ratio a 0 c)
+abbrev pub signedF : Bool → ℕ → ℕ → Fraction
+signedF s a c = cond s (ratio 0 a c) (ratio a 0 c)
 
 -- r is X, rounded once to the format f
 pub record Rounds (f : Format) (r : Float) (X : Fraction) : Type 0 where
@@ -19,7 +19,7 @@ pub record Rounds (f : Format) (r : Float) (X : Fraction) : Type 0 where
   pub den : ℕ
   pub den-pos : 0 < den
   pub is : r ≡ round f sign num den
-  pub exact : signed sign num den ≈ X
+  pub exact : signedF sign num den ≈ X
 
 -- r is a number, at most e away from X, and at most b in size
 pub record Close (r : Float) (X e b : Fraction) : Type 0 where
@@ -32,8 +32,8 @@ abbrev pub least-normal : Format → Fraction
 least-normal f = frac (2 ^ (prec f - 1)) (2 ^ low f)
 
 -- 2 ^ K of the format's smallest values, and half an ulp of the numbers below it
-abbrev pub power : Format → ℕ → Fraction
-power f K = frac (2 ^ K) (2 ^ low f)
+abbrev pub powerF : Format → ℕ → Fraction
+powerF f K = frac (2 ^ K) (2 ^ low f)
 
 abbrev pub half-ulp : Format → ℕ → Fraction
 half-ulp f K = frac (2 ^ (K - prec f)) (2 ^ low f * 2)

@@ -25,3 +25,6 @@ half = ofBits binary32 0x3f00_0000  -- 0.5
 
 abbrev pub one : Float
 one = ofBits binary32 0x3f80_0000  -- 1.0
+
+abbrev pub two : Float
+two = ofBits binary32 0x4000_0000  -- 2.0

@@ -41,7 +41,7 @@ pub record Relative (r : Float) (X : Fraction) (m k : ℕ) : Type 0 where
   pub most : absF (value r) ≤F frac (2 ^ (21 * k)) 1
 
 -- x is the number X, from 1/2 to 2 ^ 21 in size, as a pixel's coordinates are
-pub record Coordinate (x : Float) (X : Fraction) : Type 0 where
+pub record PixelCoordinate (x : Float) (X : Fraction) : Type 0 where
   pub number : T (finite x)
   pub is : value x ≈ X
   pub least : frac 1 2 ≤F absF (value x)

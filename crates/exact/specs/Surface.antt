@@ -19,14 +19,14 @@ unfolding floorF _-F_
 partF x = x -F whole (floorF x)
 
 -- (1 - t) a + t b
-unfoldable pub mix : Fraction → Fraction → Fraction → Fraction
+unfoldable pub mixF : Fraction → Fraction → Fraction → Fraction
 unfolding _-F_ _*F_ _+F_
-mix t a b = (frac 1 1 -F t) *F a +F t *F b
+mixF t a b = (frac 1 1 -F t) *F a +F t *F b
 
 -- the line between the values a k and a (k + 1), where x lies
 unfoldable pub lin : (ℤ → Fraction) → Fraction → Fraction
-unfolding mix floorF partF
-lin a x = mix (partF x) (a (floorF x)) (a (sucℤ (floorF x)))
+unfolding mixF floorF partF
+lin a x = mixF (partF x) (a (floorF x)) (a (sucℤ (floorF x)))
 
 -- the surface over the values a i j, column i and row j
 unfoldable pub surface : (ℤ → ℤ → Fraction) → Fraction → Fraction → Fraction

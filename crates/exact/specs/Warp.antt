@@ -16,7 +16,7 @@ abbrev pub cellError : Fraction
 cellError = frac 1 (2 ^ 25) +F frac 1 (2 ^ 54)
 
 -- x lies in the cell of k, at the fraction t. A t of 1 is the cell's far end.
-pub record Cell (x : Float) (k : ℤ) (t : Float) : Type 0 where
+pub record InCell (x : Float) (k : ℤ) (t : Float) : Type 0 where
   pub floor : floorF (value x) ≡ k
   pub fraction : Unit32 t
   pub near : Within (whole k +F value t) (value x) cellError

@@ -9,9 +9,6 @@ use Rattle.exact.specs.Fraction.{Fraction, frac, value, _-F_, _*F_, With
 use Rattle.exact.specs.Single.{_⊕_, _⊖_, _⊗_, _⊘_, zero}
 pub use Rattle.exact.specs.Single.{one}
 
-abbrev pub start : Float
-start = zero
-
 -- each tap's weight, at the fractions tx and ty of the point in its cell
 abbrev pub w00 : Float → Float → Float
 w00 tx ty = (one ⊖ tx) ⊗ (one ⊖ ty)
@@ -40,7 +37,7 @@ e11 t s = t *F s
 
 -- a sum over the taps
 abbrev pub fourSum : Float → Float → Float → Float → Float
-fourSum a b c d = start ⊕ a ⊕ b ⊕ c ⊕ d
+fourSum a b c d = zero ⊕ a ⊕ b ⊕ c ⊕ d
 
 abbrev pub weightSum : Float → Float → Float
 weightSum tx ty = fourSum (w00 tx ty) (w10 tx ty) (w01 tx ty) (w11 tx ty)

@@ -24,19 +24,19 @@ use Rattle.point.specs.declared.point.Point.{Point}
 use Rattle.point.specs.Point.{limit, usable, point, Whole}
 use Rattle.taps.specs.Cell as Taps
 use Rattle.taps.proofs.CellFloor.{usable-reached}
-use Rattle.fast_cells.specs.Cells.{Cell, Cells}
-use Rattle.fast_cells.specs.Inner.{nought, inner}
+use Rattle.fast_cells.specs.Cells.{CellOf, Cells}
+use Rattle.fast_cells.specs.Inner.{nought, hasCell}
 use Rattle.fast_cells.proofs.InnerLaws.{floored-of, usable-of}
 
 -- ---- one cell
 module _ (reach : ℕ) (R : reach ≤ 65536) (u : Float) where
   pub cell :
-      {z : Float} {c : ℕ} {t : Float} {b : Bool} → z ≡ cond (inner reach u) (u ⊖ half) nought → floorℤ z ≡ pos c
-      → t ≡ Taps.fraction z → b ≡ inner reach u → b ≡ true → Cell reach u c t
+      {z : Float} {c : ℕ} {t : Float} {b : Bool} → z ≡ cond (hasCell reach u) (u ⊖ half) nought → floorℤ z ≡ pos c
+      → t ≡ Taps.fraction z → b ≡ hasCell reach u → b ≡ true → CellOf reach u c t
   cell {z} {c} {t} e f g i h =
-      let j : inner reach u ≡ true = sym i ∙ h in
+      let j : hasCell reach u ≡ true = sym i ∙ h in
       let k : z ≡ u ⊖ half = e ∙ ap (λ (b : Bool). cond b (u ⊖ half) nought) j in
-      let test : T (inner reach u) = subst T (sym j) tt in
+      let test : T (hasCell reach u) = subst T (sym j) tt in
       let usable = usable-of reach R u test in
       let w = floored-of reach R u test in
       let f' : floorℤ (u ⊖ half) ≡ pos c = ap floorℤ (sym k) ∙ f in
@@ -92,7 +92,7 @@ module _ (reach : ℕ) where
 
   pub fill-more :
       (k : ℕ) {good b : Bool} {us : List Float} {cs : List ℕ} {ts : List Float} {c : ℕ} {t : Float} → k < 64
-      → (b ≡ true → Cell reach (getD us k nan) c t) →
+      → (b ≡ true → CellOf reach (getD us k nan) c t) →
       Filling reach k good us cs ts → Filling reach (k + 1) (good && b) us (set cs k c) (set ts k t)
   fill-more k {good} {b} {us} {cs} {ts} {c} {t} l new old =
       record {
@@ -100,7 +100,8 @@ module _ (reach : ℕ) where
             let d = old .done (both good b h .0) in
             record {
               cell =
-                  below-more (λ (i : ℕ). Cell reach (getD us i nan) (getD (set cs k c) i 0) (getD (set ts k t) i nan)) k
+                  below-more
+                  (λ (i : ℕ). CellOf reach (getD us i nan) (getD (set cs k c) i 0) (getD (set ts k t) i nan)) k
                   (λ i g. rw (getD-set-other cs k i c 0 (below i g), getD-set-other ts k i t nan (below i g))
                   (d .cell i g))
                   (rw (getD-set-same cs k c 0 (rw (old .long-c) l), getD-set-same ts k t nan (rw (old .long-t) l))

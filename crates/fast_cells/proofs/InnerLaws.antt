@@ -14,7 +14,7 @@ use Rattle.exact.specs.Warp.{half}
 use Rattle.exact.proofs.Naturals.{lt-or-le}
 use Rattle.number.specs.Magnitude.{within}
 use Rattle.point.specs.Point.{limit}
-use Rattle.fast_cells.specs.Inner.{nought, under, inner, Low, Parted}
+use Rattle.fast_cells.specs.Inner.{nought, under, hasCell, Low, Parted}
 use Rattle.fast_cells.proofs.OrderLaws.{Above, above, under-finite}
 use Rattle.fast_cells.proofs.HalfLaws.{
   half-value,
@@ -41,7 +41,7 @@ module _ (reach : ℕ) (R : reach ≤ 65536) where
       stays : inf false ⊖ half ≡ inf false
       stays = unfold sub ofBits in refl
 
-  module _ (u : Float) (h : T (inner reach u)) where
+  module _ (u : Float) (h : T (hasCell reach u)) where
     at-least : (u ≡ inf false) ⊎ Above 1 2 u
     at-least = above 1 2 half u (zero-lt-suc 0) (zero-lt-suc 1) half-value
         (and-l (le half u) (under reach (u ⊖ half)) h)
@@ -90,15 +90,15 @@ module _ (reach : ℕ) (R : reach ≤ 65536) where
         ])
 
   -- ---- what is worked with in any case
-  pub kept-in : (u : Float) {b : Bool} → T (fits binary64 u) → b ≡ inner reach u → b ≡ true
-      → (u ⊖ half ≡ cond (inner reach u) (u ⊖ half) nought) × (Low (u ⊖ half) × Parted (u ⊖ half))
+  pub kept-in : (u : Float) {b : Bool} → T (fits binary64 u) → b ≡ hasCell reach u → b ≡ true
+      → (u ⊖ half ≡ cond (hasCell reach u) (u ⊖ half) nought) × (Low (u ⊖ half) × Parted (u ⊖ half))
   kept-in u t i h =
       let e = sym i ∙ h in
-      let test : T (inner reach u) = subst T (sym e) tt in (
+      let test : T (hasCell reach u) = subst T (sym e) tt in (
         sym (ap (λ (b : Bool). cond b (u ⊖ half) nought) e),
         (floored-low reach R (floored-of u test), parted-of u test t),
       )
 
-pub kept-out : (reach : ℕ) (u : Float) {b : Bool} → b ≡ inner reach u → b ≡ false
-    → (nought ≡ cond (inner reach u) (u ⊖ half) nought) × (Low nought × Parted nought)
+pub kept-out : (reach : ℕ) (u : Float) {b : Bool} → b ≡ hasCell reach u → b ≡ false
+    → (nought ≡ cond (hasCell reach u) (u ⊖ half) nought) × (Low nought × Parted nought)
 kept-out reach u i h = (sym (ap (λ (b : Bool). cond b (u ⊖ half) nought) (sym i ∙ h)), (low-nought, parted-nought))

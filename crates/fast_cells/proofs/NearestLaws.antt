@@ -21,7 +21,7 @@ use Rattle.exact.proofs.Operands.{add-values}
 use Rattle.exact.proofs.Value.{rescale}
 use Rattle.number.specs.Magnitude.{within}
 use Rattle.point.specs.Point.{limit}
-use Rattle.fast_cells.specs.Inner.{nought, under, nearby, Low}
+use Rattle.fast_cells.specs.Inner.{nought, under, hasPlace, Low}
 use Rattle.fast_cells.proofs.OrderLaws.{above, under-finite}
 use Rattle.fast_cells.proofs.HalfLaws.{twice, twice-pos, half-over, large, large-value, large-less, less-half}
 use Rattle.fast_cells.proofs.FlooredLaws.{
@@ -98,7 +98,7 @@ module _ (reach : ℕ) (R : reach ≤ 65536) where
       half-below : (a d : ℕ) → 1073741824 * d < a → d ≤ a * 2
       half-below a d h = omega arith
 
-  module _ (u : Float) (h : T (nearby reach u)) where
+  module _ (u : Float) (h : T (hasPlace reach u)) where
     tests : T (le nought u && le nought (u ⊖ half ⊕ half))
     tests = and-l (le nought u && le nought (u ⊖ half ⊕ half)) (under reach (u ⊖ half ⊕ half)) h
 
@@ -113,14 +113,14 @@ module _ (reach : ℕ) (R : reach ≤ 65536) where
         below
 
   -- ---- what is worked with in any case
-  pub beside-in : (u : Float) {b : Bool} → b ≡ nearby reach u → b ≡ true
-      → (u ⊖ half ⊕ half ≡ cond (nearby reach u) (u ⊖ half ⊕ half) nought) × Low (u ⊖ half ⊕ half)
+  pub beside-in : (u : Float) {b : Bool} → b ≡ hasPlace reach u → b ≡ true
+      → (u ⊖ half ⊕ half ≡ cond (hasPlace reach u) (u ⊖ half ⊕ half) nought) × Low (u ⊖ half ⊕ half)
   beside-in u i h =
       let e = sym i ∙ h in (
         sym (ap (λ (b : Bool). cond b (u ⊖ half ⊕ half) nought) e),
         floored-low reach R (nearby-floored u (subst T (sym e) tt)),
       )
 
-pub beside-out : (reach : ℕ) (u : Float) {b : Bool} → b ≡ nearby reach u → b ≡ false
-    → (nought ≡ cond (nearby reach u) (u ⊖ half ⊕ half) nought) × Low nought
+pub beside-out : (reach : ℕ) (u : Float) {b : Bool} → b ≡ hasPlace reach u → b ≡ false
+    → (nought ≡ cond (hasPlace reach u) (u ⊖ half ⊕ half) nought) × Low nought
 beside-out reach u i h = (sym (ap (λ (b : Bool). cond b (u ⊖ half ⊕ half) nought) (sym i ∙ h)), low-nought)

@@ -29,24 +29,24 @@ use Rattle.taps.specs.Interpolation.{
 }
 use Rattle.taps.proofs.CellFloor.{usable-reached}
 use Rattle.fast_cells.specs.Cells.{Place, Places}
-use Rattle.fast_cells.specs.Inner.{nought, inner, nearby}
+use Rattle.fast_cells.specs.Inner.{nought, hasCell, hasPlace}
 use Rattle.fast_cells.proofs.CellsLaws.{cell}
 use Rattle.fast_cells.proofs.NearestLaws.{nearby-usable, nearby-floored}
 
 -- ---- one place
 module _ (reach : ℕ) (R : reach ≤ 65536) (u : Float) where
-  pub integer : {z : Float} {c : ℕ} {b : Bool} → z ≡ cond (inner reach u) (u ⊖ half) nought → floorℤ z ≡ pos c
-      → b ≡ inner reach u → b ≡ true → Place Integer reach u c
+  pub integer : {z : Float} {c : ℕ} {b : Bool} → z ≡ cond (hasCell reach u) (u ⊖ half) nought → floorℤ z ≡ pos c
+      → b ≡ hasCell reach u → b ≡ true → Place Integer reach u c
   integer e f i h =
       let s = cell reach R u e f refl i h in
       record { usable = s .usable; reached = s .reached; below = s .below; first = s .floor }
 
   pub nearest :
-      {z : Float} {c : ℕ} {b : Bool} → z ≡ cond (nearby reach u) (u ⊖ half ⊕ half) nought → floorℤ z ≡ pos c
-      → b ≡ nearby reach u → b ≡ true → Place Nearest reach u c
+      {z : Float} {c : ℕ} {b : Bool} → z ≡ cond (hasPlace reach u) (u ⊖ half ⊕ half) nought → floorℤ z ≡ pos c
+      → b ≡ hasPlace reach u → b ≡ true → Place Nearest reach u c
   nearest {z} {c} e f i h =
-      let j : nearby reach u ≡ true = sym i ∙ h in
-      let test : T (nearby reach u) = subst T (sym j) tt in
+      let j : hasPlace reach u ≡ true = sym i ∙ h in
+      let test : T (hasPlace reach u) = subst T (sym j) tt in
       let usable = nearby-usable reach R u test in
       let w = nearby-floored reach R u test in
       let g : floorℤ (u ⊖ half ⊕ half) ≡ pos c =

@@ -17,7 +17,7 @@ use Rattle.taps.specs.Cell as Taps
 use Rattle.taps.specs.Interpolation.{Interpolation}
 
 -- the coordinate u can be used, the whole number below u - 0.5 is c, which is less than `reach`, and t is the fraction
-pub record Cell (reach : ℕ) (u : Float) (c : ℕ) (t : Float) : Type 0 where
+pub record CellOf (reach : ℕ) (u : Float) (c : ℕ) (t : Float) : Type 0 where
   pub usable : T (within limit u)
   pub reached : Taps.Reached (u ⊖ half)
   pub below : c < reach
@@ -26,7 +26,7 @@ pub record Cell (reach : ℕ) (u : Float) (c : ℕ) (t : Float) : Type 0 where
 
 -- the first n of three lists are such cells
 pub record Cells (reach n : ℕ) (us : List Float) (cs : List ℕ) (ts : List Float) : Type 0 where
-  pub cell : (k : ℕ) → k < n → Cell reach (getD us k nan) (getD cs k 0) (getD ts k nan)
+  pub cell : (k : ℕ) → k < n → CellOf reach (getD us k nan) (getD cs k 0) (getD ts k nan)
 
 -- the same with no fraction: the one tap of `Integer` or `Nearest` is at c
 pub record Place (i : Interpolation) (reach : ℕ) (u : Float) (c : ℕ) : Type 0 where

@@ -19,12 +19,12 @@ abbrev pub under : ℕ → Float → Bool
 under reach x = lt x (ofInt binary64 (pos reach))
 
 -- u - 0.5 stands from 0 up to below `reach`
-abbrev pub inner : ℕ → Float → Bool
-inner reach u = le half u && under reach (u ⊖ half)
+abbrev pub hasCell : ℕ → Float → Bool
+hasCell reach u = le half u && under reach (u ⊖ half)
 
 -- u is not negative, and u - 0.5 + 0.5 stands from 0 up to below `reach`
-abbrev pub nearby : ℕ → Float → Bool
-nearby reach u = le nought u && le nought (u ⊖ half ⊕ half) && under reach (u ⊖ half ⊕ half)
+abbrev pub hasPlace : ℕ → Float → Bool
+hasPlace reach u = le nought u && le nought (u ⊖ half ⊕ half) && under reach (u ⊖ half ⊕ half)
 
 -- each of the first n of a list passes
 pub record Every (test : Float → Bool) (n : ℕ) (us : List Float) : Type 0 where

@@ -7,7 +7,7 @@ ghost use Prim.Native.Nat.{_≤_};
 ghost use lib.ListN.{length};
 ghost use Rattle.taps.specs.Interpolation.{Integer, Nearest, Single, interpolation};
 ghost use Rattle.fast_cells.specs.Cells.{Cells, Places};
-ghost use Rattle.fast_cells.specs.Inner.{inner, nearby, Every};
+ghost use Rattle.fast_cells.specs.Inner.{hasCell, hasPlace, Every};
 use crate::of_point::cell_of;
 use crate::of_point::integer_of;
 use crate::of_point::nearest_of;
@@ -41,7 +41,7 @@ pub fn cells(
         ⌜ (r ≡ true → Cells (reach .wide) n (now (us .entry)) (now (columns .exit)) (now (xs .exit))
         × Cells (reach .high) n (now (vs .entry)) (now (rows .exit)) (now (ys .exit))) ⌝ }
     ensures { λ r.
-        ⌜ (Every (inner (reach .wide)) n (now (us .entry)) → Every (inner (reach .high)) n (now (vs .entry))
+        ⌜ (Every (hasCell (reach .wide)) n (now (us .entry)) → Every (hasCell (reach .high)) n (now (vs .entry))
         → r ≡ true) ⌝ }
 {
     u32_sized(*columns);
@@ -77,7 +77,7 @@ fn integer_places(
         ⌜ (r ≡ true → Places Integer (reach .wide) n (now (us .entry)) (now (columns .exit))
         × Places Integer (reach .high) n (now (vs .entry)) (now (rows .exit))) ⌝ }
     ensures { λ r.
-        ⌜ (Every (inner (reach .wide)) n (now (us .entry)) → Every (inner (reach .high)) n (now (vs .entry))
+        ⌜ (Every (hasCell (reach .wide)) n (now (us .entry)) → Every (hasCell (reach .high)) n (now (vs .entry))
         → r ≡ true) ⌝ }
 {
     u32_sized(*columns);
@@ -108,7 +108,7 @@ fn nearest_places(
         ⌜ (r ≡ true → Places Nearest (reach .wide) n (now (us .entry)) (now (columns .exit))
         × Places Nearest (reach .high) n (now (vs .entry)) (now (rows .exit))) ⌝ }
     ensures { λ r.
-        ⌜ (Every (nearby (reach .wide)) n (now (us .entry)) → Every (nearby (reach .high)) n (now (vs .entry))
+        ⌜ (Every (hasPlace (reach .wide)) n (now (us .entry)) → Every (hasPlace (reach .high)) n (now (vs .entry))
         → r ≡ true) ⌝ }
 {
     u32_sized(*columns);

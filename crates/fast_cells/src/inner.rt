@@ -10,13 +10,13 @@ ghost use Rattle.exact.specs.Warp.{half};
 ghost use Rattle.number.specs.Floor.{floorℤ};
 ghost use Rattle.number.specs.Narrow.{narrow};
 ghost use Rattle.taps.specs.Cell.{fraction};
-ghost use Rattle.fast_cells.specs.Inner.{nought, inner, nearby, Low, Short, Parted};
+ghost use Rattle.fast_cells.specs.Inner.{nought, hasCell, hasPlace, Low, Short, Parted};
 use number::floor::whole_below;
 
 // Whether u has a cell.
-pub fn inside(u: f64, reach: u64) -> bool
+pub fn has_cell(u: f64, reach: u64) -> bool
     requires { ⌜ reach ≤ 65536 ⌝ }
-    ensures { λ r. ⌜ r ≡ inner reach u ⌝ }
+    ensures { λ r. ⌜ r ≡ hasCell reach u ⌝ }
 {
     (u >= 0.5) & (u - 0.5 < reach as f64)
 }
@@ -24,28 +24,32 @@ pub fn inside(u: f64, reach: u64) -> bool
 // What is worked with in any case: u in index space where it has a cell, and 0 elsewhere.
 pub fn kept(u: f64, reach: u64) -> f64
     requires { ⌜ reach ≤ 65536 ⌝ }
-    ensures { λ z. ⌜ z ≡ cond (inner reach u) (u ⊖ half) nought ⌝ }
+    ensures { λ z. ⌜ z ≡ cond (hasCell reach u) (u ⊖ half) nought ⌝ }
     ensures { λ z. ⌜ Low z × Parted z ⌝ }
 {
-    if inside(u, reach) { u - 0.5 } else { 0.0 }
+    if has_cell(u, reach) { u - 0.5 } else { 0.0 }
 }
 
 // Whether u has a place by `Nearest`. A u below 0 may have one too, and is passed over.
-pub fn beside(u: f64, reach: u64) -> bool
+pub fn has_place(u: f64, reach: u64) -> bool
     requires { ⌜ reach ≤ 65536 ⌝ }
-    ensures { λ r. ⌜ r ≡ nearby reach u ⌝ }
+    ensures { λ r. ⌜ r ≡ hasPlace reach u ⌝ }
 {
     let y = u - 0.5 + 0.5;
     (u >= 0.0) & (y >= 0.0) & (y < reach as f64)
 }
 
 // What is worked with in any case, by `Nearest`.
-pub fn kept_beside(u: f64, reach: u64) -> f64
+pub fn kept_place(u: f64, reach: u64) -> f64
     requires { ⌜ reach ≤ 65536 ⌝ }
-    ensures { λ z. ⌜ z ≡ cond (nearby reach u) (u ⊖ half ⊕ half) nought ⌝ }
+    ensures { λ z. ⌜ z ≡ cond (hasPlace reach u) (u ⊖ half ⊕ half) nought ⌝ }
     ensures { λ z. ⌜ Low z ⌝ }
 {
-    if beside(u, reach) { u - 0.5 + 0.5 } else { 0.0 }
+    if has_place(u, reach) {
+        u - 0.5 + 0.5
+    } else {
+        0.0
+    }
 }
 
 // The column, or the row, below z. A cast to 32 bits with a sign is one instruction for two of them.

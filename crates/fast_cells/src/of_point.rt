@@ -7,12 +7,12 @@ ghost use Prim.Native.Nat.{_≤_};
 ghost use Rattle.point.specs.Point.{Whole};
 ghost use Rattle.taps.specs.Interpolation.{Integer, Nearest};
 ghost use Rattle.fast_cells.specs.Cells as Cells;
-ghost use Rattle.fast_cells.specs.Inner.{inner, nearby};
-use crate::inner::beside;
+ghost use Rattle.fast_cells.specs.Inner.{hasCell, hasPlace};
 use crate::inner::column;
-use crate::inner::inside;
+use crate::inner::has_cell;
+use crate::inner::has_place;
 use crate::inner::kept;
-use crate::inner::kept_beside;
+use crate::inner::kept_place;
 use crate::inner::part;
 use point::point::Point;
 
@@ -36,11 +36,11 @@ pub struct Place {
 pub fn cell_of(p: Point, wide: u64, high: u64) -> Cell
     requires { ⌜ Whole p ⌝ }
     requires { ⌜ (wide ≤ 65536) × (high ≤ 65536) ⌝ }
-    ensures { λ c. ⌜ c .inside ≡ (inner wide (p .u) && inner high (p .v)) ⌝ }
+    ensures { λ c. ⌜ c .inside ≡ (hasCell wide (p .u) && hasCell high (p .v)) ⌝ }
     ensures { λ c. ⌜ (c .inside ≡ true → p .usable ≡ true) ⌝ }
     ensures { λ c.
-        ⌜ (c .inside ≡ true → Cells.Cell wide (p .u) (c .column) (c .x)
-        × Cells.Cell high (p .v) (c .row) (c .y)) ⌝ }
+        ⌜ (c .inside ≡ true → Cells.CellOf wide (p .u) (c .column) (c .x)
+        × Cells.CellOf high (p .v) (c .row) (c .y)) ⌝ }
 {
     let x = kept(p.u, wide);
     let y = kept(p.v, high);
@@ -49,14 +49,14 @@ pub fn cell_of(p: Point, wide: u64, high: u64) -> Cell
         row: column(y),
         x: part(x),
         y: part(y),
-        inside: inside(p.u, wide) & inside(p.v, high),
+        inside: has_cell(p.u, wide) & has_cell(p.v, high),
     }
 }
 
 pub fn integer_of(p: Point, wide: u64, high: u64) -> Place
     requires { ⌜ Whole p ⌝ }
     requires { ⌜ (wide ≤ 65536) × (high ≤ 65536) ⌝ }
-    ensures { λ c. ⌜ c .inside ≡ (inner wide (p .u) && inner high (p .v)) ⌝ }
+    ensures { λ c. ⌜ c .inside ≡ (hasCell wide (p .u) && hasCell high (p .v)) ⌝ }
     ensures { λ c. ⌜ (c .inside ≡ true → p .usable ≡ true) ⌝ }
     ensures { λ c.
         ⌜ (c .inside ≡ true → Cells.Place Integer wide (p .u) (c .column)
@@ -65,22 +65,22 @@ pub fn integer_of(p: Point, wide: u64, high: u64) -> Place
     Place {
         column: column(kept(p.u, wide)),
         row: column(kept(p.v, high)),
-        inside: inside(p.u, wide) & inside(p.v, high),
+        inside: has_cell(p.u, wide) & has_cell(p.v, high),
     }
 }
 
 pub fn nearest_of(p: Point, wide: u64, high: u64) -> Place
     requires { ⌜ Whole p ⌝ }
     requires { ⌜ (wide ≤ 65536) × (high ≤ 65536) ⌝ }
-    ensures { λ c. ⌜ c .inside ≡ (nearby wide (p .u) && nearby high (p .v)) ⌝ }
+    ensures { λ c. ⌜ c .inside ≡ (hasPlace wide (p .u) && hasPlace high (p .v)) ⌝ }
     ensures { λ c. ⌜ (c .inside ≡ true → p .usable ≡ true) ⌝ }
     ensures { λ c.
         ⌜ (c .inside ≡ true → Cells.Place Nearest wide (p .u) (c .column)
         × Cells.Place Nearest high (p .v) (c .row)) ⌝ }
 {
     Place {
-        column: column(kept_beside(p.u, wide)),
-        row: column(kept_beside(p.v, high)),
-        inside: beside(p.u, wide) & beside(p.v, high),
+        column: column(kept_place(p.u, wide)),
+        row: column(kept_place(p.v, high)),
+        inside: has_place(p.u, wide) & has_place(p.v, high),
     }
 }

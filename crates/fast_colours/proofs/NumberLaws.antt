@@ -27,7 +27,7 @@ use Rattle.taps.proofs.WeightedWeights.{bilinear-bounded}
 use Rattle.sampler.specs.Finite.{BoundedPicture}
 use Rattle.sampler.proofs.AtFinite.{within-bounded, bounded-more, pixel-bounded}
 use Rattle.picture.specs.Store.{Numbers}
-use Rattle.sampler.specs.TwoByTwo.{blend}
+use Rattle.sampler.specs.TwoByTwo.{cellColour}
 
 -- ---- samples
 limited-bounded : (bytes : List ℕ) → Limited bytes → (k : ℕ) → (k + 1) * 4 ≤ length bytes
@@ -100,6 +100,6 @@ module _ (bytes : List ℕ) (w h n i j : ℕ) (P : Picture bytes w h n) (hi : i 
     weight-bounded (suc (suc (suc zero))) l = bilinear-bounded tx ty x y .1 .1 .1
     weight-bounded (suc (suc (suc (suc k)))) l = absurd (omega arith)
 
-    pub blend-numbers : Numbers (blend bytes w n i j tx ty)
-    unfolding blend
+    pub blend-numbers : Numbers (cellColour bytes w n i j tx ty)
+    unfolding cellColour
     blend-numbers = bounded-numbers (weighted-bounded square (fourWeights tx ty) 4 (lit≤ tt) tap-bounded weight-bounded)

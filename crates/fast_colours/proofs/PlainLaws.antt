@@ -27,9 +27,9 @@ use Rattle.picture.specs.declared.colour.Rgba.{Rgba}
 use Rattle.point.specs.Point.{limit, usable}
 use Rattle.taps.specs.Interpolation.{interpolation, bilinearCode, Single}
 use Rattle.taps.proofs.CellFloor.{cell-law}
-use Rattle.fast_cells.specs.Cells.{Cell, Cells, Place, Places}
+use Rattle.fast_cells.specs.Cells.{CellOf, Cells, Place, Places}
 use Rattle.sampler.specs.Interpolate.{interpolate}
-use Rattle.sampler.specs.TwoByTwo.{Weighed, blend}
+use Rattle.sampler.specs.TwoByTwo.{Weighed, cellColour}
 use Rattle.sampler.proofs.MixedLaws.{mixed-blend}
 use Rattle.sampler.proofs.InsideLaws.{bilinear-inside, single-inside}
 use Rattle.band.specs.Band.{putPixels}
@@ -141,9 +141,9 @@ unfolding usable
 marked u v a b = both (within limit u) (within limit v) a b
 
 cell-colour : (bytes : List ℕ) (w h n policy : ℕ) (background : Rgba) {u v tx ty : Float} {i j : ℕ}
-    → Cell (w - 1) u i tx → Cell (h - 1) v j ty
-    → blend bytes w n i j tx ty ≡ interpolate bytes w h n policy bilinearCode background (u ⊖ half) (v ⊖ half)
-unfolding blend
+    → CellOf (w - 1) u i tx → CellOf (h - 1) v j ty
+    → cellColour bytes w n i j tx ty ≡ interpolate bytes w h n policy bilinearCode background (u ⊖ half) (v ⊖ half)
+unfolding cellColour
 cell-colour bytes w h n policy background {u} {v} {tx} {ty} {i} {j} C D =
     bilinear-inside bytes w h n policy background (u ⊖ half) (v ⊖ half) i j (next i w (C .below))
     (next j h (D .below)) (sym (C .floor)) (sym (D .floor)) (C .fraction) (D .fraction) refl

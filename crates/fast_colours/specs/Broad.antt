@@ -13,8 +13,8 @@ use Rattle.sampler.specs.TwoByTwo.{mixed}
 use Rattle.fast_colours.specs.Plain.{weight}
 
 -- `added` of opaque taps, sample by sample
-abbrev pub grown : Rgba → Float → Rgba → Rgba
-grown p w s = record {
+abbrev pub addedOpaque : Rgba → Float → Rgba → Rgba
+addedOpaque p w s = record {
   r = s .r ⊕ w ⊗ p .r ⊗ one;
   g = s .g ⊕ w ⊗ p .g ⊗ one;
   b = s .b ⊕ w ⊗ p .b ⊗ one;
@@ -25,9 +25,9 @@ grown p w s = record {
 -- from the sample numbered k on, and from that of the row after it, n samples later
 abbrev pub fourSums : List ℕ → ℕ → ℕ → Float → Float → Float → Float → Rgba
 fourSums bytes k n a b c d =
-    grown (widened bytes 4 (k + n + 3)) d
-    (grown (widened bytes 4 (k + n)) c
-    (grown (widened bytes 4 (k + 3)) b (grown (widened bytes 4 k) a (grey zero zero))))
+    addedOpaque (widened bytes 4 (k + n + 3)) d
+    (addedOpaque (widened bytes 4 (k + n)) c
+    (addedOpaque (widened bytes 4 (k + 3)) b (addedOpaque (widened bytes 4 k) a (grey zero zero))))
 
 -- the colour of the cell at column i and row j by given weights and their sum, and in alpha's pixel the next cell's red
 -- by the same

@@ -9,7 +9,7 @@ use Rattle.exact.specs.Weighted.{Unit32}
 use Rattle.exact.specs.Vector.{at}
 use Rattle.picture.specs.Store.{Numbers}
 use Rattle.picture.specs.declared.colour.Rgba.{Rgba}
-use Rattle.sampler.specs.TwoByTwo.{Weighed, mixed, blend}
+use Rattle.sampler.specs.TwoByTwo.{Weighed, mixed, cellColour}
 
 -- the first n places lie inside: their columns and rows
 pub record PixelsInside (width height n : ℕ) (columns rows : List ℕ) : Type 0 where
@@ -28,7 +28,7 @@ pub record Fractions (n : ℕ) (ts : List Float) : Type 0 where
 -- the colour of the k-th cell at its point's fractions
 abbrev pub blendAt : List ℕ → ℕ → ℕ → List ℕ → List ℕ → List Float → List Float → ℕ → Rgba
 blendAt bytes width channels columns rows xs ys k =
-    blend bytes width channels (getD columns k 0) (getD rows k 0) (at xs k) (at ys k)
+    cellColour bytes width channels (getD columns k 0) (getD rows k 0) (at xs k) (at ys k)
 
 -- ---- how it is worked out
 -- m lists of 64 places

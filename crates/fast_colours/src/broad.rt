@@ -24,8 +24,8 @@ use picture::store::store_number_pixel;
 use sampler::fast_two_by_two::mixed;
 
 // Four samples with one weight more.
-fn grown(p: Rgba, w: f32, s: Rgba) -> Rgba
-    ensures { λ r. ⌜ r ≡ Broad.grown p w s ⌝ }
+fn added_opaque(p: Rgba, w: f32, s: Rgba) -> Rgba
+    ensures { λ r. ⌜ r ≡ Broad.addedOpaque p w s ⌝ }
 {
     Rgba {
         r: s.r + w * p.r * 1.0,
@@ -53,15 +53,15 @@ fn four(
 {
     let k = (j * width + i) * 3;
     let n = k + width * 3;
-    let s = grown(
+    let s = added_opaque(
         widened(picture, 4, k + 3),
         b,
-        grown(widened(picture, 4, k), a, grey(0.0, 0.0)),
+        added_opaque(widened(picture, 4, k), a, grey(0.0, 0.0)),
     );
-    grown(
+    added_opaque(
         widened(picture, 4, n + 3),
         d,
-        grown(widened(picture, 4, n), c, s),
+        added_opaque(widened(picture, 4, n), c, s),
     )
 }
 
@@ -179,7 +179,7 @@ fn store_broad(
 }
 
 // Whether each of the first n cells has a pixel to its right, as those before column `last` have.
-fn beside(columns: &[u32; 64], n: usize, width: u64) -> bool
+fn next_columns_inside(columns: &[u32; 64], n: usize, width: u64) -> bool
     requires { ⌜ n ≤ 64 ⌝ }
     requires { ⌜ width ≤ 4096 ⌝ }
     ensures { λ r. ⌜ (r ≡ true → (k : ℕ) → k < n → getD (now (columns .entry)) k 0 + 2 < width) ⌝ }
@@ -253,7 +253,7 @@ pub fn store_cells(
 {
     if shape.channels == 3 {
         if 0 < span.n {
-            if beside(columns, span.n, shape.width) {
+            if next_columns_inside(columns, span.n, shape.width) {
                 store_three(picture, shape, columns, rows, xs, ys, span, band);
                 return;
             }

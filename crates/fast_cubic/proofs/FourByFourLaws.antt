@@ -18,9 +18,9 @@ use Rattle.exact.specs.Warp.{half}
 use Rattle.exact.specs.Vector.{at}
 use Rattle.picture.specs.declared.colour.Rgba.{Rgba}
 use Rattle.taps.specs.Interpolation.{Cubic}
-use Rattle.fast_cells.specs.Cells.{Cell, Cells}
+use Rattle.fast_cells.specs.Cells.{CellOf, Cells}
 use Rattle.sampler.specs.Interpolate.{interpolate}
-use Rattle.sampler.specs.Sixteen.{kernel}
+use Rattle.sampler.specs.Sixteen.{kernelOf}
 use Rattle.sampler.proofs.SixteenCode.{cubic-inside}
 use Rattle.band.specs.Image.{imageOf}
 use Rattle.fast_cubic.specs.Kernels.{Kernels, ofFour}
@@ -55,7 +55,7 @@ two-on c n h l = omega arith
 
 square-colour : (bytes : List ℕ) (w h n policy : ℕ) (background : Rgba) (code : ℕ) → Cubic code
     → {u v tx ty : Float} {i j : ℕ} {wx wy : List Float}
-    → Cell (w - 2) u i tx → Cell (h - 2) v j ty → 0 < i → 0 < j → wx ≡ kernel code tx → wy ≡ kernel code ty
+    → CellOf (w - 2) u i tx → CellOf (h - 2) v j ty → 0 < i → 0 < j → wx ≡ kernelOf code tx → wy ≡ kernelOf code ty
     → fourByFour bytes w n i j wx wy ≡ interpolate bytes w h n policy code background (u ⊖ half) (v ⊖ half)
 unfolding fourByFour
 square-colour bytes w h n policy background code cubic {u} {v} {tx} {ty} {i} {j} C D hi hj kx ky =

@@ -19,7 +19,7 @@ use Rattle.exact.proofs.Booleans.{both}
 use Rattle.cubic.specs.Cubic as Cubic
 use Rattle.cubic.specs.Cubic.{cubicWeights}
 use Rattle.taps.specs.Interpolation.{catromCode}
-use Rattle.sampler.specs.Sixteen.{kernel}
+use Rattle.sampler.specs.Sixteen.{kernelOf}
 use Rattle.fast_colours.specs.Plain.{Sized}
 use Rattle.fast_colours.proofs.PlainLaws.{put}
 use Rattle.fast_cubic.specs.Kernels.{Weighed4, Kernels}
@@ -96,11 +96,11 @@ module _ {b c : Float} {ts : List Float} where
 -- ---- by the code
 module _ {code n : ℕ} {ts : List Float} {w : List (List Float)} where
   pub kernel-catrom : code ≡ catromCode → Weighed4 Cubic.zero Cubic.half n ts w → Kernels code n ts w
-  unfolding kernel
+  unfolding kernelOf
   kernel-catrom e W = record { weights = λ k l. W .weights k l ∙ rw e }
 
   pub kernel-spline : (code ≡ catromCode → ⊥) → Weighed4 Cubic.one Cubic.zero n ts w → Kernels code n ts w
-  unfolding kernel
+  unfolding kernelOf
   kernel-spline e W = record { weights = λ k l. W .weights k l ∙ rw (ne-eqb code catromCode e) }
 
 -- ---- both answers

@@ -5,7 +5,7 @@ use mathlib.Core.List.{List, [], _∷_}
 use lib.Ieee.{Float}
 use Rattle.cubic.specs.Cubic.{cubicWeights}
 use Rattle.exact.specs.Vector.{at}
-use Rattle.sampler.specs.Sixteen.{kernel}
+use Rattle.sampler.specs.Sixteen.{kernelOf}
 use Rattle.fast_colours.specs.Plain.{weight}
 
 -- the k-th of four lists
@@ -18,4 +18,4 @@ pub record Weighed4 (b c : Float) (n : ℕ) (ts : List Float) (w : List (List Fl
 
 -- and by the interpolation's code
 pub record Kernels (code n : ℕ) (ts : List Float) (w : List (List Float)) : Type 0 where
-  pub weights : (k : ℕ) → k < n → ofFour w k ≡ kernel code (at ts k)
+  pub weights : (k : ℕ) → k < n → ofFour w k ≡ kernelOf code (at ts k)

@@ -15,9 +15,9 @@ use Rattle.point.specs.declared.point.Point.{Point}
 use Rattle.point.specs.Point.{point, Whole}
 use Rattle.mappings.specs.Mapping.{barrelKind}
 use Rattle.inverse.specs.Barrel.{across, down, radiusSquared, barrelFrom, barrelInverseFrom}
-use Rattle.fast_points.specs.Points.{middle, PointsOf}
+use Rattle.fast_points.specs.Points.{pixelMiddle, PointsOf}
 use Rattle.fast_points.proofs.FillLaws.{both-more}
-use Rattle.fast_points.specs.Barrels.{barrelBy, RadiiSquared, Each, Moved}
+use Rattle.fast_points.specs.Barrels.{barrelBy, RadiiSquared, EachBy, Moved}
 
 -- ---- the offsets and the squares
 pub record Squaring (c : Vector) (x dy : Float) (first k : ℕ) (ds ss : List Float) : Type 0 where
@@ -29,15 +29,15 @@ module _ (c : Vector) (x dy : Float) (first : ℕ) where
   pub square-none : {ds ss : List Float} → length ds ≡ 64 → length ss ≡ 64 → Squaring c x dy first 0 ds ss
   square-none a b = record { done = record { each = λ k h. absurd (not-suc-le-zero h) }; long-d = a; long-s = b }
 
-  pub square-more : (k : ℕ) {ds ss : List Float} {a d s : Float} → a ≡ middle (first + k) x → d ≡ across c a
+  pub square-more : (k : ℕ) {ds ss : List Float} {a d s : Float} → a ≡ pixelMiddle (first + k) x → d ≡ across c a
       → s ≡ radiusSquared d dy → k < 64
       → Squaring c x dy first k ds ss → Squaring c x dy first (k + 1) (set ds k d) (set ss k s)
   square-more k {ds} {ss} e g q h old =
       record {
         done = record {
           each =
-              both-more (λ (i : ℕ) (d s : Float). (d ≡ across c (middle (first + i) x))
-              × (s ≡ radiusSquared (across c (middle (first + i) x)) dy)) k ds ss
+              both-more (λ (i : ℕ) (d s : Float). (d ≡ across c (pixelMiddle (first + i) x))
+              × (s ≡ radiusSquared (across c (pixelMiddle (first + i) x)) dy)) k ds ss
               (old .long-d) (old .long-s) h
               (rw (← e) (g, q ∙ ap (λ (z : Float). radiusSquared z dy) g)) (old .done .each);
         };
@@ -51,7 +51,7 @@ module _ (c : Vector) (x dy : Float) (first : ℕ) where
 
 -- ---- a function of each: the guesses, and the roots
 pub record Mapping (f : Float → Float) (k : ℕ) (xs ys : List Float) : Type 0 where
-  pub done : Each f k xs ys
+  pub done : EachBy f k xs ys
   pub long : length ys ≡ 64
 
 module _ (f : Float → Float) (xs : List Float) where
@@ -69,17 +69,17 @@ module _ (f : Float → Float) (xs : List Float) where
         long = length-set ys k _ ∙ old .long;
       }
 
-  pub each-last : (k n : ℕ) {ys : List Float} → n ≤ k → Mapping f k xs ys → Each f n xs ys
+  pub each-last : (k n : ℕ) {ys : List Float} → n ≤ k → Mapping f k xs ys → EachBy f n xs ys
   each-last k n a s = record { each = λ i h. s .done .each i (omega arith) }
 
 -- ---- the three steps together
 radius : (c : Vector) (x dy : Float) (first n : ℕ) {ds ss rs : List Float} → RadiiSquared c x dy first n ds ss
-    → Each root n ss rs
-    → (k : ℕ) → k < n → at rs k ≡ root (radiusSquared (across c (middle (first + k) x)) dy)
+    → EachBy root n ss rs
+    → (k : ℕ) → k < n → at rs k ≡ root (radiusSquared (across c (pixelMiddle (first + k) x)) dy)
 radius c x dy first n S R k h = R .each k h ∙ ap root (S .each k h .1)
 
 module _ (c : Vector) (x y : Float) (first n : ℕ) {kind : ℕ} {dy : Float} {ds ss rs us vs : List Float} where
-  pub barrel-span : kind ≡ barrelKind → dy ≡ down c y → RadiiSquared c x dy first n ds ss → Each root n ss rs
+  pub barrel-span : kind ≡ barrelKind → dy ≡ down c y → RadiiSquared c x dy first n ds ss → EachBy root n ss rs
       → Moved (barrelFrom c dy) n ds rs us vs
       → PointsOf (λ (a : Float). barrelBy kind c a y) x first n us vs
   barrel-span q e S R m = record {
@@ -87,7 +87,7 @@ module _ (c : Vector) (x y : Float) (first n : ℕ) {kind : ℕ} {dy : Float} {d
         (m .kept k h);
   }
 
-  pub barrel-inverse-span : kind ≢ barrelKind → dy ≡ down c y → RadiiSquared c x dy first n ds ss → Each root n ss rs
+  pub barrel-inverse-span : kind ≢ barrelKind → dy ≡ down c y → RadiiSquared c x dy first n ds ss → EachBy root n ss rs
       → Moved (barrelInverseFrom c dy) n ds rs us vs
       → PointsOf (λ (a : Float). barrelBy kind c a y) x first n us vs
   barrel-inverse-span q e S R m = record {

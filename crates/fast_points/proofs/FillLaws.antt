@@ -13,7 +13,7 @@ use lib.Ieee.{Float, nan}
 use Rattle.exact.specs.Vector.{at}
 use Rattle.point.specs.declared.point.Point.{Point}
 use Rattle.point.specs.Point.{point, Whole}
-use Rattle.fast_points.specs.Points.{middle, KeptPoints}
+use Rattle.fast_points.specs.Points.{pixelMiddle, KeptPoints}
 
 others : {i k : ℕ} → i < k → i ≢ k
 others h e = omega arith
@@ -60,7 +60,7 @@ module _ (g : ℕ → Point) where
 
 -- those of a function of the pixels' middles
 pub fill-span : (f : Float → Point) (x : Float) (first : ℕ) → ((a : Float) → Whole (f a)) → (k : ℕ)
-    {us vs : List Float} {a : Float} {p : Point} → a ≡ middle (first + k) x → p ≡ f a → k < 64
-    → Filling (λ (i : ℕ). f (middle (first + i) x)) k us vs
-    → Filling (λ (i : ℕ). f (middle (first + i) x)) (k + 1) (set us k (p .u)) (set vs k (p .v))
-fill-span f x first w k e g = fill-more (λ (i : ℕ). f (middle (first + i) x)) k (g ∙ ap f e) (w _)
+    {us vs : List Float} {a : Float} {p : Point} → a ≡ pixelMiddle (first + k) x → p ≡ f a → k < 64
+    → Filling (λ (i : ℕ). f (pixelMiddle (first + i) x)) k us vs
+    → Filling (λ (i : ℕ). f (pixelMiddle (first + i) x)) (k + 1) (set us k (p .u)) (set vs k (p .v))
+fill-span f x first w k e g = fill-more (λ (i : ℕ). f (pixelMiddle (first + i) x)) k (g ∙ ap f e) (w _)

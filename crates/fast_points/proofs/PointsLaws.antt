@@ -20,7 +20,7 @@ use Rattle.inverse.specs.Polynomial.{polynomial}
 use Rattle.inverse.specs.Affine.{affine}
 use Rattle.inverse.specs.Inverse.{inverse}
 use Rattle.inverse.specs.declared.frame.Frame.{Frame}
-use Rattle.fast_points.specs.Points.{middle, PointsOf, Points}
+use Rattle.fast_points.specs.Points.{pixelMiddle, PointsOf, Points}
 use Rattle.fast_points.specs.Barrels.{barrelBy}
 
 module _ (f : Frame) (coef : Vector) (first j n : ℕ) {a b : Float} {us vs : List Float}
@@ -28,7 +28,7 @@ module _ (f : Frame) (coef : Vector) (first j n : ℕ) {a b : Float} {us vs : Li
   pub points-by : (h : Float → Point) → ((c : Float) → h c ≡ inverse (f .kind) (f .order) (f .count) coef c b)
       → PointsOf h a first n us vs
       → Points f coef first j n us vs
-  points-by h same s = record { kept = λ k l. rw (← e, ← g, ← same (middle (first + k) a)) (s .kept k l) }
+  points-by h same s = record { kept = λ k l. rw (← e, ← g, ← same (pixelMiddle (first + k) a)) (s .kept k l) }
 
   pub points-affine : f .kind ≡ affineKind → PointsOf (λ (c : Float). affine coef c b) a first n us vs
       → Points f coef first j n us vs

@@ -10,7 +10,7 @@ use Rattle.exact.specs.Vector.{Vector, at}
 use Rattle.point.specs.declared.point.Point.{Point}
 use Rattle.mappings.specs.Mapping.{barrelKind}
 use Rattle.inverse.specs.Barrel.{across, radiusSquared, barrel, barrelInverse}
-use Rattle.fast_points.specs.Points.{middle, KeptPoints}
+use Rattle.fast_points.specs.Points.{pixelMiddle, KeptPoints}
 
 -- the point of Barrel, or of BarrelInverse where the kind is another
 abbrev pub barrelBy : ℕ → Vector → Float → Float → Point
@@ -20,10 +20,11 @@ barrelBy kind c x y = cond (eqb kind barrelKind) (barrel c x y) (barrelInverse c
 -- window at x; dy is the offset down
 pub record RadiiSquared (c : Vector) (x dy : Float) (first n : ℕ) (ds ss : List Float) : Type 0 where
   pub each : (k : ℕ) → k < n
-      → (at ds k ≡ across c (middle (first + k) x)) × (at ss k ≡ radiusSquared (across c (middle (first + k) x)) dy)
+      → (at ds k ≡ across c (pixelMiddle (first + k) x))
+      × (at ss k ≡ radiusSquared (across c (pixelMiddle (first + k) x)) dy)
 
 -- the first n of a list: f of another's
-pub record Each (f : Float → Float) (n : ℕ) (xs ys : List Float) : Type 0 where
+pub record EachBy (f : Float → Float) (n : ℕ) (xs ys : List Float) : Type 0 where
   pub each : (k : ℕ) → k < n → at ys k ≡ f (at xs k)
 
 -- the first n of two lists: the points that `from` gives by the offsets and the radii

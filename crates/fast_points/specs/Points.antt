@@ -14,8 +14,8 @@ use Rattle.inverse.specs.Inverse.{inverse}
 use Rattle.inverse.specs.declared.frame.Frame.{Frame}
 
 -- `asked` with the offset as a float
-abbrev pub middle : ℕ → Float → Float
-middle i x = ofInt binary64 (pos i) ⊕ x ⊕ half
+abbrev pub pixelMiddle : ℕ → Float → Float
+pixelMiddle i x = ofInt binary64 (pos i) ⊕ x ⊕ half
 
 -- the first n of two lists: the coordinates of the points that g numbers
 pub record KeptPoints (g : ℕ → Point) (n : ℕ) (us vs : List Float) : Type 0 where
@@ -23,7 +23,7 @@ pub record KeptPoints (g : ℕ → Point) (n : ℕ) (us vs : List Float) : Type 
 
 -- of those that f gives at the middles of the pixels from column `first` on, of a window at x
 abbrev pub PointsOf : (Float → Point) → Float → ℕ → ℕ → List Float → List Float → Type 0
-PointsOf f x first n us vs = KeptPoints (λ (k : ℕ). f (middle (first + k) x)) n us vs
+PointsOf f x first n us vs = KeptPoints (λ (k : ℕ). f (pixelMiddle (first + k) x)) n us vs
 
 -- of the pixels' from column `first` of row j on, of the frame's window
 abbrev pub Points : Frame → Vector → ℕ → ℕ → ℕ → List Float → List Float → Type 0

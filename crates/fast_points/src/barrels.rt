@@ -9,8 +9,8 @@ ghost use lib.Ieee.{Float};
 ghost use Rattle.number.specs.Root.{root, guess};
 ghost use Rattle.inverse.specs.Barrel.{barrelFrom, barrelInverseFrom};
 ghost use Rattle.fast_points.specs.Points.{PointsOf};
-ghost use Rattle.fast_points.specs.Barrels.{barrelBy, RadiiSquared, Each, Moved};
-use crate::pixel::middle;
+ghost use Rattle.fast_points.specs.Barrels.{barrelBy, RadiiSquared, EachBy, Moved};
+use crate::pixel::pixel_middle;
 use crate::sized::sized;
 use inverse::barrel::across;
 use inverse::barrel::barrel_from;
@@ -35,7 +35,7 @@ fn radii_squared(
     ensures { λ _. ⌜ RadiiSquared (now (coef .entry)) x dy first n (now (ds .exit)) (now (ss .exit)) ⌝ }
 {
     for k in 0..n {
-        let dx = across(coef, middle(first + (k as u32), x));
+        let dx = across(coef, pixel_middle(first + (k as u32), x));
         ds[k] = dx;
         ss[k] = radius_squared(dx, dy);
     }
@@ -44,7 +44,7 @@ fn radii_squared(
 // What the roots start from, several at a time.
 fn guesses(ss: &[f64; 64], n: usize, gs: &mut [f64; 64])
     requires { ⌜ (n ≤ 64) × (length (now gs) ≡ 64) ⌝ }
-    ensures { λ _. ⌜ Each guess n (now (ss .entry)) (now (gs .exit)) ⌝ }
+    ensures { λ _. ⌜ EachBy guess n (now (ss .entry)) (now (gs .exit)) ⌝ }
 {
     for k in 0..n {
         gs[k] = guess(ss[k]);
@@ -54,7 +54,7 @@ fn guesses(ss: &[f64; 64], n: usize, gs: &mut [f64; 64])
 // The roots, whatever the guesses.
 fn roots(ss: &[f64; 64], gs: &[f64; 64], n: usize, rs: &mut [f64; 64])
     requires { ⌜ (n ≤ 64) × (length (now rs) ≡ 64) ⌝ }
-    ensures { λ _. ⌜ Each root n (now (ss .entry)) (now (rs .exit)) ⌝ }
+    ensures { λ _. ⌜ EachBy root n (now (ss .entry)) (now (rs .exit)) ⌝ }
 {
     for k in 0..n {
         rs[k] = root_by(ss[k], gs[k]);

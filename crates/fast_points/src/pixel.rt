@@ -16,9 +16,9 @@ pub fn offset(x: i64) -> f64
 
 // The middle of column or row i of a window at the offset. A cast from 32 bits is one instruction, for several pixels
 // at a time.
-pub fn middle(i: u32, x: f64) -> f64
+pub fn pixel_middle(i: u32, x: f64) -> f64
     requires { ⌜ i ≤ 4096 ⌝ }
-    ensures { λ r. ⌜ r ≡ Points.middle i x ⌝ }
+    ensures { λ r. ⌜ r ≡ Points.pixelMiddle i x ⌝ }
 {
     ((i as i32) as f64) + x + 0.5
 }
@@ -28,5 +28,5 @@ pub fn asked(i: u64, x: i64) -> f64
     requires { ⌜ (i ≤ 4096) × (natAbs x ≤ 1048576) ⌝ }
     ensures { λ r. ⌜ r ≡ asked i x ⌝ }
 {
-    middle(i as u32, offset(x))
+    pixel_middle(i as u32, offset(x))
 }

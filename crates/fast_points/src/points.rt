@@ -15,8 +15,8 @@ ghost use Rattle.inverse.specs.Inverse.{inverse};
 ghost use Rattle.fast_points.specs.Points.{PointsOf, Points};
 use crate::barrels::barrel_points;
 use crate::pixel::asked;
-use crate::pixel::middle;
 use crate::pixel::offset;
+use crate::pixel::pixel_middle;
 use crate::sized::sized;
 use inverse::affine::affine;
 use inverse::forward::bilinear_forward;
@@ -45,7 +45,7 @@ fn affine_points(
         ⌜ PointsOf (λ (a : Float). affine (now (coef .entry)) a y) x first n (now (us .exit)) (now (vs .exit)) ⌝ }
 {
     for k in 0..n {
-        let p = affine(coef, middle(first + (k as u32), x), y);
+        let p = affine(coef, pixel_middle(first + (k as u32), x), y);
         us[k] = p.u;
         vs[k] = p.v;
     }
@@ -65,7 +65,7 @@ fn perspective_points(
         (now (vs .exit)) ⌝ }
 {
     for k in 0..n {
-        let p = perspective(coef, middle(first + (k as u32), x), y);
+        let p = perspective(coef, pixel_middle(first + (k as u32), x), y);
         us[k] = p.u;
         vs[k] = p.v;
     }
@@ -86,7 +86,7 @@ fn polynomial_points(
         (now (vs .exit)) ⌝ }
 {
     for k in 0..n {
-        let p = polynomial(order, coef, middle(first + (k as u32), x), y);
+        let p = polynomial(order, coef, pixel_middle(first + (k as u32), x), y);
         us[k] = p.u;
         vs[k] = p.v;
     }
@@ -106,7 +106,7 @@ fn forward_points(
         (now (vs .exit)) ⌝ }
 {
     for k in 0..n {
-        let p = bilinear_forward(coef, middle(first + (k as u32), x), y);
+        let p = bilinear_forward(coef, pixel_middle(first + (k as u32), x), y);
         us[k] = p.u;
         vs[k] = p.v;
     }
@@ -131,7 +131,14 @@ fn other_points(
     let order = frame.order;
     let count = frame.count;
     for k in 0..n {
-        let p = inverse(kind, order, count, coef, middle(first + (k as u32), x), y);
+        let p = inverse(
+            kind,
+            order,
+            count,
+            coef,
+            pixel_middle(first + (k as u32), x),
+            y,
+        );
         us[k] = p.u;
         vs[k] = p.v;
     }

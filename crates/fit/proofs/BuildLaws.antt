@@ -9,7 +9,7 @@ use lib.IntN.{pos}
 use lib.Ieee.{Float, nan, binary64, ofInt}
 use borrow.Author.Tests.{eq-eqb, ne-eqb}
 use Rattle.arguments.specs.Method.{skip}
-use Rattle.arguments.specs.Refusal.{pairsIn, pairsOf, refusal}
+use Rattle.arguments.specs.Refusal.{pairsIn, pairsOf, argumentsRefusal}
 use Rattle.arguments.specs.Store.{countOf, heldOf, valuesOf, orderOf}
 use Rattle.arguments.proofs.AcceptedLaws.{Accepted, accepted}
 use Rattle.arguments.proofs.StoreLaws.{held-all, order-value}
@@ -18,7 +18,7 @@ use Rattle.fit.specs.Build.{made, build}
 use Rattle.mappings.specs.Mapping.{refused}
 use Rattle.exact.specs.Vector.{Vector, at}
 
-module _ (m : ℕ) (bytes : List ℕ) {number : ℕ} (told : number ≡ refusal m bytes) where
+module _ (m : ℕ) (bytes : List ℕ) {number : ℕ} (told : number ≡ argumentsRefusal m bytes) where
   none : number ≡ 0 → Accepted m bytes
   none e = accepted m bytes (sym told ∙ e)
 
@@ -45,8 +45,8 @@ module _ (m : ℕ) (bytes : List ℕ) {number : ℕ} (told : number ≡ refusal 
         e
         ∙ ap refused told
         ∙ sym (ap (λ b. cond b (made m (valuesOf bytes) (countOf bytes) (pairsOf m bytes) (orderOf bytes)
-        (ofInt binary64 (pos width)) (ofInt binary64 (pos height))) (refused (refusal m bytes)))
-        (ne-eqb (refusal m bytes) 0 (λ q. h (told ∙ q))))
+        (ofInt binary64 (pos width)) (ofInt binary64 (pos height))) (refused (argumentsRefusal m bytes)))
+        (ne-eqb (argumentsRefusal m bytes) 0 (λ q. h (told ∙ q))))
 
     pub build-made : number ≡ 0 → {values : Vector} {count pairs : ℕ} {order w h : Float} → values ≡ valuesOf bytes
         → count ≡ heldOf bytes → pairs ≡ pairsOf m bytes → order ≡ orderOf bytes → w ≡ ofInt binary64 (pos width)
@@ -56,8 +56,8 @@ module _ (m : ℕ) (bytes : List ℕ) {number : ℕ} (told : number ≡ refusal 
         e
         ∙ same ev (ec ∙ held-all bytes (none z .room)) ep eo ew eh
         ∙ sym (ap (λ b. cond b (made m (valuesOf bytes) (countOf bytes) (pairsOf m bytes) (orderOf bytes)
-        (ofInt binary64 (pos width)) (ofInt binary64 (pos height))) (refused (refusal m bytes)))
-        (eq-eqb (refusal m bytes) 0 (sym told ∙ z)))
+        (ofInt binary64 (pos width)) (ofInt binary64 (pos height))) (refused (argumentsRefusal m bytes)))
+        (eq-eqb (argumentsRefusal m bytes) 0 (sym told ∙ z)))
       where
         same : {v v′ : Vector} {c c′ p p′ : ℕ} {o o′ w w′ h h′ : Float} → v ≡ v′ → c ≡ c′ → p ≡ p′ → o ≡ o′ → w ≡ w′
             → h ≡ h′ → made m v c p o w h ≡ made m v′ c′ p′ o′ w′ h′

@@ -12,12 +12,12 @@ use borrow.Author.Tests.{eqb-true}
 use lib.ListN.{length, take, length-append, length-take}
 use Rattle.arguments.specs.Method.{affineTerms}
 use Rattle.arguments.specs.Order.{termsOf}
-use Rattle.arguments.specs.Refusal.{pairsOf, refusal}
+use Rattle.arguments.specs.Refusal.{pairsOf, argumentsRefusal}
 use Rattle.arguments.specs.Store.{countOf, valuesOf, orderOf}
 use Rattle.mappings.specs.declared.mapping.Fitted.{Fitted}
 use Rattle.linear.specs.declared.solve.Solution.{Solution}
-use Rattle.fit.specs.Affine.{affineForward, affineProjection, shift, similarity, affine}
-use Rattle.fit.specs.Barrel.{barrel}
+use Rattle.fit.specs.Affine.{affineForward, fitAffineProjection, shift, similarity, fitAffine}
+use Rattle.fit.specs.Barrel.{fitBarrel}
 use Rattle.fit.specs.Build.{made, build}
 use Rattle.fit.specs.Fit.{both}
 use Rattle.mappings.specs.Mapping.{
@@ -32,8 +32,8 @@ use Rattle.mappings.specs.Mapping.{
 }
 use Rattle.exact.specs.Vector.{Vector}
 use Rattle.exact.proofs.Booleans.{either}
-use Rattle.fit.specs.Perspective.{forward, perspectiveProjection, perspective}
-use Rattle.fit.specs.Shepards.{shepards}
+use Rattle.fit.specs.Perspective.{forward, fitPerspectiveProjection, fitPerspective}
+use Rattle.fit.specs.Shepards.{fitShepards}
 use Rattle.fit.proofs.BuildLaws.{few-pairs}
 use Rattle.fit.proofs.FitLaws.{affine-terms, polynomial-terms}
 use Rattle.fit.proofs.OrientLaws.{orient-length}
@@ -70,32 +70,32 @@ both-room s t n kind order h =
 few : (n c : ℕ) → n ≡ c → c ≤ 42 → n ≤ 42
 few n c e h = subst⁻¹ (λ (k : ℕ). k ≤ 42) e h
 
-affine-room : (args : Vector) (pairs : ℕ) → Room (affine args pairs)
-unfolding affine shift similarity
+affine-room : (args : Vector) (pairs : ℕ) → Room (fitAffine args pairs)
+unfolding fitAffine shift similarity
 affine-room args pairs =
     either Room (eqb pairs 1) (short _ _ _ (lit≤ tt))
     (either Room (eqb pairs 2) (short-8 _ _ _ _ (lit≤ tt))
     (both-room _ _ (affineTerms pairs) _ _ (affine-terms pairs refl)))
 
-affineProjection-room : (args : Vector) → Room (affineProjection args)
-unfolding affineProjection
+affineProjection-room : (args : Vector) → Room (fitAffineProjection args)
+unfolding fitAffineProjection
 affineProjection-room args = short-8 _ _ _ _ (few _ 6 (affine-length (affineForward args)) (lit≤ tt))
 
-perspective-room : (args : Vector) (pairs : ℕ) → Room (perspective args pairs)
-unfolding perspective
+perspective-room : (args : Vector) (pairs : ℕ) → Room (fitPerspective args pairs)
+unfolding fitPerspective
 perspective-room args pairs = short-8 _ _ _ _ (few _ 9 (orient-length _ _ _ refl) (lit≤ tt))
 
-perspectiveProjection-room : (args : Vector) (w h : Float) → Room (perspectiveProjection args w h)
-unfolding perspectiveProjection
+perspectiveProjection-room : (args : Vector) (w h : Float) → Room (fitPerspectiveProjection args w h)
+unfolding fitPerspectiveProjection
 perspectiveProjection-room args w h =
     short-8 _ _ _ _ (few _ 9 (orient-length _ _ _ (inverse-length (forward args))) (lit≤ tt))
 
-barrel-room : (args : Vector) (count : ℕ) (w h : Float) (kind : ℕ) → Room (barrel args count w h kind)
-unfolding barrel
+barrel-room : (args : Vector) (count : ℕ) (w h : Float) (kind : ℕ) → Room (fitBarrel args count w h kind)
+unfolding fitBarrel
 barrel-room args count w h kind = short _ _ _ (lit≤ tt)
 
-shepards-room : (args : Vector) (pairs : ℕ) → pairs ≤ 64 → Room (shepards args pairs)
-unfolding shepards mapping
+shepards-room : (args : Vector) (pairs : ℕ) → pairs ≤ 64 → Room (fitShepards args pairs)
+unfolding fitShepards mapping
 shepards-room args pairs h = record { all = omega (arith, length-take (4 * pairs) args); poly = λ e. absurd (seven e) }
   where
     seven : shepardsKind ≡ polyKind → ⊥
@@ -120,10 +120,10 @@ made-room method args count pairs order w h small =
 
 pub build-room : (method : ℕ) (bytes : List ℕ) (width height : ℕ) → Room (build method bytes width height)
 unfolding build
-build-room method bytes width height = go (eqb (refusal method bytes) 0) refl
+build-room method bytes width height = go (eqb (argumentsRefusal method bytes) 0) refl
   where
-    go : (b : Bool) → eqb (refusal method bytes) 0 ≡ b
+    go : (b : Bool) → eqb (argumentsRefusal method bytes) 0 ≡ b
         → Room (cond b (made method (valuesOf bytes) (countOf bytes) (pairsOf method bytes) (orderOf bytes)
-        (ofInt binary64 (pos width)) (ofInt binary64 (pos height))) (refused (refusal method bytes)))
+        (ofInt binary64 (pos width)) (ofInt binary64 (pos height))) (refused (argumentsRefusal method bytes)))
     go true e = made-room method _ _ _ _ _ _ (few-pairs method bytes refl (eqb-true _ _ e) refl)
-    go false e = refused-room (refusal method bytes)
+    go false e = refused-room (argumentsRefusal method bytes)

@@ -10,19 +10,19 @@ use lib.IntN.{pos}
 use lib.Ieee.{Float, binary64, ofInt}
 use borrow.Author.Tests.{eq-eqb}
 use Rattle.exact.proofs.Booleans.{either}
-use Rattle.arguments.specs.Refusal.{pairsOf, refusal}
+use Rattle.arguments.specs.Refusal.{pairsOf, argumentsRefusal}
 use Rattle.arguments.specs.Store.{countOf, valuesOf, orderOf}
 use Rattle.mappings.specs.declared.mapping.Fitted.{Fitted}
 use Rattle.mappings.specs.declared.mapping.Mapping.{Mapping}
 use Rattle.linear.specs.declared.solve.Solution.{Solution}
-use Rattle.fit.specs.Affine.{affineProjection, shift, similarity, affine}
-use Rattle.fit.specs.Barrel.{barrel}
+use Rattle.fit.specs.Affine.{fitAffineProjection, shift, similarity, fitAffine}
+use Rattle.fit.specs.Barrel.{fitBarrel}
 use Rattle.fit.specs.Build.{made, build}
 use Rattle.fit.specs.Fit.{both}
 use Rattle.mappings.specs.Mapping.{fitted, refused, solvedOr8}
 use Rattle.fit.specs.Matrix.{Vector}
-use Rattle.fit.specs.Perspective.{perspectiveProjection, perspective}
-use Rattle.fit.specs.Shepards.{shepards}
+use Rattle.fit.specs.Perspective.{fitPerspectiveProjection, fitPerspective}
+use Rattle.fit.specs.Shepards.{fitShepards}
 
 -- a mapping, or refusal 8
 pub record NoneOr8 (f : Fitted) : Type 0 where
@@ -41,29 +41,29 @@ both-8 : (s t : Solution) (n kind order : ℕ) → NoneOr8 (both s t n kind orde
 unfolding both
 both-8 s t n kind order = solved _ _
 
-affine-8 : (args : Vector) (pairs : ℕ) → NoneOr8 (affine args pairs)
-unfolding affine shift similarity
+affine-8 : (args : Vector) (pairs : ℕ) → NoneOr8 (fitAffine args pairs)
+unfolding fitAffine shift similarity
 affine-8 args pairs = either NoneOr8 (eqb pairs 1) (none _)
     (either NoneOr8 (eqb pairs 2) (solved _ _) (both-8 _ _ _ _ _))
 
-affineProjection-8 : (args : Vector) → NoneOr8 (affineProjection args)
-unfolding affineProjection
+affineProjection-8 : (args : Vector) → NoneOr8 (fitAffineProjection args)
+unfolding fitAffineProjection
 affineProjection-8 args = solved _ _
 
-perspective-8 : (args : Vector) (pairs : ℕ) → NoneOr8 (perspective args pairs)
-unfolding perspective
+perspective-8 : (args : Vector) (pairs : ℕ) → NoneOr8 (fitPerspective args pairs)
+unfolding fitPerspective
 perspective-8 args pairs = solved _ _
 
-perspectiveProjection-8 : (args : Vector) (w h : Float) → NoneOr8 (perspectiveProjection args w h)
-unfolding perspectiveProjection
+perspectiveProjection-8 : (args : Vector) (w h : Float) → NoneOr8 (fitPerspectiveProjection args w h)
+unfolding fitPerspectiveProjection
 perspectiveProjection-8 args w h = solved _ _
 
-barrel-8 : (args : Vector) (count : ℕ) (w h : Float) (kind : ℕ) → NoneOr8 (barrel args count w h kind)
-unfolding barrel
+barrel-8 : (args : Vector) (count : ℕ) (w h : Float) (kind : ℕ) → NoneOr8 (fitBarrel args count w h kind)
+unfolding fitBarrel
 barrel-8 args count w h kind = none _
 
-shepards-8 : (args : Vector) (pairs : ℕ) → NoneOr8 (shepards args pairs)
-unfolding shepards
+shepards-8 : (args : Vector) (pairs : ℕ) → NoneOr8 (fitShepards args pairs)
+unfolding fitShepards
 shepards-8 args pairs = none _
 
 -- ---- all of them
@@ -82,10 +82,10 @@ made-8 method args count pairs order w h =
     (either NoneOr8 (eqb method 12) (barrel-8 args count w h _)
     (shepards-8 args pairs)))))))))
 
-pub build-8 : (method : ℕ) (bytes : List ℕ) (width height : ℕ) → refusal method bytes ≡ 0
+pub build-8 : (method : ℕ) (bytes : List ℕ) (width height : ℕ) → argumentsRefusal method bytes ≡ 0
     → NoneOr8 (build method bytes width height)
 unfolding build
 build-8 method bytes width height e =
-    rw (eq-eqb (refusal method bytes) 0 e)
+    rw (eq-eqb (argumentsRefusal method bytes) 0 e)
     (made-8 method (valuesOf bytes) (countOf bytes) (pairsOf method bytes) (orderOf bytes) (ofInt binary64 (pos width))
     (ofInt binary64 (pos height)))

@@ -29,8 +29,8 @@ affineForward args = at args 0 ∷ at args 2 ∷ at args 4 ∷ at args 1 ∷ at 
 abbrev pub affineInverse : AffineInverse → Fitted
 affineInverse inverse = solvedOr8 (inverse .found) (mapping affineKind 0 (inverse .m))
 
-unfoldable pub affineProjection : Vector → Fitted
-affineProjection args = affineInverse (invertAffine (affineForward args))
+unfoldable pub fitAffineProjection : Vector → Fitted
+fitAffineProjection args = affineInverse (invertAffine (affineForward args))
 
 -- ---- pairs: one is a shift, two are a similarity, u = a x - b y + c and v = b x + a y + d
 
@@ -49,8 +49,8 @@ similarSolution s = solvedOr8 (s .found) (mapping affineKind 0 (similar (s .x)))
 unfoldable pub similarity : Vector → Fitted
 similarity args = similarSolution (fitTwin args 2 Similarity (affineTerms 2))
 
-unfoldable pub affine : Vector → ℕ → Fitted
-affine args pairs =
+unfoldable pub fitAffine : Vector → ℕ → Fitted
+fitAffine args pairs =
     cond (eqb pairs 1) (shift args)
     (cond (eqb pairs 2) (similarity args)
     (fitBoth args 0 pairs Affine uAndV (affineTerms pairs) affineKind 0))

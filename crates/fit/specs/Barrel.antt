@@ -4,13 +4,12 @@ use mathlib.Core.Bool.{cond}
 use mathlib.Core.List.{[], _∷_}
 use lib.Dec.{ltb}
 use lib.Ieee.{Float}
-use Rattle.exact.specs.Double.{_⊕_, _⊖_, _⊘_}
+use Rattle.exact.specs.Double.{_⊕_, _⊖_, _⊘_, two}
 use Rattle.number.specs.Magnitude.{fmin}
 use Rattle.number.specs.Power.{one}
 use Rattle.mappings.specs.declared.mapping.Fitted.{Fitted}
 use Rattle.mappings.specs.Mapping.{mapping, fitted}
 use Rattle.exact.specs.Vector.{Vector, at}
-use Rattle.fit.specs.Perspective.{two}
 
 -- args.get(k).copied().unwrap_or(other)
 unfoldable pub givenOr : Vector → ℕ → ℕ → Float → Float
@@ -27,5 +26,5 @@ distorted args count w h =
     ∷ (fmin w h ⊘ two)
     ∷ []
 
-unfoldable pub barrel : Vector → ℕ → Float → Float → ℕ → Fitted
-barrel args count w h kind = fitted (mapping kind 0 (distorted args count w h))
+unfoldable pub fitBarrel : Vector → ℕ → Float → Float → ℕ → Fitted
+fitBarrel args count w h kind = fitted (mapping kind 0 (distorted args count w h))

@@ -20,14 +20,14 @@ use Rattle.fit.specs.declared.lstsq.Sides.{Sides}
 
 -- ---- one row a pair
 
-abbrev pub rowsOf : Vector → ℕ → Terms → ℕ → Vector
-rowsOf values skip terms j = rowOf terms (pairAt values skip j)
+abbrev pub rowOfPair : Vector → ℕ → Terms → ℕ → Vector
+rowOfPair values skip terms j = rowOf terms (pairAt values skip j)
 
 abbrev pub sidesOf : Vector → ℕ → Side → ℕ → Float
 sidesOf values skip side j = sideOf side (pairAt values skip j)
 
 abbrev pub fitOne : Vector → ℕ → ℕ → Terms → Side → ℕ → Solution
-fitOne values skip pairs terms side n = lstsq (rowsOf values skip terms) (sidesOf values skip side) n pairs
+fitOne values skip pairs terms side n = lstsq (rowOfPair values skip terms) (sidesOf values skip side) n pairs
 
 -- ---- two rows a pair: first, second, first, second, .. with the right-hand sides u, v, u, v, ..
 

@@ -4,7 +4,7 @@ use Prim.Native.Nat.{ℕ, _+_}
 use mathlib.Core.List.{[], _∷_}
 use lib.IntN.{pos}
 use lib.Ieee.{Float, binary64, ofBits, ofInt}
-use Rattle.exact.specs.Double.{_⊕_, _⊗_, _⊘_}
+use Rattle.exact.specs.Double.{_⊕_, _⊗_, _⊘_, two}
 use Rattle.exact.specs.Loop.{upTo}
 use Rattle.number.specs.Power.{one}
 use Rattle.linear.specs.declared.invert.Inverse.{Inverse}
@@ -20,9 +20,6 @@ use Rattle.exact.specs.Vector.{Vector, at}
 use Rattle.linear.specs.Matrix.{nought}
 use Rattle.fit.specs.Orient.{orient}
 
-abbrev pub two : Float
-two = ofBits binary64 0x4000_0000_0000_0000  -- 2.0
-
 -- ---- the arguments are a forward map; oriented at the image of the picture's centre
 
 abbrev pub forward : Vector → Vector
@@ -37,8 +34,8 @@ centred fwd inverse u v =
     solvedOr8 (inverse .found)
     (mapping perspectiveKind 0 (orient (inverse .m) (projected fwd 0 u v) (projected fwd 3 u v)))
 
-unfoldable pub perspectiveProjection : Vector → Float → Float → Fitted
-perspectiveProjection args w h = centred (forward args) (invert3 (forward args)) (w ⊘ two) (h ⊘ two)
+unfoldable pub fitPerspectiveProjection : Vector → Float → Float → Fitted
+fitPerspectiveProjection args w h = centred (forward args) (invert3 (forward args)) (w ⊘ two) (h ⊘ two)
 
 -- ---- pairs; oriented at the mean of x and the mean of y
 
@@ -46,8 +43,8 @@ perspectiveProjection args w h = centred (forward args) (invert3 (forward args))
 unfoldable pub addPart : Vector → ℕ → Side → ℕ → Float → Float
 addPart args pairs side j sum = sum ⊕ sidesOf args 0 side j ⊘ ofInt binary64 (pos pairs)
 
-abbrev pub mean : Vector → ℕ → Side → Float
-mean args pairs side = upTo (addPart args pairs side) 0 pairs nought
+abbrev pub meanOfSide : Vector → ℕ → Side → Float
+meanOfSide args pairs side = upTo (addPart args pairs side) 0 pairs nought
 
 abbrev pub homography : Vector → Vector
 homography c = at c 0 ∷ at c 1 ∷ at c 2 ∷ at c 3 ∷ at c 4 ∷ at c 5 ∷ at c 6 ∷ at c 7 ∷ one ∷ []
@@ -55,5 +52,6 @@ homography c = at c 0 ∷ at c 1 ∷ at c 2 ∷ at c 3 ∷ at c 4 ∷ at c 5 ∷
 abbrev pub meant : Solution → Float → Float → Fitted
 meant s x y = solvedOr8 (s .found) (mapping perspectiveKind 0 (orient (homography (s .x)) x y))
 
-unfoldable pub perspective : Vector → ℕ → Fitted
-perspective args pairs = meant (fitTwin args pairs Perspective 8) (mean args pairs OfX) (mean args pairs OfY)
+unfoldable pub fitPerspective : Vector → ℕ → Fitted
+fitPerspective args pairs = meant (fitTwin args pairs Perspective 8) (meanOfSide args pairs OfX)
+    (meanOfSide args pairs OfY)

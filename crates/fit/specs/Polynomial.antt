@@ -15,12 +15,12 @@ unfoldable pub orderNumber : Float → ℕ
 orderNumber order = cond (bilinearOrder order) 0 (degree order)
 
 -- the pairs come after the order
-abbrev pub polynomial : Vector → ℕ → Float → Fitted
-polynomial args pairs order = fitBoth args 1 pairs (Polynomial (orderNumber order)) uAndV (termsOf order) polyKind
+abbrev pub fitPolynomial : Vector → ℕ → Float → Fitted
+fitPolynomial args pairs order = fitBoth args 1 pairs (Polynomial (orderNumber order)) uAndV (termsOf order) polyKind
     (orderNumber order)
 
-abbrev pub bilinearReverse : Vector → ℕ → Fitted
-bilinearReverse args pairs = fitBoth args 0 pairs (Polynomial 0) uAndV 4 polyKind 0
+abbrev pub fitBilinearReverse : Vector → ℕ → Fitted
+fitBilinearReverse args pairs = fitBoth args 0 pairs (Polynomial 0) uAndV 4 polyKind 0
 
-abbrev pub bilinearForward : Vector → ℕ → Fitted
-bilinearForward args pairs = fitBoth args 0 pairs Forward xAndY 4 bilinearForwardKind 0
+abbrev pub fitBilinearForward : Vector → ℕ → Fitted
+fitBilinearForward args pairs = fitBoth args 0 pairs Forward xAndY 4 bilinearForwardKind 0

@@ -5,5 +5,5 @@ use Rattle.mappings.specs.declared.mapping.Fitted.{Fitted}
 use Rattle.mappings.specs.Mapping.{shepardsKind, mapping, fitted}
 use Rattle.exact.specs.Vector.{Vector}
 
-unfoldable pub shepards : Vector → ℕ → Fitted
-shepards args pairs = fitted (mapping shepardsKind 0 (take (4 * pairs) args))
+unfoldable pub fitShepards : Vector → ℕ → Fitted
+fitShepards args pairs = fitted (mapping shepardsKind 0 (take (4 * pairs) args))

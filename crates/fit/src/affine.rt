@@ -15,8 +15,8 @@ use mappings::rows::Terms;
 use mappings::rows::Twin;
 
 // The arguments are a forward map, column by column.
-pub fn affine_projection(values: &[f64; 257]) -> Fitted
-    ensures { λ r. ⌜ r ≡ Maker.affineProjection (now (values .entry)) ⌝ }
+pub fn fit_affine_projection(values: &[f64; 257]) -> Fitted
+    ensures { λ r. ⌜ r ≡ Maker.fitAffineProjection (now (values .entry)) ⌝ }
 {
     let fwd = [
         values[0],
@@ -56,9 +56,9 @@ fn similarity(values: &[f64; 257]) -> Fitted
     mapping::accepted(mapping::mapping_of(mapping::AFFINE, 0, &m))
 }
 
-pub fn affine(values: &[f64; 257], pairs: usize) -> Fitted
+pub fn fit_affine(values: &[f64; 257], pairs: usize) -> Fitted
     requires { ⌜ 4 * pairs ≤ 257 ⌝ }
-    ensures { λ r. ⌜ r ≡ Maker.affine (now (values .entry)) pairs ⌝ }
+    ensures { λ r. ⌜ r ≡ Maker.fitAffine (now (values .entry)) pairs ⌝ }
 {
     if pairs == 1 {
         return shift(values);

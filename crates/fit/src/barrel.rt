@@ -15,8 +15,8 @@ fn given_or(values: &[f64; 257], count: usize, k: usize, other: f64) -> f64
     if k < count { values[k] } else { other }
 }
 
-pub fn barrel(values: &[f64; 257], count: usize, w: f64, h: f64, kind: u64) -> Fitted
-    ensures { λ r. ⌜ r ≡ Maker.barrel (now (values .entry)) count w h kind ⌝ }
+pub fn fit_barrel(values: &[f64; 257], count: usize, w: f64, h: f64, kind: u64) -> Fitted
+    ensures { λ r. ⌜ r ≡ Maker.fitBarrel (now (values .entry)) count w h kind ⌝ }
 {
     let a = values[0];
     let b = values[1];

@@ -4,15 +4,15 @@ ghost use mathlib.Core.Path.{_≡_};
 ghost use Prim.Native.Nat.{_≤_};
 ghost use Rattle.fit.specs.Build.{made};
 ghost use Rattle.fit.specs.Build as Build;
-use crate::affine::affine;
-use crate::affine::affine_projection;
-use crate::barrel::barrel;
-use crate::perspective::perspective;
-use crate::perspective::perspective_projection;
-use crate::polynomial::bilinear_forward;
-use crate::polynomial::bilinear_reverse;
-use crate::polynomial::polynomial;
-use crate::shepards::shepards;
+use crate::affine::fit_affine;
+use crate::affine::fit_affine_projection;
+use crate::barrel::fit_barrel;
+use crate::perspective::fit_perspective;
+use crate::perspective::fit_perspective_projection;
+use crate::polynomial::fit_bilinear_forward;
+use crate::polynomial::fit_bilinear_reverse;
+use crate::polynomial::fit_polynomial;
+use crate::shepards::fit_shepards;
 use arguments::method::Affine;
 use arguments::method::AffineProjection;
 use arguments::method::Barrel;
@@ -22,8 +22,8 @@ use arguments::method::BilinearReverse;
 use arguments::method::Perspective;
 use arguments::method::PerspectiveProjection;
 use arguments::method::Polynomial;
+use arguments::refusal::arguments_refusal;
 use arguments::refusal::pairs_in;
-use arguments::refusal::refusal;
 use arguments::store::fill;
 use mappings::mapping;
 use mappings::mapping::Fitted;
@@ -42,39 +42,39 @@ fn made(
     ensures { λ r. ⌜ r ≡ made method (now (values .entry)) count pairs order w h ⌝ }
 {
     if method == Affine::CODE {
-        return affine(values, pairs);
+        return fit_affine(values, pairs);
     }
     if method == AffineProjection::CODE {
-        return affine_projection(values);
+        return fit_affine_projection(values);
     }
     if method == Perspective::CODE {
-        return perspective(values, pairs);
+        return fit_perspective(values, pairs);
     }
     if method == PerspectiveProjection::CODE {
-        return perspective_projection(values, w, h);
+        return fit_perspective_projection(values, w, h);
     }
     if method == BilinearReverse::CODE {
-        return bilinear_reverse(values, pairs);
+        return fit_bilinear_reverse(values, pairs);
     }
     if method == BilinearForward::CODE {
-        return bilinear_forward(values, pairs);
+        return fit_bilinear_forward(values, pairs);
     }
     if method == Polynomial::CODE {
-        return polynomial(values, pairs, order);
+        return fit_polynomial(values, pairs, order);
     }
     if method == Barrel::CODE {
-        return barrel(values, count, w, h, mapping::BARREL);
+        return fit_barrel(values, count, w, h, mapping::BARREL);
     }
     if method == BarrelInverse::CODE {
-        return barrel(values, count, w, h, mapping::BARREL_INVERSE);
+        return fit_barrel(values, count, w, h, mapping::BARREL_INVERSE);
     }
-    shepards(values, pairs)
+    fit_shepards(values, pairs)
 }
 
 pub fn build(method: u64, arguments: &[u8], width: u64, height: u64) -> Fitted
     ensures { λ r. ⌜ r ≡ Build.build method (now (arguments .entry)) width height ⌝ }
 {
-    let number = refusal(method, arguments);
+    let number = arguments_refusal(method, arguments);
     if number != 0 {
         return mapping::refused(number);
     }

@@ -1,7 +1,7 @@
 // The makers of the two perspective methods. Assumes that the pairs are in the store.
 ghost use mathlib.Core.Path.{_≡_};
 ghost use Prim.Native.Nat.{_*_, _≤_};
-ghost use Rattle.fit.specs.Perspective.{mean, projected};
+ghost use Rattle.fit.specs.Perspective.{meanOfSide, projected};
 ghost use Rattle.fit.specs.Perspective as Maker;
 use crate::lstsq::fit_twin;
 use crate::orient::orient;
@@ -23,8 +23,8 @@ fn projected(m: &[f64; 9], k: usize, u: f64, v: f64) -> f64
 }
 
 // The arguments are a forward map. The picture's centre is on the visible side.
-pub fn perspective_projection(values: &[f64; 257], w: f64, h: f64) -> Fitted
-    ensures { λ r. ⌜ r ≡ Maker.perspectiveProjection (now (values .entry)) w h ⌝ }
+pub fn fit_perspective_projection(values: &[f64; 257], w: f64, h: f64) -> Fitted
+    ensures { λ r. ⌜ r ≡ Maker.fitPerspectiveProjection (now (values .entry)) w h ⌝ }
 {
     let fwd = [
         values[0],
@@ -51,9 +51,9 @@ pub fn perspective_projection(values: &[f64; 257], w: f64, h: f64) -> Fitted
 }
 
 // The mean of one side of the pairs, each divided before it is added.
-fn mean(values: &[f64; 257], pairs: usize, side: Side) -> f64
+fn mean_of_side(values: &[f64; 257], pairs: usize, side: Side) -> f64
     requires { ⌜ 4 * pairs ≤ 257 ⌝ }
-    ensures { λ r. ⌜ r ≡ mean (now (values .entry)) pairs side ⌝ }
+    ensures { λ r. ⌜ r ≡ meanOfSide (now (values .entry)) pairs side ⌝ }
 {
     let n = std::num::nearest_u64_to_f64(pairs as u64);
     let mut sum = 0.0;
@@ -63,9 +63,9 @@ fn mean(values: &[f64; 257], pairs: usize, side: Side) -> f64
     sum
 }
 
-pub fn perspective(values: &[f64; 257], pairs: usize) -> Fitted
+pub fn fit_perspective(values: &[f64; 257], pairs: usize) -> Fitted
     requires { ⌜ 4 * pairs ≤ 257 ⌝ }
-    ensures { λ r. ⌜ r ≡ Maker.perspective (now (values .entry)) pairs ⌝ }
+    ensures { λ r. ⌜ r ≡ Maker.fitPerspective (now (values .entry)) pairs ⌝ }
 {
     let s = fit_twin(
         values,
@@ -77,8 +77,8 @@ pub fn perspective(values: &[f64; 257], pairs: usize) -> Fitted
         return mapping::refused(8);
     }
     let c = s.x;
-    let rx = mean(values, pairs, Side::OfX);
-    let ry = mean(values, pairs, Side::OfY);
+    let rx = mean_of_side(values, pairs, Side::OfX);
+    let ry = mean_of_side(values, pairs, Side::OfY);
     let m = orient(
         [c[0], c[1], c[2], c[3], c[4], c[5], c[6], c[7], 1.0],
         rx,

@@ -1,7 +1,7 @@
 // The makers of the methods whose terms are monomials. Assumes that the pairs are in the store.
 ghost use mathlib.Core.Path.{_≡_};
 ghost use Prim.Native.Nat.{_+_, _*_, _≤_};
-ghost use Rattle.fit.specs.Polynomial.{orderNumber, bilinearReverse, bilinearForward};
+ghost use Rattle.fit.specs.Polynomial.{orderNumber, fitBilinearReverse, fitBilinearForward};
 ghost use Rattle.fit.specs.Polynomial as Maker;
 use crate::lstsq::Sides;
 use crate::lstsq::fit_both;
@@ -25,9 +25,9 @@ fn order_number(order: f64) -> u64
 }
 
 // The pairs come after the order.
-pub fn polynomial(values: &[f64; 257], pairs: usize, order: f64) -> Fitted
+pub fn fit_polynomial(values: &[f64; 257], pairs: usize, order: f64) -> Fitted
     requires { ⌜ 1 + 4 * pairs ≤ 257 ⌝ }
-    ensures { λ r. ⌜ r ≡ Maker.polynomial (now (values .entry)) pairs order ⌝ }
+    ensures { λ r. ⌜ r ≡ Maker.fitPolynomial (now (values .entry)) pairs order ⌝ }
 {
     let number = order_number(order);
     fit_both(
@@ -45,9 +45,9 @@ pub fn polynomial(values: &[f64; 257], pairs: usize, order: f64) -> Fitted
     )
 }
 
-pub fn bilinear_reverse(values: &[f64; 257], pairs: usize) -> Fitted
+pub fn fit_bilinear_reverse(values: &[f64; 257], pairs: usize) -> Fitted
     requires { ⌜ 4 * pairs ≤ 257 ⌝ }
-    ensures { λ r. ⌜ r ≡ bilinearReverse (now (values .entry)) pairs ⌝ }
+    ensures { λ r. ⌜ r ≡ fitBilinearReverse (now (values .entry)) pairs ⌝ }
 {
     fit_both(
         values,
@@ -64,9 +64,9 @@ pub fn bilinear_reverse(values: &[f64; 257], pairs: usize) -> Fitted
     )
 }
 
-pub fn bilinear_forward(values: &[f64; 257], pairs: usize) -> Fitted
+pub fn fit_bilinear_forward(values: &[f64; 257], pairs: usize) -> Fitted
     requires { ⌜ 4 * pairs ≤ 257 ⌝ }
-    ensures { λ r. ⌜ r ≡ bilinearForward (now (values .entry)) pairs ⌝ }
+    ensures { λ r. ⌜ r ≡ fitBilinearForward (now (values .entry)) pairs ⌝ }
 {
     fit_both(
         values,

@@ -5,9 +5,9 @@ ghost use Rattle.fit.specs.Shepards as Maker;
 use mappings::mapping;
 use mappings::mapping::Fitted;
 
-pub fn shepards(values: &[f64; 257], pairs: usize) -> Fitted
+pub fn fit_shepards(values: &[f64; 257], pairs: usize) -> Fitted
     requires { ⌜ pairs ≤ 64 ⌝ }
-    ensures { λ r. ⌜ r ≡ Maker.shepards (now (values .entry)) pairs ⌝ }
+    ensures { λ r. ⌜ r ≡ Maker.fitShepards (now (values .entry)) pairs ⌝ }
 {
     mapping::accepted(mapping::mapping_of_first(mapping::SHEPARDS, 0, values, 4 * pairs))
 }

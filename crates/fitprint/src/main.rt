@@ -37,7 +37,7 @@ fn read_some(s: Reader, arguments: &mut [u8; 2048]) -> Turn {
 }
 
 fn read_all(arguments: &mut [u8; 2048]) -> Reader {
-    let mut s = reader::start();
+    let mut s = reader::start_reader();
     let mut left: u64 = 1099511627776;
     while left > 0 {
         let turn = read_some(s, arguments);

@@ -12,7 +12,7 @@ use Rattle.exact.specs.Vector.{Vector, at}
 use Rattle.point.specs.declared.point.Point.{Point}
 use Rattle.point.specs.Point.{point}
 use Rattle.point.specs.Course.{Course, on, out, turn, ended}
-use Rattle.inverse.specs.Shepards.{Sums, d2, wgt, addPair, pairTurn, zeroSums, shift, ofPairs}
+use Rattle.inverse.specs.Shepards.{Sums, d2, wgt, addPair, pairTurn, zeroSums, movedBy, ofPairs}
 
 -- with the sums s after j pairs
 module _ (c : Vector) (x y : Float) (s : Sums) (j : ℕ) (h : on s ≡ upTo (pairTurn c x y) 0 j (on zeroSums)) where
@@ -33,10 +33,10 @@ module _ (c : Vector) (x y : Float) (s : Sums) (j : ℕ) (h : on s ≡ upTo (pai
       → point (at c (4 * j)) (at c (4 * j + 1)) ≡ ofPairs c x y n
   unfolding ofPairs ended addPair pairTurn turn
   pair-leaves n l t =
-      ap (ended (shift x y))
+      ap (ended (movedBy x y))
       (upTo-stay (pairTurn c x y) 0 (on zeroSums) (j + 1) n {y = out (point (at c (4 * j)) (at c (4 * j + 1)))}
       (omega arith) (omega arith) (λ i. refl) (next (rw t)))
 
-  pub pairs-end : (n : ℕ) → j ≤ n → n ≤ j → shift x y s ≡ ofPairs c x y n
+  pub pairs-end : (n : ℕ) → j ≤ n → n ≤ j → movedBy x y s ≡ ofPairs c x y n
   unfolding ofPairs ended
-  pairs-end n a b = ap (ended (shift x y)) (upTo-last (pairTurn c x y) 0 (on zeroSums) j n a b h)
+  pairs-end n a b = ap (ended (movedBy x y)) (upTo-last (pairTurn c x y) 0 (on zeroSums) j n a b h)

@@ -33,7 +33,7 @@ use Rattle.point.proofs.WholeLaws.{
 }
 use Rattle.inverse.specs.Perspective.{wq, perspective}
 use Rattle.inverse.specs.Forward.{lastStep, det, du, dv, newton, newtonTurn, bilinearForward}
-use Rattle.inverse.specs.Shepards.{Sums, d2, addPair, pairTurn, zeroSums, shift, ofPairs, pairsOf}
+use Rattle.inverse.specs.Shepards.{Sums, d2, addPair, pairTurn, zeroSums, movedBy, ofPairs, pairsKept}
 use Rattle.inverse.specs.Affine.{affine}
 use Rattle.inverse.specs.Polynomial.{polynomial}
 use Rattle.inverse.specs.Barrel.{across, down, radiusSquared, factor, barrelFrom, barrelInverseFrom}
@@ -67,7 +67,7 @@ pair-leaves c x y k s =
 pairs-whole : (c : Vector) (x y : Float) (n : ℕ) → Whole (ofPairs c x y n)
 unfolding ofPairs pairTurn
 pairs-whole c x y n =
-    ended-whole (shift x y) (λ s. point-whole (x ⊕ s .su ⊘ s .sw) (y ⊕ s .sv ⊘ s .sw)) _
+    ended-whole (movedBy x y) (λ s. point-whole (x ⊕ s .su ⊘ s .sw) (y ⊕ s .sv ⊘ s .sw)) _
     (upTo-keep (pairTurn c x y) 0 (on zeroSums) Leaves n zero-le
     (λ j s a b h. turn-leaves (addPair c x y (4 * j)) (pair-leaves c x y (4 * j)) s h) (goes zeroSums))
 
@@ -105,7 +105,7 @@ inverse-whole kind order count coef x y =
     (either Whole (eqb kind barrelKind) (barrel-whole coef (down coef y) (across coef x) (radius coef x y))
     (either Whole (eqb kind barrelInverseKind)
     (barrel-inverse-whole coef (down coef y) (across coef x) (radius coef x y))
-    (either Whole (eqb kind shepardsKind) (pairs-whole coef x y (pairsOf count))
+    (either Whole (eqb kind shepardsKind) (pairs-whole coef x y (pairsKept count))
     none-whole))))))
   where
     radius : Vector → Float → Float → Float

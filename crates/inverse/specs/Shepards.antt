@@ -42,15 +42,15 @@ pairTurn c x y j s = turn (addPair c x y (4 * j)) s
 abbrev pub zeroSums : Sums
 zeroSums = record { su = nought; sv = nought; sw = nought }
 
-abbrev pub shift : Float → Float → Sums → Point
-shift x y s = point (x ⊕ s .su ⊘ s .sw) (y ⊕ s .sv ⊘ s .sw)
+abbrev pub movedBy : Float → Float → Sums → Point
+movedBy x y s = point (x ⊕ s .su ⊘ s .sw) (y ⊕ s .sv ⊘ s .sw)
 
 unfoldable pub ofPairs : Vector → Float → Float → ℕ → Point
-ofPairs c x y n = ended (shift x y) (upTo (pairTurn c x y) 0 n (on zeroSums))
+ofPairs c x y n = ended (movedBy x y) (upTo (pairTurn c x y) 0 n (on zeroSums))
 
 -- four coefficients a pair, and 64 pairs at most
-abbrev pub pairsOf : ℕ → ℕ
-pairsOf count = min (count / 4) 64
+abbrev pub pairsKept : ℕ → ℕ
+pairsKept count = min (count / 4) 64
 
 abbrev pub shepards : ℕ → Vector → Float → Float → Point
-shepards count c x y = ofPairs c x y (pairsOf count)
+shepards count c x y = ofPairs c x y (pairsKept count)

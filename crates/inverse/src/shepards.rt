@@ -1,7 +1,7 @@
 // Shepards: the pairs' shifts, weighted by 1 over the squared distance. Assumes nothing.
 ghost use mathlib.Core.Path.{_≡_};
 ghost use Prim.Native.Nat.{_≤_};
-ghost use Rattle.inverse.specs.Shepards.{ofPairs, pairsOf};
+ghost use Rattle.inverse.specs.Shepards.{ofPairs, pairsKept};
 ghost use Rattle.inverse.specs.Shepards as Shepards;
 use point::point::Point;
 use point::usable::point;
@@ -32,8 +32,8 @@ fn of_pairs(c: &[f64; 256], x: f64, y: f64, n: usize) -> Point
     point(x + su / sw, y + sv / sw)
 }
 
-fn pairs_of(count: u64) -> usize
-    ensures { λ r. ⌜ r ≡ pairsOf count ⌝ }
+fn pairs_kept(count: u64) -> usize
+    ensures { λ r. ⌜ r ≡ pairsKept count ⌝ }
 {
     if count / 4 < 64 {
         (count / 4) as usize
@@ -45,5 +45,5 @@ fn pairs_of(count: u64) -> usize
 pub fn shepards(count: u64, c: &[f64; 256], x: f64, y: f64) -> Point
     ensures { λ r. ⌜ r ≡ Shepards.shepards count (now (c .entry)) x y ⌝ }
 {
-    of_pairs(c, x, y, pairs_of(count))
+    of_pairs(c, x, y, pairs_kept(count))
 }

@@ -8,7 +8,7 @@ use native.Mathlib.Omega.{arith}
 use Rattle.exact.proofs.Loop.{upTo-keep}
 use Rattle.number.specs.Magnitude.{reaching}
 use Rattle.linear.specs.Matrix.{Matrix, System, entry}
-use Rattle.linear.specs.Eliminate.{better, pivot, outcome, column, step}
+use Rattle.linear.specs.Eliminate.{better, pivot, outcome, column, columnOr}
 
 either-below : (t : Bool) (row best n : ℕ) → row < n → best < n → cond t row best < n
 either-below true row best n r b = r
@@ -29,15 +29,15 @@ pivot-row {n} a col e h = subst (λ (k : ℕ). k < n) (sym e) (pivot-below a col
 -- ---- from what the code answers to the definitions
 
 pub step-stopped : (n col : ℕ) (r : Bool) (s t : System) → r ≡ false → outcome r t ≡ column n col s
-    → outcome false t ≡ step n col (some s)
-unfolding step
+    → outcome false t ≡ columnOr n col (some s)
+unfolding columnOr
 step-stopped n col r s t h e = ap (λ (b : Bool). outcome b t) (sym h) ∙ e
 
-pub stopped-stays : (n j : ℕ) (t : System) → step n j (outcome false t) ≡ outcome false t
-unfolding outcome step
+pub stopped-stays : (n j : ℕ) (t : System) → columnOr n j (outcome false t) ≡ outcome false t
+unfolding outcome columnOr
 stopped-stays n j t = refl
 
 pub step-done : (n col : ℕ) (r : Bool) (s t : System) → r ≡ true → outcome r t ≡ column n col s
-    → some t ≡ step n col (some s)
-unfolding outcome step
+    → some t ≡ columnOr n col (some s)
+unfolding outcome columnOr
 step-done n col r s t h e = ap (λ (b : Bool). outcome b t) (sym h) ∙ e

@@ -15,7 +15,7 @@ use Rattle.exact.proofs.Loop.{upTo-keep, downTo-keep}
 use Rattle.exact.specs.Vector.{Vector, at}
 use Rattle.linear.specs.Matrix.{Matrix, System, rowAt, put, nought, zeros, zeroMatrix}
 use Rattle.linear.specs.Eliminate.{eliminated}
-use Rattle.linear.specs.Solve.{substitute, substituted, answer, solved}
+use Rattle.linear.specs.Solve.{substitute, substituted, solutionOf, solved}
 use Rattle.linear.specs.Normal.{addProduct, addTerm, addRow, normal}
 
 -- ---- the solution
@@ -37,8 +37,8 @@ module _ (n : ℕ) (s : System) where
       apart : (j : ℕ) → j < n → k ≡ j → ⊥
       apart j b q = omega arith
 
-answer-length : (n : ℕ) (o : Option System) → length (answer n o .x) ≡ 21
-unfolding answer
+answer-length : (n : ℕ) (o : Option System) → length (solutionOf n o .x) ≡ 21
+unfolding solutionOf
 answer-length n none = length-replicate 21 nought
 answer-length n (some t) = substituted-length n t
 
@@ -46,8 +46,8 @@ pub solved-length : (n : ℕ) (s : System) → length (solved n s .x) ≡ 21
 unfolding solved
 solved-length n s = answer-length n (eliminated n s)
 
-answer-beyond : (n : ℕ) (o : Option System) (k : ℕ) → n ≤ k → k < 21 → at (answer n o .x) k ≡ nought
-unfolding answer
+answer-beyond : (n : ℕ) (o : Option System) (k : ℕ) → n ≤ k → k < 21 → at (solutionOf n o .x) k ≡ nought
+unfolding solutionOf
 answer-beyond n none k h l = getD-replicate 21 k nought nan l
 answer-beyond n (some t) k h l = substituted-beyond n t k h l
 

@@ -53,12 +53,12 @@ column n col s =
     none
     (some (clearBelow n col (swap col (pivot (s .0) col n) s)))
 
-unfoldable pub step : ℕ → ℕ → Option System → Option System
-step n col none = none
-step n col (some s) = column n col s
+unfoldable pub columnOr : ℕ → ℕ → Option System → Option System
+columnOr n col none = none
+columnOr n col (some s) = column n col s
 
 abbrev pub eliminated : ℕ → System → Option System
-eliminated n s = upTo (step n) 0 n (some s)
+eliminated n s = upTo (columnOr n) 0 n (some s)
 
 -- what the code answers, with the equations as it leaves them
 unfoldable pub outcome : Bool → System → Option System

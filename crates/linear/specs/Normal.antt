@@ -13,8 +13,8 @@ use Rattle.linear.specs.Matrix.{Matrix, System, entry, put, zeros, zeroM
 use Rattle.linear.specs.Solve.{solved}
 
 -- the first factor of each product that row i of the equations takes from a row
-abbrev pub factor : Vector → ℕ → Float
-factor row i = at row i
+abbrev pub rowFactor : Vector → ℕ → Float
+rowFactor row i = at row i
 
 -- a[i][k] += first * row[k]
 unfoldable pub addProduct : Vector → Float → ℕ → ℕ → Matrix → Matrix
@@ -22,7 +22,8 @@ addProduct row first i k a = put a i k (entry a i k ⊕ first ⊗ at row k)
 
 -- b[i] += row[i] * y, and a[i][k] += row[i] * row[k] for each k
 unfoldable pub addTerm : Vector → Float → ℕ → ℕ → System → System
-addTerm row y n i s = (upTo (addProduct row (factor row i) i) 0 n (s .0), set (s .1) i (at (s .1) i ⊕ factor row i ⊗ y))
+addTerm row y n i s =
+    (upTo (addProduct row (rowFactor row i) i) 0 n (s .0), set (s .1) i (at (s .1) i ⊕ rowFactor row i ⊗ y))
 
 abbrev pub addRow : Vector → Float → ℕ → System → System
 addRow row y n s = upTo (addTerm row y n) 0 n s

@@ -27,10 +27,10 @@ substituted n s = downTo (substitute n s) 0 n zeros
 
 -- ---- the whole: n unknowns, zeros past them and where there is no solution
 
-unfoldable pub answer : ℕ → Option System → Solution
-answer n none = record { found = false; x = zeros }
-answer n (some s) = record { found = true; x = substituted n s }
+unfoldable pub solutionOf : ℕ → Option System → Solution
+solutionOf n none = record { found = false; x = zeros }
+solutionOf n (some s) = record { found = true; x = substituted n s }
 
 unfoldable pub solved : ℕ → System → Solution
-unfolding answer
-solved n s = answer n (eliminated n s)
+unfolding solutionOf
+solved n s = solutionOf n (eliminated n s)

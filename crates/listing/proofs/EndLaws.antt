@@ -9,7 +9,7 @@ use mathlib.Core.List.{List}
 use lib.Dec.{eqb, ltb}
 use lib.ListN.{length, take}
 use Rattle.mappings.specs.declared.mapping.Fitted.{Fitted}
-use Rattle.arguments.specs.Method.{affine}
+use Rattle.arguments.specs.Method.{affineCode}
 use Rattle.fit.specs.Build.{build}
 use Rattle.listing.specs.declared.reader.Reader.{Reader}
 use Rattle.listing.specs.declared.reader.Outcome.{Outcome}
@@ -57,7 +57,7 @@ fitted-length f = either (eqb (f .refusal) 0) (listingText (f .mapping .coef)) (
 
 outcome-length : (o : Outcome) (bytes : List ℕ) → length (outcomeText o bytes) ≤ 124
 unfolding outcomeText fitText
-outcome-length (Arguments n) bytes = fitted-length (build affine (take n bytes) 1 1)
+outcome-length (Arguments n) bytes = fitted-length (build affineCode (take n bytes) 1 1)
 outcome-length (Refused n) bytes = omega (arith, refused-length n)
 
 pub answer-length : (s : Reader) (bytes : List ℕ) → length (answerText s bytes) ≤ 124

@@ -15,10 +15,10 @@ use Rattle.listing.specs.declared.word.Word.the-variants.{Empty, Name, N
 use Rattle.listing.specs.declared.names.Names.{Names}
 use Rattle.listing.specs.declared.reader.Reader.{Reader}
 use Rattle.listing.specs.Word.{next}
-use Rattle.listing.specs.Names.{none, columnOf, placed}
+use Rattle.listing.specs.Names.{noNames, columnOf, withName}
 use Rattle.listing.specs.Reader.{
-  State,
-  start,
+  ReaderState,
+  startReader,
   withWord,
   takeName,
   takeNumber,
@@ -27,7 +27,7 @@ use Rattle.listing.specs.Reader.{
   nextColumn,
   counted,
   nextLine,
-  step,
+  readByte,
   fed,
 }
 use Rattle.listing.specs.Text.{
@@ -82,8 +82,10 @@ in-word _ _ b (form names w column lines large t u h s) =
 -- ---- the end of a word: what it was, before the column or the line is counted
 data Taken : Reader → List ℕ → Type 0 where
   gone : (names : Names) (column lines : ℕ) (large : Bool) (t : List ℕ) → Taken (faulty names column lines large) t
-  a-name : (ks : List ℕ) → Free none 0 ks → (k : ℕ) → k < 4 → columnOf (placedAll none 0 ks) k ≡ 4 → (large : Bool)
-      → Taken (between (placed (placedAll none 0 ks) k (length ks)) (length ks) 0 large) (nameCells ks ++ letter k ∷ [])
+  a-name : (ks : List ℕ) → Free noNames 0 ks → (k : ℕ) → k < 4 → columnOf (placedAll noNames 0 ks) k ≡ 4
+      → (large : Bool)
+      → Taken (between (withName (placedAll noNames 0 ks) k (length ks)) (length ks) 0 large)
+      (nameCells ks ++ letter k ∷ [])
   a-number : (o : Order) → T (isOrder o) → (ps : List Pair) → AllProper ps → length ps ≤ 64 → (ns : List Numeral)
       → AllCells ns → (n : Numeral) → AllDigits (digits n) → (large : Bool)
       → Taken (between (namesOf o) (length ns) (1 + length ps) large) (text o ps ++ numberCells ns ++ numeralText n)
@@ -94,9 +96,9 @@ name-taken : (names : Names) (column lines : ℕ) (large : Bool) (t : List ℕ) 
     → Taken (takeName (record { names = names; word = Name k; column = column; lines = lines; large = large }) k) (t
     ++ letter k ∷ [])
 unfolding takeName
-name-taken _ _ _ large _ k l (in-names ks f) = elim (same-or-not (columnOf (placedAll none 0 ks) k) 4) [
-  | inl e ↦ rw (eq-eqb (columnOf (placedAll none 0 ks) k) 4 e) (a-name ks f k l e large)
-  | inr n ↦ rw (ne-eqb (columnOf (placedAll none 0 ks) k) 4 n) (gone _ _ _ _ _)
+name-taken _ _ _ large _ k l (in-names ks f) = elim (same-or-not (columnOf (placedAll noNames 0 ks) k) 4) [
+  | inl e ↦ rw (eq-eqb (columnOf (placedAll noNames 0 ks) k) 4 e) (a-name ks f k l e large)
+  | inr n ↦ rw (ne-eqb (columnOf (placedAll noNames 0 ks) k) 4 n) (gone _ _ _ _ _)
 ]
 name-taken _ _ _ large _ k l (in-pairs o is ps proper room ns h) =
     rw (ne-eqb (1 + length ps) 0 (λ e. omega arith)) (gone _ _ _ _ _)
@@ -192,23 +194,25 @@ after-line _ _ (one-of-many names column lines large t m) = elim (same-or-not co
 ]
 
 -- ---- any byte, and all of them
-step-form : (s : State) (t : List ℕ) (b : ℕ) → Form (s .0) t → Form (step s b .0) (t ++ b ∷ [])
-unfolding step
+step-form : (s : ReaderState) (t : List ℕ) (b : ℕ) → Form (s .0) t → Form (readByte s b .0) (t ++ b ∷ [])
+unfolding readByte
 step-form s t b f = elim (same-or-not b 10) [
-  | inl e ↦ subst (λ (c : ℕ). Form (step s c .0) (t ++ c ∷ [])) (sym e) (after-line _ t (word-taken (s .0) t (s .1) f))
+  | inl e ↦ subst (λ (c : ℕ). Form (readByte s c .0) (t ++ c ∷ [])) (sym e)
+      (after-line _ t (word-taken (s .0) t (s .1) f))
   | inr n ↦ elim (same-or-not b 32) [
-    | inl e ↦ subst (λ (c : ℕ). Form (step s c .0) (t ++ c ∷ [])) (sym e)
+    | inl e ↦ subst (λ (c : ℕ). Form (readByte s c .0) (t ++ c ∷ [])) (sym e)
         (after-space _ t (word-taken (s .0) t (s .1) f))
     | inr m ↦ rw (ne-eqb b 10 n, ne-eqb b 32 m) (in-word (s .0) t b f)
   ]
 ]
 
-fed-form : (s : State) (t input : List ℕ) → Form (s .0) t → Form (fed s input .0) (t ++ input)
+fed-form : (s : ReaderState) (t input : List ℕ) → Form (s .0) t → Form (fed s input .0) (t ++ input)
 unfolding fed
 fed-form s t [] f = subst (Form _) (sym (append-nil t)) f
 fed-form s t (b ∷ input) f =
-    subst (Form _) (append-assoc t (b ∷ []) input) (fed-form (step s b) (t ++ b ∷ []) input (step-form s t b f))
+    subst (Form _) (append-assoc t (b ∷ []) input) (fed-form (readByte s b) (t ++ b ∷ []) input (step-form s t b f))
 
-pub all-form : (input bytes : List ℕ) → Form (fed (start, bytes) input .0) input
+pub all-form : (input bytes : List ℕ) → Form (fed (startReader, bytes) input .0) input
 unfolding placedAll Free nameCells
-all-form input bytes = fed-form (start, bytes) [] input (form none Empty 0 0 false [] [] empty (in-names [] tt))
+all-form input bytes = fed-form (startReader, bytes) [] input
+    (form noNames Empty 0 0 false [] [] empty (in-names [] tt))

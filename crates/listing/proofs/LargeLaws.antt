@@ -8,35 +8,45 @@ use Prim.Native.Nat.{ℕ, _≤_, _<_}
 use native.Mathlib.Omega.{arith}
 use borrow.Author.Tests.{lt-ltb, le-ltb}
 use Rattle.exact.proofs.Naturals.{lt-or-le}
-use Rattle.listing.specs.Word.{limit}
+use Rattle.listing.specs.Word.{largestNumber}
 use Rattle.listing.specs.Reader.{isLarge}
-use Rattle.listing.specs.Text.{Numeral, digits, AllDigits, magnitude, Pair, Proper, AllProper, Within, AllWithin}
+use Rattle.listing.specs.Text.{
+  Numeral,
+  digits,
+  AllDigits,
+  magnitude,
+  Pair,
+  Proper,
+  AllProper,
+  NotTooLarge,
+  AllWithin,
+}
 use Rattle.listing.proofs.NumeralLaws.{sizeOf, held}
 use Rattle.listing.proofs.PairLaws.{largeAfter, largeAll}
 
 -- ---- one number
 
-stays-small : (large : Bool) (size : ℕ) → size ≤ limit → isLarge large size ≡ large
+stays-small : (large : Bool) (size : ℕ) → size ≤ largestNumber → isLarge large size ≡ large
 unfolding isLarge
-stays-small large size h = rw (le-ltb limit size h)
+stays-small large size h = rw (le-ltb largestNumber size h)
 
-size-within : (n : Numeral) → AllDigits (digits n) → magnitude n ≤ limit → sizeOf n ≤ limit
+size-within : (n : Numeral) → AllDigits (digits n) → magnitude n ≤ largestNumber → sizeOf n ≤ largestNumber
 size-within n h m = omega (arith, held n h .exact m)
 
 module _ (large : Bool) (n : Numeral) (h : AllDigits (digits n)) (e : isLarge large (sizeOf n) ≡ false) where
-  was-small : sizeOf n ≤ limit
+  was-small : sizeOf n ≤ largestNumber
   unfolding isLarge
-  was-small = elim (lt-or-le limit (sizeOf n)) [
-    | inl l ↦ absurd (true≢false (sym (ap (λ (t : Bool). cond t true large) (lt-ltb limit (sizeOf n) l)) ∙ e))
+  was-small = elim (lt-or-le largestNumber (sizeOf n)) [
+    | inl l ↦ absurd (true≢false (sym (ap (λ (t : Bool). cond t true large) (lt-ltb largestNumber (sizeOf n) l)) ∙ e))
     | inr
         l ↦ l
   ]
 
-  number-within : magnitude n ≤ limit
-  number-within = elim (lt-or-le limit (magnitude n))
+  number-within : magnitude n ≤ largestNumber
+  number-within = elim (lt-or-le largestNumber (magnitude n))
       [ inl l ↦ absurd (clash (held n h .above l) was-small) | inr l ↦ l ]
     where
-      clash : limit < sizeOf n → sizeOf n ≤ limit → ⊥
+      clash : largestNumber < sizeOf n → sizeOf n ≤ largestNumber → ⊥
       clash a b = omega arith
 
   none-before : large ≡ false
@@ -44,7 +54,7 @@ module _ (large : Bool) (n : Numeral) (h : AllDigits (digits n)) (e : isLarge la
 
 -- ---- a pair, and all
 
-pair-small : (large : Bool) (p : Pair) → Proper p → Within p → largeAfter large p ≡ large
+pair-small : (large : Bool) (p : Pair) → Proper p → NotTooLarge p → largeAfter large p ≡ large
 pair-small large p h w =
     stays-small _ _ (size-within (p .col3) (h .1 .1 .1) (w .1 .1 .1))
     ∙ stays-small _ _ (size-within (p .col2) (h .1 .1 .0) (w .1 .1 .0))
@@ -56,7 +66,7 @@ unfolding largeAll
 all-small large [] h w = refl
 all-small large (p ∷ ps) h w = all-small (largeAfter large p) ps (h .1) (w .1) ∙ pair-small large p (h .0) (w .0)
 
-pair-within : (large : Bool) (p : Pair) → Proper p → largeAfter large p ≡ false → (large ≡ false) × Within p
+pair-within : (large : Bool) (p : Pair) → Proper p → largeAfter large p ≡ false → (large ≡ false) × NotTooLarge p
 pair-within large p h e =
     let a0 = isLarge large (sizeOf (p .col0)) in
     let a1 = isLarge a0 (sizeOf (p .col1)) in

@@ -11,7 +11,7 @@ use lib.Dec.{T, ltb}
 use lib.ListN.{length, length-append}
 use Rattle.exact.proofs.Naturals.{lt-or-le}
 use Rattle.listing.specs.declared.names.Names.{Names}
-use Rattle.listing.specs.Names.{none, columnOf, placed}
+use Rattle.listing.specs.Names.{noNames, columnOf, withName}
 use Rattle.listing.specs.Reader.{counted}
 use Rattle.listing.specs.Text.{
   Numeral,
@@ -36,29 +36,30 @@ use Rattle.listing.proofs.OrderTests.{free-order}
 
 unfoldable pub placedAll : Names → ℕ → List ℕ → Names
 placedAll names column [] = names
-placedAll names column (k ∷ ks) = placedAll (placed names k column) (column + 1) ks
+placedAll names column (k ∷ ks) = placedAll (withName names k column) (column + 1) ks
 
 unfoldable pub Free : Names → ℕ → List ℕ → Type 0
 Free names column [] = Unit {0}
-Free names column (k ∷ ks) = (k < 4) × ((columnOf names k ≡ 4) × Free (placed names k column) (column + 1) ks)
+Free names column (k ∷ ks) = (k < 4) × ((columnOf names k ≡ 4) × Free (withName names k column) (column + 1) ks)
 
 unfoldable pub nameCells : List ℕ → List ℕ
 nameCells [] = []
 nameCells (k ∷ ks) = letter k ∷ (32 ∷ nameCells ks)
 
 placed-more : (names : Names) (column : ℕ) (ks : List ℕ) (k : ℕ)
-    → placed (placedAll names column ks) k (column + length ks) ≡ placedAll names column (ks ++ k ∷ [])
+    → withName (placedAll names column ks) k (column + length ks) ≡ placedAll names column (ks ++ k ∷ [])
 unfolding placedAll
-placed-more names column [] k = ap (placed names k) (omega arith)
-placed-more names column (j ∷ ks) k = ap (placed (placedAll (placed names j column) (column + 1) ks) k) (omega arith)
-    ∙ placed-more (placed names j column) (column + 1) ks k
+placed-more names column [] k = ap (withName names k) (omega arith)
+placed-more names column (j ∷ ks) k = ap (withName (placedAll (withName names j column) (column + 1) ks) k)
+    (omega arith)
+    ∙ placed-more (withName names j column) (column + 1) ks k
 
 free-more : (names : Names) (column : ℕ) (ks : List ℕ) (k : ℕ) → Free names column ks → k < 4
     → columnOf (placedAll names column ks) k ≡ 4 → Free names column (ks ++ k ∷ [])
 unfolding Free placedAll
 free-more names column [] k f l e = (l, (e, tt))
 free-more names column (j ∷ ks) k f l e =
-    (f .0, (f .1 .0, free-more (placed names j column) (column + 1) ks k (f .1 .1) l e))
+    (f .0, (f .1 .0, free-more (withName names j column) (column + 1) ks k (f .1 .1) l e))
 
 cells-more : (ks : List ℕ) (k : ℕ) → nameCells ks ++ letter k ∷ (32 ∷ []) ≡ nameCells (ks ++ k ∷ [])
 unfolding nameCells
@@ -106,7 +107,7 @@ text-more o ps p = ap (λ (t : List ℕ). orderText o ++ t) (pairs-more ps p)
 -- ---- what the names, the column and the lines say of the text before the word
 
 pub data Seen : Names → ℕ → ℕ → List ℕ → Type 0 where
-  in-names : (ks : List ℕ) → Free none 0 ks → Seen (placedAll none 0 ks) (length ks) 0 (nameCells ks)
+  in-names : (ks : List ℕ) → Free noNames 0 ks → Seen (placedAll noNames 0 ks) (length ks) 0 (nameCells ks)
   in-pairs : (o : Order) → T (isOrder o) → (ps : List Pair) → AllProper ps → length ps ≤ 64 → (ns : List Numeral)
       → AllCells ns → Seen (namesOf o) (length ns) (1 + length ps) (text o ps ++ numberCells ns)
   too-many : (names : Names) (column lines : ℕ) (t : List ℕ) → 65 < lines → Seen names column lines t
@@ -121,15 +122,17 @@ one-longer : {A : Type 0} (xs : List A) (x : A) → length (xs ++ x ∷ []) ≡ 
 one-longer xs x = length-append xs (x ∷ [])
 
 -- a name is taken, and a space or the line feed follows
-pub names-space : (ks : List ℕ) (k : ℕ) → Free none 0 ks → k < 4 → columnOf (placedAll none 0 ks) k ≡ 4
-    → Seen (placed (placedAll none 0 ks) k (length ks)) (length ks + 1) 0 (nameCells ks ++ letter k ∷ (32 ∷ []))
+pub names-space : (ks : List ℕ) (k : ℕ) → Free noNames 0 ks → k < 4 → columnOf (placedAll noNames 0 ks) k ≡ 4
+    → Seen (withName (placedAll noNames 0 ks) k (length ks)) (length ks + 1) 0 (nameCells ks ++ letter k ∷ (32 ∷ []))
 names-space ks k f l e =
-    seen-same (sym (placed-more none 0 ks k) ∙ ap (placed (placedAll none 0 ks) k) (omega arith)) (one-longer ks k)
+    seen-same (sym (placed-more noNames 0 ks k) ∙ ap (withName (placedAll noNames 0 ks) k) (omega arith))
+    (one-longer ks k)
     (sym (cells-more ks k))
-    (in-names (ks ++ k ∷ []) (free-more none 0 ks k f l e))
+    (in-names (ks ++ k ∷ []) (free-more noNames 0 ks k f l e))
 
-pub names-end : (ks : List ℕ) (k : ℕ) → Free none 0 ks → k < 4 → columnOf (placedAll none 0 ks) k ≡ 4 → length ks ≡ 3
-    → Seen (placed (placedAll none 0 ks) k (length ks)) 0 1 (nameCells ks ++ letter k ∷ (10 ∷ []))
+pub names-end : (ks : List ℕ) (k : ℕ) → Free noNames 0 ks → k < 4 → columnOf (placedAll noNames 0 ks) k ≡ 4
+    → length ks ≡ 3
+    → Seen (withName (placedAll noNames 0 ks) k (length ks)) 0 1 (nameCells ks ++ letter k ∷ (10 ∷ []))
 unfolding placedAll Free nameCells numberCells text orderText pairsText
 names-end [] k f l e h = absurd (omega (arith, h))
 names-end (a ∷ []) k f l e h = absurd (omega (arith, h))

@@ -11,7 +11,7 @@ use Rattle.listing.specs.declared.reader.Reader.{Reader}
 use Rattle.listing.specs.declared.reader.Outcome.{Outcome}
 use Rattle.listing.specs.declared.reader.Outcome.the-variants.{Refused}
 use Rattle.listing.specs.declared.names.Names.{Names}
-use Rattle.listing.specs.Reader.{start, fed, isEmpty, badForm, finish}
+use Rattle.listing.specs.Reader.{startReader, fed, isEmpty, badForm, finish}
 use Rattle.listing.specs.Text.{text, Described}
 use Rattle.listing.proofs.WordForm.{empty, minus, name, number, wrong}
 use Rattle.listing.proofs.LineForm.{numberCells, Seen, in-names, in-pairs, too-many}
@@ -68,13 +68,14 @@ good _ _ e (form names _ column lines large t _ (name k l) s) = absurd (true≢f
 good _ _ e (form names _ column lines large t _ (number n size d) s) = absurd (true≢false e)
 good _ _ e (form names _ column lines large t _ (wrong u) s) = absurd (true≢false e)
 
-pub described : (input bytes : List ℕ) → badForm (fed (start, bytes) input .0) ≡ false → Described input
+pub described : (input bytes : List ℕ) → badForm (fed (startReader, bytes) input .0) ≡ false → Described input
 described input bytes e = good _ input e (all-form input bytes)
 
 -- every other text
-pub others-refused : (input bytes : List ℕ) → (Described input → ⊥) → finish (fed (start, bytes) input .0) ≡ Refused 4
+pub others-refused : (input bytes : List ℕ) → (Described input → ⊥)
+    → finish (fed (startReader, bytes) input .0) ≡ Refused 4
 unfolding finish
-others-refused input bytes n = go (badForm (fed (start, bytes) input .0)) (λ e. n (described input bytes e)) _
+others-refused input bytes n = go (badForm (fed (startReader, bytes) input .0)) (λ e. n (described input bytes e)) _
   where
     go : (bad : Bool) → (bad ≡ false → ⊥) → (o : Outcome) → cond bad (Refused 4) o ≡ Refused 4
     go true k o = refl

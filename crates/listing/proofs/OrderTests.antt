@@ -9,7 +9,7 @@ use native.Mathlib.Omega.{arith}
 use lib.Dec.{T, eqb, ltb, eqb→eq, ltb→lt}
 use lib.Ieee.Fits.{eq→eqb}
 use Rattle.exact.proofs.Booleans.{both-pass}
-use Rattle.listing.specs.Names.{none, columnOf, placed, slotOf}
+use Rattle.listing.specs.Names.{noNames, columnOf, withName, slotOf}
 use Rattle.listing.specs.Text.{Order, allNames, allUnlike, isOrder}
 use Rattle.listing.proofs.OrderLaws.{names1, names2, names3, namesOf, Fine, isFree, isBack}
 
@@ -40,7 +40,7 @@ unfolding isOrder
 test a b c d = not (isOrder (four a b c d)) || (isFree (four a b c d) && isBack (four a b c d))
 
 tested : T (below 4 (λ (a : ℕ). below 4 (λ (b : ℕ). below 4 (λ (c : ℕ). below 4 (λ (d : ℕ). test a b c d)))))
-unfolding below test isOrder columnOf placed slotOf
+unfolding below test isOrder columnOf withName slotOf
 tested = tt
 
 parts : (a b c d : Bool) → T (a && (b && (c && d))) → T a × (T b × (T c × T d))
@@ -61,7 +61,7 @@ fine o h =
     (o .col3) l3 in
     let b = both-pass (isFree o) (isBack o) (implied (isOrder o) (isFree o && isBack o) t h) in
     let f =
-    parts (eqb (columnOf none (o .col0)) 4) (eqb (columnOf (names1 o) (o .col1)) 4)
+    parts (eqb (columnOf noNames (o .col0)) 4) (eqb (columnOf (names1 o) (o .col1)) 4)
     (eqb (columnOf (names2 o) (o .col2)) 4)
     (eqb (columnOf (names3 o) (o .col3)) 4)
     (b .0)
@@ -93,13 +93,13 @@ unfolding isOrder
 test-free a b c d = not (isFree (four a b c d)) || isOrder (four a b c d)
 
 tested-free : T (below 4 (λ (a : ℕ). below 4 (λ (b : ℕ). below 4 (λ (c : ℕ). below 4 (λ (d : ℕ). test-free a b c d)))))
-unfolding below test-free isOrder columnOf placed
+unfolding below test-free isOrder columnOf withName
 tested-free = tt
 
 joined : (a b c d : Bool) → T a → T b → T c → T d → T (a && (b && (c && d)))
 joined true true true d p q r s = s
 
-pub free-order : (o : Order) → o .col0 < 4 → o .col1 < 4 → o .col2 < 4 → o .col3 < 4 → columnOf none (o .col0) ≡ 4
+pub free-order : (o : Order) → o .col0 < 4 → o .col1 < 4 → o .col2 < 4 → o .col3 < 4 → columnOf noNames (o .col0) ≡ 4
     → columnOf (names1 o) (o .col1) ≡ 4 → columnOf (names2 o) (o .col2) ≡ 4 → columnOf (names3 o) (o .col3) ≡ 4
     → T (isOrder o)
 unfolding test-free
@@ -107,7 +107,7 @@ free-order o l0 l1 l2 l3 e0 e1 e2 e3 =
     let t = at-below 4 _ (at-below 4 _ (at-below 4 _ (at-below 4 _ tested-free (o .col0) l0) (o .col1) l1) (o .col2)
     l2) (o .col3) l3 in
     implied (isFree o) (isOrder o) t
-    (joined (eqb (columnOf none (o .col0)) 4) (eqb (columnOf (names1 o) (o .col1)) 4)
+    (joined (eqb (columnOf noNames (o .col0)) 4) (eqb (columnOf (names1 o) (o .col1)) 4)
     (eqb (columnOf (names2 o) (o .col2)) 4)
     (eqb (columnOf (names3 o) (o .col3)) 4)
     (eq→eqb e0)

@@ -16,7 +16,7 @@ use Rattle.listing.specs.declared.reader.Reader.{Reader}
 use Rattle.listing.specs.Word.{pixels}
 use Rattle.listing.specs.Names.{slotOf}
 use Rattle.listing.specs.Reader.{
-  State,
+  ReaderState,
   withWord,
   isLarge,
   kept,
@@ -25,7 +25,7 @@ use Rattle.listing.specs.Reader.{
   nextColumn,
   counted,
   nextLine,
-  step,
+  readByte,
   fed,
 }
 use Rattle.listing.specs.Text.{
@@ -52,10 +52,10 @@ storeAt names lines column n bytes =
     storeF64 bytes (32 * (lines - 1) + 8 * slotOf names column) (pixels (n .negative) (sizeOf n))
 
 -- a text up to one byte, that byte, and what follows
-pub fed-over : (s : State) (a : List ℕ) (b : ℕ) (rest : List ℕ) {t : State} → fed s a ≡ t
-    → fed s (a ++ b ∷ rest) ≡ fed (step t b) rest
+pub fed-over : (s : ReaderState) (a : List ℕ) (b : ℕ) (rest : List ℕ) {t : ReaderState} → fed s a ≡ t
+    → fed s (a ++ b ∷ rest) ≡ fed (readByte t b) rest
 unfolding fed
-fed-over s a b rest e = fed-append s a (b ∷ rest) ∙ ap (λ (u : State). fed (step u b) rest) e
+fed-over s a b rest e = fed-append s a (b ∷ rest) ∙ ap (λ (u : ReaderState). fed (readByte u b) rest) e
 
 module _ (names : Names) (lines : ℕ) (some : 0 < lines) (room : lines ≤ 64) where
   -- a number is taken
@@ -70,16 +70,16 @@ module _ (names : Names) (lines : ℕ) (some : 0 < lines) (room : lines ≤ 64) 
   cell : (column : ℕ) (large : Bool) (bytes : List ℕ) (n : Numeral) (rest : List ℕ) → column < 3 → AllDigits (digits n)
       → fed (between names column lines large, bytes) (numeralText n ++ 32 ∷ rest) ≡ fed
       (between names (column + 1) lines (isLarge large (sizeOf n)), storeAt names lines column n bytes) rest
-  unfolding step taken nextColumn
+  unfolding readByte taken nextColumn
   cell column large bytes n rest h d =
       fed-over _ (numeralText n) 32 rest (numeral-read (between names column lines large) bytes n d)
       ∙ rw (number-taken column large bytes n, lt-ltb column 3 h)
 
   -- the last number and the line feed
   last-cell : (large : Bool) (bytes : List ℕ) (n : Numeral) → AllDigits (digits n)
-      → fed (between names 3 lines large, bytes) (numeralText n ++ 10 ∷ []) ≡
-      (between names 0 (lines + 1) (isLarge large (sizeOf n)), storeAt names lines 3 n bytes)
-  unfolding step taken nextLine counted fed
+      → fed (between names 3 lines large, bytes) (numeralText n ++ 10 ∷ [])
+      ≡ (between names 0 (lines + 1) (isLarge large (sizeOf n)), storeAt names lines 3 n bytes)
+  unfolding readByte taken nextLine counted fed
   last-cell large bytes n d =
       fed-over _ (numeralText n) 10 [] (numeral-read (between names 3 lines large) bytes n d)
       ∙ rw (number-taken 3 large bytes n, lt-ltb lines 66 (omega arith))
@@ -95,8 +95,8 @@ bytesAfter names lines bytes p =
     (storeAt names lines 2 (p .col2) (storeAt names lines 1 (p .col1) (storeAt names lines 0 (p .col0) bytes)))
 
 pub pair-read : (names : Names) (lines : ℕ) (large : Bool) (bytes : List ℕ) (p : Pair) → 0 < lines → lines ≤ 64
-    → Proper p → fed (between names 0 lines large, bytes) (pairText p) ≡
-    (between names 0 (lines + 1) (largeAfter large p), bytesAfter names lines bytes p)
+    → Proper p → fed (between names 0 lines large, bytes) (pairText p)
+    ≡ (between names 0 (lines + 1) (largeAfter large p), bytesAfter names lines bytes p)
 unfolding pairText
 pair-read names lines large bytes p some room h =
     cell names lines some room 0 large bytes (p .col0) _ (lit< tt) (h .0)
@@ -115,8 +115,8 @@ bytesAll names lines bytes (p ∷ ps) = bytesAll names (lines + 1) (bytesAfter n
 
 pub pairs-read : (names : Names) (lines : ℕ) (large : Bool) (bytes : List ℕ) (ps : List Pair) → 0 < lines
     → lines + length ps ≤ 65 → AllProper ps
-    → fed (between names 0 lines large, bytes) (pairsText ps) ≡
-    (between names 0 (lines + length ps) (largeAll large ps), bytesAll names lines bytes ps)
+    → fed (between names 0 lines large, bytes) (pairsText ps)
+    ≡ (between names 0 (lines + length ps) (largeAll large ps), bytesAll names lines bytes ps)
 unfolding pairsText largeAll bytesAll fed
 pairs-read names lines large bytes [] some room h =
     ap (λ (k : ℕ). (between names 0 k large, bytes)) (sym (add-zero lines))
@@ -124,7 +124,7 @@ pairs-read names lines large bytes (p ∷ ps) some room h =
     let fits : lines + 1 + length ps ≤ 65 = omega (arith, room) in
     let count : lines + 1 + length ps ≡ lines + length (p ∷ ps) = omega arith in
     fed-append _ (pairText p) (pairsText ps)
-    ∙ ap (λ (s : State). fed s (pairsText ps)) (pair-read names lines large bytes p some (omega arith) (h .0))
+    ∙ ap (λ (s : ReaderState). fed s (pairsText ps)) (pair-read names lines large bytes p some (omega arith) (h .0))
     ∙ pairs-read names (lines + 1) (largeAfter large p) (bytesAfter names lines bytes p) ps (omega arith) fits (h .1)
     ∙ ap (λ (k : ℕ). (
       between names 0 k (largeAll (largeAfter large p) ps),

@@ -14,10 +14,10 @@ use lib.Ieee.Scale.{round-same}
 use lib.Ieee.Fits.{down-pos, cond-fits, div-fits, sub-fits}
 use Rattle.exact.proofs.Integer.{counted, ofInt-value}
 use Rattle.exact.proofs.Operands.{sub-values}
-use Rattle.listing.specs.Word.{limit, sixtyFour, pixels}
+use Rattle.listing.specs.Word.{largestNumber, sixtyFour, pixels}
 
 -- ---- m / 64, rounded, is m / 64
-module _ (m : ℕ) (h : m ≤ limit) where
+module _ (m : ℕ) (h : m ≤ largestNumber) where
   small : m < 2 ^ 53
   small = lt-of-le-of-lt h (lit< tt)
 
@@ -51,12 +51,12 @@ nought = (refl, refl)
 less : (k : ℕ) → suc k - 0 ≡ suc k
 less k = omega arith
 
-taken : (m : ℕ) → m ≤ limit → HasValue (sum binary64 false 0 true m 64) (ltb 0 m) m 64
+taken : (m : ℕ) → m ≤ largestNumber → HasValue (sum binary64 false 0 true m 64) (ltb 0 m) m 64
 unfolding sum
 taken zero h = quotient 0 h false
 taken (suc k) h = rw (lt-ltb 0 (suc k) (omega arith), less k) (quotient (suc k) h true)
 
-module _ (m : ℕ) (h : m ≤ limit) where
+module _ (m : ℕ) (h : m ≤ largestNumber) where
   whole : HasValue (ofInt binary64 (pos m)) false m 1
   whole = ofInt-value binary64 (pos m) (counted binary64 (pos m) (le-trans h (lit≤ tt)))
 

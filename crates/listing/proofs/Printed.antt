@@ -7,7 +7,7 @@ use Prim.Native.Nat.{ℕ, _*_}
 use lib.ListN.{length, take, replicate}
 use Rattle.listing.specs.declared.reader.Outcome.{Outcome}
 use Rattle.listing.specs.declared.reader.Outcome.the-variants.{Arguments, Refused}
-use Rattle.listing.specs.Reader.{State, start, fed, finish}
+use Rattle.listing.specs.Reader.{ReaderState, startReader, fed, finish}
 use Rattle.listing.specs.Print.{refusedText}
 use Rattle.listing.specs.Answer.{fitText, outcomeText, answerText, printed}
 use Rattle.listing.specs.Text.{AllWithin, text, Described}
@@ -15,8 +15,8 @@ use Rattle.listing.proofs.ReadBack.{accepted, refused}
 use Rattle.listing.proofs.OnlyThese.{others-refused}
 
 -- the reader's state at the end, from a buffer of zeros
-abbrev pub state : List ℕ → State
-state input = fed (start, replicate 2048 0) input
+abbrev pub state : List ℕ → ReaderState
+state input = fed (startReader, replicate 2048 0) input
 
 outcome : (input : List ℕ) (o : Outcome) → finish (state input .0) ≡ o → printed input ≡ outcomeText o (state input .1)
 unfolding printed answerText

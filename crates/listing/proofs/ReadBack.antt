@@ -15,9 +15,9 @@ use lib.Ieee.Fits.{and-l, and-r}
 use Rattle.endian.specs.Bytes.{f64At, argumentAt}
 use Rattle.listing.specs.declared.reader.Outcome.the-variants.{Arguments, Refused}
 use Rattle.listing.specs.declared.names.Names.{Names}
-use Rattle.listing.specs.Word.{limit, pixels}
+use Rattle.listing.specs.Word.{largestNumber, pixels}
 use Rattle.listing.specs.Names.{slotOf}
-use Rattle.listing.specs.Reader.{State, start, fed, isEmpty, badForm, finish}
+use Rattle.listing.specs.Reader.{ReaderState, startReader, fed, isEmpty, badForm, finish}
 use Rattle.listing.specs.Text.{
   Numeral,
   digits,
@@ -26,7 +26,7 @@ use Rattle.listing.specs.Text.{
   Pair,
   Proper,
   AllProper,
-  Within,
+  NotTooLarge,
   AllWithin,
   pairsText,
   Order,
@@ -48,14 +48,14 @@ use Rattle.listing.proofs.LargeLaws.{all-small, all-within}
 module _ (o : Order) (h : T (isOrder o)) (ps : List Pair) (proper : AllProper ps) (some : 0 < length ps)
     (room : length ps ≤ 64) (bytes : List ℕ) where
   -- the state after the text
-  abbrev pub ended : State
-  ended = fed (start, bytes) (text o ps)
+  abbrev pub ended : ReaderState
+  ended = fed (startReader, bytes) (text o ps)
 
   pub ended-is : ended ≡ (between (namesOf o) 0 (1 + length ps) (largeAll false ps), bytesAll (namesOf o) 1 bytes ps)
   unfolding text
   ended-is =
-      fed-append (start, bytes) (orderText o) (pairsText ps)
-      ∙ ap (λ (s : State). fed s (pairsText ps)) (order-read o bytes (fine o h))
+      fed-append (startReader, bytes) (orderText o) (pairsText ps)
+      ∙ ap (λ (s : ReaderState). fed s (pairsText ps)) (order-read o bytes (fine o h))
       ∙ pairs-read (namesOf o) 1 false bytes ps (omega arith) (omega arith) proper
 
   lines : 1 + length ps - 1 ≡ length ps
@@ -129,7 +129,8 @@ proper-at (q ∷ before) p after h = proper-at before p after (h .1)
 place : (k slot name : ℕ) → slot ≡ name → 32 * (1 + k - 1) + 8 * slot ≡ 8 * (4 * k + name)
 place k slot name e = omega arith
 
-kept-at : (bytes : List ℕ) (k slot name : ℕ) (n : Numeral) → slot ≡ name → AllDigits (digits n) → magnitude n ≤ limit
+kept-at : (bytes : List ℕ) (k slot name : ℕ) (n : Numeral) → slot ≡ name → AllDigits (digits n)
+    → magnitude n ≤ largestNumber
     → f64At bytes (32 * (1 + k - 1) + 8 * slot) ≡ pixels (n .negative) (sizeOf n)
     → argumentAt bytes (4 * k + name) ≡ numberOf n
 kept-at bytes k slot name n e d w s =
@@ -138,7 +139,7 @@ kept-at bytes k slot name n e d w s =
 -- the pair p after the pairs `before`, in a buffer of 2,048 bytes
 pub kept : (o : Order) → T (isOrder o) → (before : List Pair) (p : Pair) (after : List Pair)
     → AllProper (before ++ p ∷ after) → length (before ++ p ∷ after) ≤ 64 → (bytes : List ℕ) → length bytes ≡ 2048
-    → Within p → Kept o (length before) p (fed (start, bytes) (text o (before ++ p ∷ after)) .1)
+    → NotTooLarge p → Kept o (length before) p (fed (startReader, bytes) (text o (before ++ p ∷ after)) .1)
 kept o h before p after proper room bytes size w =
     let ps = before ++ p ∷ after in
     let count : length ps ≡ length before + suc (length after) = length-append before (p ∷ after) in
@@ -146,7 +147,7 @@ kept o h before p after proper room bytes size w =
     let d = proper-at before p after proper in
     let s = pairs-stand (namesOf o) (columns-apart o h) 1 bytes before p after (omega arith) (omega arith) in
     let is = ended-is o h ps proper (omega arith) room bytes in
-    subst (Kept o (length before) p) (sym (ap (λ (t : State). t .1) is)) (record {
+    subst (Kept o (length before) p) (sym (ap (λ (t : ReaderState). t .1) is)) (record {
       kept0 = kept-at _ _ _ _ (p .col0) (f .slot0) (d .0) (w .0) (s .at0);
       kept1 = kept-at _ _ _ _ (p .col1) (f .slot1) (d .1 .0) (w .1 .0) (s .at1);
       kept2 = kept-at _ _ _ _ (p .col2) (f .slot2) (d .1 .1 .0) (w .1 .1 .0) (s .at2);

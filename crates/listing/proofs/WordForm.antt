@@ -11,7 +11,7 @@ use lib.Dec.{eqb, ltb}
 use Rattle.exact.proofs.Naturals.{lt-or-le}
 use Rattle.listing.specs.declared.word.Word.{Word}
 use Rattle.listing.specs.declared.word.Word.the-variants.{Empty, Minus, Name, Number, Wrong}
-use Rattle.listing.specs.Word.{nameOf, grown, digit, first, next}
+use Rattle.listing.specs.Word.{nameOf, withDigit, digit, firstByte, next}
 use Rattle.listing.specs.Text.{Numeral, digits, AllDigits, digitsText, numeralText, letter}
 
 pub data WordText : Word → List ℕ → Type 0 where
@@ -36,7 +36,7 @@ digit-form negative size b t k = elim (lt-or-le b 48) [
   | inl l ↦ rw (lt-ltb b 48 l) (wrong t)
   | inr g ↦ elim (lt-or-le 57 b) [
     | inl l ↦ rw (le-ltb b 48 g, lt-ltb 57 b l) (wrong t)
-    | inr h ↦ rw (le-ltb b 48 g, le-ltb 57 b h) (k (b - 48) (grown size (b - 48)) (omega arith) (omega arith))
+    | inr h ↦ rw (le-ltb b 48 g, le-ltb 57 b h) (k (b - 48) (withDigit size (b - 48)) (omega arith) (omega arith))
   ]
 ]
 
@@ -54,8 +54,8 @@ letter-name b = go (eqb b 117) (eqb b 118) (eqb b 120) (eqb b 121) (eqb-true b 1
     go false false false true p q r s l = sym (s refl)
     go false false false false p q r s l = absurd (omega (arith, l))
 
-first-form : (b : ℕ) → WordText (first b) (b ∷ [])
-unfolding first numeralText
+first-form : (b : ℕ) → WordText (firstByte b) (b ∷ [])
+unfolding firstByte numeralText
 first-form b = elim (same-or-not b 45) [
   | inl e ↦ subst (λ (c : ℕ).
       WordText (cond (eqb c 45) Minus (cond (ltb (nameOf c) 4) (Name (nameOf c)) (digit false 0 c))) (c ∷ [])) (sym e)

@@ -6,12 +6,12 @@ use mathlib.Core.List.{List}
 use lib.Dec.{eqb}
 use lib.ListN.{take, replicate}
 use Rattle.mappings.specs.declared.mapping.Fitted.{Fitted}
-use Rattle.arguments.specs.Method.{affine}
+use Rattle.arguments.specs.Method.{affineCode}
 use Rattle.fit.specs.Build.{build}
 use Rattle.listing.specs.declared.reader.Reader.{Reader}
 use Rattle.listing.specs.declared.reader.Outcome.{Outcome}
 use Rattle.listing.specs.declared.reader.Outcome.the-variants.{Arguments, Refused}
-use Rattle.listing.specs.Reader.{start, fed, finish}
+use Rattle.listing.specs.Reader.{startReader, fed, finish}
 use Rattle.listing.specs.Print.{listingText, refusedText}
 
 unfoldable pub fittedText : Fitted → List ℕ
@@ -19,7 +19,7 @@ fittedText f = cond (eqb (f .refusal) 0) (listingText (f .mapping .coef)) (refus
 
 -- the fit of method 0, whatever the picture's size
 unfoldable pub fitText : List ℕ → List ℕ
-fitText arguments = fittedText (build affine arguments 1 1)
+fitText arguments = fittedText (build affineCode arguments 1 1)
 
 unfoldable pub outcomeText : Outcome → List ℕ → List ℕ
 outcomeText (Arguments n) bytes = fitText (take n bytes)
@@ -30,4 +30,4 @@ answerText s bytes = outcomeText (finish s) bytes
 
 -- what the program prints for a text, whatever its length
 unfoldable pub printed : List ℕ → List ℕ
-printed text = answerText (fed (start, replicate 2048 0) text .0) (fed (start, replicate 2048 0) text .1)
+printed text = answerText (fed (startReader, replicate 2048 0) text .0) (fed (startReader, replicate 2048 0) text .1)

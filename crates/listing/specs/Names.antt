@@ -5,16 +5,16 @@ use mathlib.Core.Bool.{cond}
 use lib.Dec.{eqb}
 use Rattle.listing.specs.declared.names.Names.{Names}
 
-abbrev pub none : Names
-none = record { u = 4; v = 4; x = 4; y = 4 }
+abbrev pub noNames : Names
+noNames = record { u = 4; v = 4; x = 4; y = 4 }
 
 -- the column of the name numbered k
 unfoldable pub columnOf : Names → ℕ → ℕ
 columnOf n k = cond (eqb k 0) (n .u) (cond (eqb k 1) (n .v) (cond (eqb k 2) (n .x) (n .y)))
 
 -- the name numbered k stands in a column
-unfoldable pub placed : Names → ℕ → ℕ → Names
-placed n k column =
+unfoldable pub withName : Names → ℕ → ℕ → Names
+withName n k column =
     cond (eqb k 0) (record { u = column; v = n .v; x = n .x; y = n .y })
     (cond (eqb k 1) (record { u = n .u; v = column; x = n .x; y = n .y })
     (cond (eqb k 2) (record { u = n .u; v = n .v; x = column; y = n .y })

@@ -1,22 +1,16 @@
 -- The listing's text, and how a text is put into a buffer. Specification 12.1. Assumes nothing.
 use Prim.Native.Nat.{ℕ, zero, suc, _+_, _*_, _/_, _%_, _^_}
-use Prim.Native.Char.{code}
-use Prim.Native.String.{String, [] as none, _∷_ as _then_}
 use mathlib.Core.Bool.{cond}
 use mathlib.Core.List.{List, [], _∷_, _++_}
 use lib.Dec.{ltb}
 use lib.ListN.{getD, set}
 use lib.Ieee.{Float, nan, binary64, toBits}
+use Rattle.endian.specs.Bytes.{ascii}
 
 -- s with a text from `at` on
-unfoldable pub put : List ℕ → ℕ → List ℕ → List ℕ
-put s at [] = s
-put s at (b ∷ text) = put (set s at b) (at + 1) text
-
--- the bytes of an ASCII text
-abbrev pub bytes : String → List ℕ
-bytes none = []
-bytes (c then s) = code c ∷ bytes s
+unfoldable pub putText : List ℕ → ℕ → List ℕ → List ℕ
+putText s at [] = s
+putText s at (b ∷ text) = putText (set s at b) (at + 1) text
 
 -- 0 (48) to 9, then a (97) to f
 unfoldable pub hexDigit : ℕ → ℕ
@@ -38,8 +32,8 @@ linesText k (suc n) coefficients = lineText (97 + k) (getD coefficients k nan) +
 
 -- the six of `Affine`: u is a x + b y + c, and v is d x + e y + f
 unfoldable pub listingText : List Float → List ℕ
-listingText coefficients = bytes "name bits\n" ++ linesText 0 6 coefficients
+listingText coefficients = ascii "name bits\n" ++ linesText 0 6 coefficients
 
 -- a refusal's number has one digit here
 unfoldable pub refusedText : ℕ → List ℕ
-refusedText n = bytes "refused " ++ (48 + n % 10) ∷ (10 ∷ [])
+refusedText n = ascii "refused " ++ (48 + n % 10) ∷ (10 ∷ [])

@@ -12,14 +12,14 @@ use Rattle.listing.specs.declared.word.Word.the-variants.{Empty, Minus, 
 use Rattle.listing.specs.declared.reader.Reader.{Reader}
 use Rattle.listing.specs.declared.reader.Outcome.{Outcome}
 use Rattle.listing.specs.declared.reader.Outcome.the-variants.{Arguments, Refused}
-use Rattle.listing.specs.Word.{limit, next, pixels}
-use Rattle.listing.specs.Names.{none, columnOf, placed, slotOf}
+use Rattle.listing.specs.Word.{largestNumber, next, pixels}
+use Rattle.listing.specs.Names.{noNames, columnOf, withName, slotOf}
 
-abbrev pub State : Type 0
-State = Reader × List ℕ
+abbrev pub ReaderState : Type 0
+ReaderState = Reader × List ℕ
 
-abbrev pub start : Reader
-start = record { names = none; word = Empty; column = 0; lines = 0; large = false }
+abbrev pub startReader : Reader
+startReader = record { names = noNames; word = Empty; column = 0; lines = 0; large = false }
 
 abbrev pub withWord : Reader → Word → Reader
 withWord s w = record { names = s .names; word = w; column = s .column; lines = s .lines; large = s .large }
@@ -36,7 +36,7 @@ takeName s k =
     cond (eqb (s .lines) 0)
     (cond (eqb (columnOf (s .names) k) 4)
     (record {
-      names = placed (s .names) k (s .column);
+      names = withName (s .names) k (s .column);
       word = Empty;
       column = s .column;
       lines = s .lines;
@@ -46,7 +46,7 @@ takeName s k =
     (fault s)
 
 unfoldable pub isLarge : Bool → ℕ → Bool
-isLarge large size = cond (ltb limit size) true large
+isLarge large size = cond (ltb largestNumber size) true large
 
 -- the first byte of the argument in the reader's column: a pair has four arguments of 8 bytes, and the first stands on
 -- line 1
@@ -58,21 +58,21 @@ unfoldable pub kept : Reader → Float → List ℕ → List ℕ
 kept s x bytes = cond (ltb (s .lines) 1) bytes (cond (ltb 64 (s .lines)) bytes (storeF64 bytes (placeOf s) x))
 
 -- a number is taken on every line but the first
-unfoldable pub takeNumber : Reader → Bool → ℕ → List ℕ → State
+unfoldable pub takeNumber : Reader → Bool → ℕ → List ℕ → ReaderState
 takeNumber s negative size bytes =
     cond (eqb (s .lines) 0) (fault s, bytes) (
       record { names = s .names; word = Empty; column = s .column; lines = s .lines; large = isLarge (s .large) size },
       kept s (pixels negative size) bytes,
     )
 
-unfoldable pub taken : Word → Reader → List ℕ → State
+unfoldable pub taken : Word → Reader → List ℕ → ReaderState
 taken Empty s bytes = (fault s, bytes)
 taken Minus s bytes = (fault s, bytes)
 taken (Name k) s bytes = (takeName s k, bytes)
 taken (Number negative size) s bytes = takeNumber s negative size bytes
 taken Wrong s bytes = (s, bytes)
 
-abbrev pub takeWord : Reader → List ℕ → State
+abbrev pub takeWord : Reader → List ℕ → ReaderState
 takeWord s bytes = taken (s .word) s bytes
 
 -- ---- what comes after it
@@ -95,20 +95,20 @@ nextLine s =
     (record { names = s .names; word = s .word; column = 0; lines = counted (s .lines); large = s .large })
     (fault s)
 
-abbrev pub after : (Reader → Reader) → State → State
-after f s = (f (s .0), s .1)
+abbrev pub onReader : (Reader → Reader) → ReaderState → ReaderState
+onReader f s = (f (s .0), s .1)
 
 -- ---- one byte, and all of them
 
-unfoldable pub step : State → ℕ → State
-step s b =
-    cond (eqb b 10) (after nextLine (takeWord (s .0) (s .1)))
-    (cond (eqb b 32) (after nextColumn (takeWord (s .0) (s .1)))
+unfoldable pub readByte : ReaderState → ℕ → ReaderState
+readByte s b =
+    cond (eqb b 10) (onReader nextLine (takeWord (s .0) (s .1)))
+    (cond (eqb b 32) (onReader nextColumn (takeWord (s .0) (s .1)))
     (withWord (s .0) (next (s .0 .word) b), s .1))
 
-unfoldable pub fed : State → List ℕ → State
+unfoldable pub fed : ReaderState → List ℕ → ReaderState
 fed s [] = s
-fed s (b ∷ bytes) = fed (step s b) bytes
+fed s (b ∷ bytes) = fed (readByte s b) bytes
 
 -- ---- the end of the text: after a line feed, with one pair to 64
 

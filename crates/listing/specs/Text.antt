@@ -6,7 +6,7 @@ use mathlib.Core.List.{List, [], _∷_, _++_, map}
 use mathlib.Core.Path.{_≡_}
 use lib.Dec.{T, eqb, ltb}
 use lib.ListN.{length}
-use Rattle.listing.specs.Word.{limit}
+use Rattle.listing.specs.Word.{largestNumber}
 
 -- ---- a number: its sign, and its digits, the highest first, at least one
 
@@ -47,8 +47,8 @@ pub record Four (A : Type 0) : Type 0 where
   pub col3 : A
 
 -- the four texts parted by a space (32), and a line feed (10)
-abbrev pub joined : Four (List ℕ) → List ℕ
-joined t = t .col0 ++ 32 ∷ (t .col1 ++ 32 ∷ (t .col2 ++ 32 ∷ (t .col3 ++ 10 ∷ [])))
+abbrev pub lineOf : Four (List ℕ) → List ℕ
+lineOf t = t .col0 ++ 32 ∷ (t .col1 ++ 32 ∷ (t .col2 ++ 32 ∷ (t .col3 ++ 10 ∷ [])))
 
 abbrev pub Pair : Type 0
 Pair = Four Numeral
@@ -59,7 +59,7 @@ Proper p = AllDigits (digits (p .col0))
 
 unfoldable pub pairText : Pair → List ℕ
 unfolding numeralText
-pairText p = joined (record {
+pairText p = lineOf (record {
   col0 = numeralText (p .col0);
   col1 = numeralText (p .col1);
   col2 = numeralText (p .col2);
@@ -101,7 +101,7 @@ unfoldable pub letter : ℕ → ℕ
 letter k = cond (eqb k 0) 117 (cond (eqb k 1) 118 (cond (eqb k 2) 120 121))
 
 unfoldable pub orderText : Order → List ℕ
-orderText o = joined (record {
+orderText o = lineOf (record {
   col0 = letter (o .col0) ∷ [];
   col1 = letter (o .col1) ∷ [];
   col2 = letter (o .col2)
@@ -115,13 +115,14 @@ unfoldable pub text : Order → List Pair → List ℕ
 text o ps = orderText o ++ pairsText ps
 
 -- no number of a pair, or of any, is too large
-abbrev pub Within : Pair → Type 0
-Within p = (magnitude (p .col0) ≤ limit)
-    × ((magnitude (p .col1) ≤ limit) × ((magnitude (p .col2) ≤ limit) × (magnitude (p .col3) ≤ limit)))
+abbrev pub NotTooLarge : Pair → Type 0
+NotTooLarge p = (magnitude (p .col0) ≤ largestNumber)
+    × ((magnitude (p .col1) ≤ largestNumber)
+    × ((magnitude (p .col2) ≤ largestNumber) × (magnitude (p .col3) ≤ largestNumber)))
 
 abbrev pub AllWithin : List Pair → Type 0
 AllWithin [] = Unit {0}
-AllWithin (p ∷ ps) = Within p × AllWithin ps
+AllWithin (p ∷ ps) = NotTooLarge p × AllWithin ps
 
 -- a text of specification 12.1: some order of the names, and 1 to 64 pairs
 pub record Described (input : List ℕ) : Type 0 where

@@ -10,28 +10,28 @@ use Rattle.listing.specs.declared.word.Word.{Word}
 use Rattle.listing.specs.declared.word.Word.the-variants.{Empty, Minus, Name, Number, Wrong}
 
 -- the largest number of 64ths: 1,048,576 pixels
-abbrev pub limit : ℕ
-limit = 67108864
+abbrev pub largestNumber : ℕ
+largestNumber = 67108864
 
 -- u (117), v (118), x (120) and y (121) count from 0; any other byte is 4
 unfoldable pub nameOf : ℕ → ℕ
 nameOf b = cond (eqb b 117) 0 (cond (eqb b 118) 1 (cond (eqb b 120) 2 (cond (eqb b 121) 3 4)))
 
 -- a number with one digit more. From 6710887 on that is above the limit, where it stays.
-unfoldable pub grown : ℕ → ℕ → ℕ
-grown size d = cond (ltb 6710886 size) 67108865 (10 * size + d)
+unfoldable pub withDigit : ℕ → ℕ → ℕ
+withDigit size d = cond (ltb 6710886 size) 67108865 (10 * size + d)
 
 -- a number and one byte more, which has to be a digit, 0 (48) to 9 (57)
 unfoldable pub digit : Bool → ℕ → ℕ → Word
-digit negative size b = cond (ltb b 48) Wrong (cond (ltb 57 b) Wrong (Number negative (grown size (b - 48))))
+digit negative size b = cond (ltb b 48) Wrong (cond (ltb 57 b) Wrong (Number negative (withDigit size (b - 48))))
 
 -- the first byte: a minus sign (45), a name, or a digit
-unfoldable pub first : ℕ → Word
-first b = cond (eqb b 45) Minus (cond (ltb (nameOf b) 4) (Name (nameOf b)) (digit false 0 b))
+unfoldable pub firstByte : ℕ → Word
+firstByte b = cond (eqb b 45) Minus (cond (ltb (nameOf b) 4) (Name (nameOf b)) (digit false 0 b))
 
 -- the word with one byte more, which is neither a space nor a line feed
 unfoldable pub next : Word → ℕ → Word
-next Empty b = first b
+next Empty b = firstByte b
 next Minus b = digit true 0 b
 next (Name k) b = Wrong
 next (Number negative size) b = digit negative size b

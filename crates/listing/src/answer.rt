@@ -8,13 +8,13 @@ use arguments::method::Affine;
 ghost use mathlib.Core.Path.{_≡_};
 ghost use Prim.Native.Nat.{_≤_};
 ghost use lib.ListN.{length};
-ghost use Rattle.listing.specs.Print.{put};
+ghost use Rattle.listing.specs.Print.{putText};
 ghost use Rattle.listing.specs.Answer.{fitText, answerText};
 
 // The fit of method 0, whatever the picture's size.
 fn fit_pairs(arguments: &[u8], out: &mut [u8; 124]) -> usize
     ensures { λ r. ⌜ (r ≡ length (fitText (now (arguments .entry))))
-        × (now (out .exit) ≡ put (now (out .entry)) 0 (fitText (now (arguments .entry)))) ⌝ }
+        × (now (out .exit) ≡ putText (now (out .entry)) 0 (fitText (now (arguments .entry)))) ⌝ }
 {
     let f = fit::build::build(Affine::CODE, arguments, 1, 1);
     let refusal = f.refusal;
@@ -29,7 +29,7 @@ fn fit_pairs(arguments: &[u8], out: &mut [u8; 124]) -> usize
 fn answer_from(s: Reader, arguments: &[u8], out: &mut [u8; 124]) -> usize
     requires { ⌜ 2048 ≤ length (now arguments) ⌝ }
     ensures { λ r. ⌜ (r ≡ length (answerText s (now (arguments .entry))))
-        × (now (out .exit) ≡ put (now (out .entry)) 0 (answerText s (now (arguments .entry)))) ⌝ }
+        × (now (out .exit) ≡ putText (now (out .entry)) 0 (answerText s (now (arguments .entry)))) ⌝ }
 {
     let end = text::finish(s);
     match end {
@@ -41,7 +41,7 @@ fn answer_from(s: Reader, arguments: &[u8], out: &mut [u8; 124]) -> usize
 // The text to print is so many bytes at the start of `out`.
 pub fn answer(s: Reader, arguments: &[u8; 2048], out: &mut [u8; 124]) -> usize
     ensures { λ r. ⌜ (r ≡ length (answerText s (now (arguments .entry))))
-        × (now (out .exit) ≡ put (now (out .entry)) 0 (answerText s (now (arguments .entry)))) ⌝ }
+        × (now (out .exit) ≡ putText (now (out .entry)) 0 (answerText s (now (arguments .entry)))) ⌝ }
 {
     answer_from(s, arguments, out)
 }

@@ -1,6 +1,6 @@
 // The names line: the column of each of u, v, x and y, counted from 0, and 4 until it is read. Assumes nothing.
 ghost use mathlib.Core.Path.{_≡_};
-ghost use Rattle.listing.specs.Names.{none, columnOf, placed, slotOf};
+ghost use Rattle.listing.specs.Names.{noNames, columnOf, withName, slotOf};
 
 pub struct Names {
     pub u: u64,
@@ -9,8 +9,8 @@ pub struct Names {
     pub y: u64,
 }
 
-pub fn none() -> Names
-    ensures { λ r. ⌜ r ≡ none ⌝ }
+pub fn no_names() -> Names
+    ensures { λ r. ⌜ r ≡ noNames ⌝ }
 {
     Names {
         u: 4,
@@ -34,8 +34,8 @@ pub fn column_of(n: Names, k: u64) -> u64
 }
 
 // The name numbered k stands in a column.
-pub fn placed(n: Names, k: u64, column: u64) -> Names
-    ensures { λ r. ⌜ r ≡ placed n k column ⌝ }
+pub fn with_name(n: Names, k: u64, column: u64) -> Names
+    ensures { λ r. ⌜ r ≡ withName n k column ⌝ }
 {
     let mut m = n;
     if k == 0 {

@@ -4,7 +4,7 @@ use crate::names;
 use crate::names::Names;
 use crate::word::Word;
 ghost use mathlib.Core.Path.{_≡_};
-ghost use Rattle.listing.specs.Reader.{start, withWord, fault, nextColumn, counted, nextLine};
+ghost use Rattle.listing.specs.Reader.{startReader, withWord, fault, nextColumn, counted, nextLine};
 
 // What the bytes so far are: the names, the word that is begun, the columns and lines that are whole, and whether a
 // number was too large. A word that is Wrong stays so: a fault of form, here or before.
@@ -22,10 +22,10 @@ pub enum Outcome {
     Refused(u64),
 }
 
-pub fn start() -> Reader
-    ensures { λ r. ⌜ r ≡ start ⌝ }
+pub fn start_reader() -> Reader
+    ensures { λ r. ⌜ r ≡ startReader ⌝ }
 {
-    let names = names::none();
+    let names = names::no_names();
     Reader {
         names,
         word: Word::Empty,

@@ -19,7 +19,7 @@ fn take_name(s: Reader, k: u64) -> Reader
     if names::column_of(names, k) != 4 {
         return reader::fault(s);
     }
-    let placed = names::placed(names, k, s.column);
+    let placed = names::with_name(names, k, s.column);
     Reader {
         names: placed,
         word: Word::Empty,

@@ -6,10 +6,10 @@ use crate::take;
 use crate::word;
 use crate::word::Word;
 ghost use mathlib.Core.Path.{_≡_};
-ghost use Rattle.listing.specs.Reader.{step, fed, isEmpty, finish};
+ghost use Rattle.listing.specs.Reader.{readByte, fed, isEmpty, finish};
 
-fn step(s: Reader, b: u8, arguments: &mut [u8; 2048]) -> Reader
-    ensures { λ r. ⌜ (r, now (arguments .exit)) ≡ step (s, now (arguments .entry)) b ⌝ }
+fn read_byte(s: Reader, b: u8, arguments: &mut [u8; 2048]) -> Reader
+    ensures { λ r. ⌜ (r, now (arguments .exit)) ≡ readByte (s, now (arguments .entry)) b ⌝ }
 {
     if b == b'\n' {
         return reader::next_line(take::take_word(s, arguments));
@@ -27,7 +27,7 @@ pub fn feed(s: Reader, chunk: &[u8], arguments: &mut [u8; 2048]) -> Reader
 {
     let mut r = s;
     for k in 0..chunk.len() {
-        r = step(r, chunk[k], arguments);
+        r = read_byte(r, chunk[k], arguments);
     }
     r
 }

@@ -1,6 +1,6 @@
 // A word, a byte at a time: a name or a whole number of 64ths of a pixel, of any length. Assumes nothing.
 ghost use mathlib.Core.Path.{_≡_};
-ghost use Rattle.listing.specs.Word.{nameOf, grown, digit, first, next, pixels};
+ghost use Rattle.listing.specs.Word.{nameOf, withDigit, digit, firstByte, next, pixels};
 
 // What the bytes of a word so far are. Wrong is a fault of form, which nothing mends.
 pub enum Word {
@@ -28,8 +28,8 @@ fn name_of(b: u8) -> u64
 }
 
 // One digit more. A number that has passed the limit stays above it, however many digits follow.
-fn grown(size: u32, d: u8) -> u32
-    ensures { λ r. ⌜ r ≡ grown size d ⌝ }
+fn with_digit(size: u32, d: u8) -> u32
+    ensures { λ r. ⌜ r ≡ withDigit size d ⌝ }
 {
     if 6710886 < size {
         return 67108865;
@@ -48,12 +48,12 @@ fn digit(negative: bool, size: u32, b: u8) -> Word
     }
     Word::Number {
         negative,
-        size: grown(size, b - b'0'),
+        size: with_digit(size, b - b'0'),
     }
 }
 
-fn first(b: u8) -> Word
-    ensures { λ r. ⌜ r ≡ first b ⌝ }
+fn first_byte(b: u8) -> Word
+    ensures { λ r. ⌜ r ≡ firstByte b ⌝ }
 {
     if b == b'-' {
         return Word::Minus;
@@ -70,7 +70,7 @@ pub fn next(w: Word, b: u8) -> Word
     ensures { λ r. ⌜ r ≡ next w b ⌝ }
 {
     match w {
-        Word::Empty => first(b),
+        Word::Empty => first_byte(b),
         Word::Minus => digit(true, 0, b),
         Word::Name(_) => Word::Wrong,
         Word::Number { negative, size } => digit(negative, size, b),

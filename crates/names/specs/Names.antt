@@ -2,11 +2,11 @@
 -- case. A code is the place of the variant in its Rust enum's declaration, from 0; the methods that are absent have
 -- theirs too. Specification 1.2. Assumes nothing.
 use Prim.Native.Nat.{ℕ, _+_, _<_}
-use Prim.Native.Char.{code}
-use Prim.Native.String.{String, [] as none, _∷_ as _then_}
+use Prim.Native.String.{String}
 use mathlib.Core.Bool.{Bool, true, false, cond}
 use mathlib.Core.List.{List, [], _∷_, map}
 use lib.Dec.{leb, eqb}
+use Rattle.endian.specs.Bytes.{ascii}
 use Rattle.names.specs.declared.Named.{Named}
 use Rattle.names.specs.declared.Named.the-variants.{Code, Refused}
 
@@ -31,28 +31,23 @@ lookup [] s = Refused
 lookup ((name, n) ∷ table) s = cond (sameName s name) (Code n) (lookup table s)
 
 -- the number of the refusal (specification 2, code); a code is none, which is 0 here
-abbrev pub refusal : Named → ℕ
-refusal (Code n) = 0
-refusal Refused = 3
+abbrev pub namedRefusal : Named → ℕ
+namedRefusal (Code n) = 0
+namedRefusal Refused = 3
 
 -- a code, if there is one, is below m
 abbrev pub Below : ℕ → Named → Type 0
 Below m (Code n) = n < m
 Below m Refused = Unit
 
--- the bytes of an ASCII text
-abbrev pub bytes : String → List ℕ
-bytes none = []
-bytes (c then s) = code c ∷ bytes s
-
 -- an entry, as an arm of the Rust's `match`
 infix 70 _⇒_
 abbrev pub _⇒_ : String → ℕ → List ℕ × ℕ
-name ⇒ n = (bytes name, n)
+name ⇒ n = (ascii name, n)
 
 -- DistortMethod::from_name
-abbrev pub methods : List (List ℕ × ℕ)
-methods =
+abbrev pub methodNames : List (List ℕ × ℕ)
+methodNames =
     "affine" ⇒ 0
     ∷ "affineprojection" ⇒ 1
     ∷ "scalerotatetranslate" ⇒ 2
@@ -72,8 +67,8 @@ methods =
     ∷ []
 
 -- VirtualPixel::from_name
-abbrev pub policies : List (List ℕ × ℕ)
-policies =
+abbrev pub policyNames : List (List ℕ × ℕ)
+policyNames =
     "edge" ⇒ 0
     ∷ "undefined" ⇒ 0
     ∷ "background" ⇒ 1
@@ -94,8 +89,8 @@ policies =
     ∷ []
 
 -- PixelInterpolate::from_name
-abbrev pub interpolations : List (List ℕ × ℕ)
-interpolations =
+abbrev pub interpolationNames : List (List ℕ × ℕ)
+interpolationNames =
     "integer" ⇒ 0
     ∷ "nearest" ⇒ 1
     ∷ "nearestneighbor" ⇒ 1

@@ -4,7 +4,7 @@ mod letters;
 mod table;
 
 ghost use mathlib.Core.Path.{_≡_};
-ghost use Rattle.names.specs.Names.{lookup, methods, policies, interpolations};
+ghost use Rattle.names.specs.Names.{lookup, methodNames, policyNames, interpolationNames};
 
 // What a name is read as: a code, or refusal 3. So code 3 and the refusal are told apart.
 pub enum Named {
@@ -14,7 +14,7 @@ pub enum Named {
 
 // DistortMethod::from_name
 pub fn method(name: &[u8]) -> Named
-    ensures { λ r. ⌜ r ≡ lookup methods (now (name .entry)) ⌝ }
+    ensures { λ r. ⌜ r ≡ lookup methodNames (now (name .entry)) ⌝ }
 {
     table::find(
         name,
@@ -25,7 +25,7 @@ pub fn method(name: &[u8]) -> Named
 
 // VirtualPixel::from_name
 pub fn policy(name: &[u8]) -> Named
-    ensures { λ r. ⌜ r ≡ lookup policies (now (name .entry)) ⌝ }
+    ensures { λ r. ⌜ r ≡ lookup policyNames (now (name .entry)) ⌝ }
 {
     table::find(
         name,
@@ -36,7 +36,7 @@ pub fn policy(name: &[u8]) -> Named
 
 // PixelInterpolate::from_name
 pub fn interpolation(name: &[u8]) -> Named
-    ensures { λ r. ⌜ r ≡ lookup interpolations (now (name .entry)) ⌝ }
+    ensures { λ r. ⌜ r ≡ lookup interpolationNames (now (name .entry)) ⌝ }
 {
     table::find(
         name,

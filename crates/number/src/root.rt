@@ -111,17 +111,17 @@ fn nearest(n: u64, g: f64) -> u64
     ensures { λ r. ⌜ r ≡ nearestRoot (n * 2 ^ 52) ⌝ }
 {
     if g != g {
-        return beside(n, DIGITS);
+        return neighbour(n, DIGITS);
     }
     let q = f64::to_bits(g) % DIGITS + DIGITS;
     if settles(n, q) {
         return q;
     }
-    beside(n, q)
+    neighbour(n, q)
 }
 
 // The same where q is not that number: a neighbour of q, else by digits.
-fn beside(n: u64, q: u64) -> u64
+fn neighbour(n: u64, q: u64) -> u64
     requires { ⌜ (2 ^ 52 ≤ n) × (n < 2 ^ 54) × ((0 < q) × (q < 2 ^ 53)) ⌝ }
     ensures { λ r. ⌜ r ≡ nearestRoot (n * 2 ^ 52) ⌝ }
 {

@@ -7,13 +7,13 @@ ghost use Rattle.point.specs.Point as Points;
 use crate::point::Point;
 use number::magnitude::abs;
 
-const LIMIT: f64 = 1073741824.0; // 2^30
+const USABLE_LIMIT: f64 = 1073741824.0; // 2^30
 
 // Whether neither coordinate is a NaN or above 2^30 in magnitude.
 fn usable(u: f64, v: f64) -> bool
     ensures { λ r. ⌜ r ≡ Points.usable u v ⌝ }
 {
-    (abs(u) <= LIMIT) & (abs(v) <= LIMIT)
+    (abs(u) <= USABLE_LIMIT) & (abs(v) <= USABLE_LIMIT)
 }
 
 pub fn point(u: f64, v: f64) -> Point

@@ -12,7 +12,7 @@ use mir.Val.{SFits, ofZ, toZ}
 use mir.Facts.{toZ-ofZ}
 use borrow.Author.Tests.{lt-ltb, le-ltb, ltb-false}
 use Rattle.endian.specs.Bytes.{twosComplement}
-use Rattle.policies.specs.Index.{signed, within}
+use Rattle.policies.specs.Index.{signed, inRange}
 
 -- ---- bits and index
 
@@ -62,15 +62,15 @@ moved-bits {v} {b} f r k g h e = argument {v = r} (record { sfits = g }) e ∙ h
 pub signed-inside : (b n : ℕ) → b < n → n ≤ 4096 → signed b ≡ pos b
 signed-inside b n h g = signed-from b (omega arith)
 
-pub within-yes : (b n : ℕ) → b < n → n ≤ 4096 → within (signed b) n ≡ true
-unfolding within
+pub within-yes : (b n : ℕ) → b < n → n ≤ 4096 → inRange (signed b) n ≡ true
+unfolding inRange
 within-yes b n h g = rw (signed-inside b n h g, lt-ltb b n h)
 
-pub within-no : (b n : ℕ) → n ≤ b → within (signed b) n ≡ false
-unfolding within signed
+pub within-no : (b n : ℕ) → n ≤ b → inRange (signed b) n ≡ false
+unfolding inRange signed
 within-no b n h = go (ltb b (2 ^ 63))
   where
-    go : (t : Bool) → within (cond t (pos b) (negsuc (2 ^ 64 - 1 - b))) n ≡ false
+    go : (t : Bool) → inRange (cond t (pos b) (negsuc (2 ^ 64 - 1 - b))) n ≡ false
     go true = le-ltb b n h
     go false = refl
 

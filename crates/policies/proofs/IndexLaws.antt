@@ -9,12 +9,12 @@ use lib.Dec.{ltb}
 use lib.IntN.{ℤ, pos, negsuc}
 use lib.Signed.{mag}
 use borrow.Author.Tests.{ltb-true, ltb-false}
-use Rattle.policies.specs.Index.{within, clamped, tile, mirror, parity}
+use Rattle.policies.specs.Index.{inRange, clamped, tile, mirror, parity}
 
 -- ---- what is inside
 
-pub within-lt : (v : ℤ) (n : ℕ) → within v n ≡ true → mag v < n
-unfolding within
+pub within-lt : (v : ℤ) (n : ℕ) → inRange v n ≡ true → mag v < n
+unfolding inRange
 within-lt (pos a) n h = ltb-true a n h
 within-lt (negsuc a) n h = absurd (true≢false (sym h))
 

@@ -11,7 +11,7 @@ use lib.Signed.{mag}
 use lib.ListN.{getD}
 use lib.Seq.{getD-append-add}
 use borrow.Author.Tests.{eq-eqb, ne-eqb}
-use Rattle.policies.specs.Index.{signed, within}
+use Rattle.policies.specs.Index.{signed, inRange}
 use Rattle.policies.specs.Named.{
   Sizes,
   Policy,
@@ -86,9 +86,9 @@ named-beside code w h i y g = rw (within-no i w g)
 pub named-above : (code w h : ℕ) (x : ℤ) (j : ℕ) → h ≤ j
     → named code w h x (signed j) ≡ outside (policy code) w h x (signed j)
 unfolding named
-named-above code w h x j g = rw (within-no j h g) (go (within x w))
+named-above code w h x j g = rw (within-no j h g) (go (inRange x w))
   where
-    go : (t : Bool) → cond (t && false) (Pixel (mag x) (mag (signed j))) (outside (policy code) w h x (signed j)) ≡
-        outside (policy code) w h x (signed j)
+    go : (t : Bool) → cond (t && false) (Pixel (mag x) (mag (signed j))) (outside (policy code) w h x (signed j))
+        ≡ outside (policy code) w h x (signed j)
     go true = refl
     go false = refl

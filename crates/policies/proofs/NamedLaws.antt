@@ -9,7 +9,7 @@ use lib.IntN.{ℤ, pos}
 use lib.Signed.{mag}
 use borrow.Author.Tests.{lt-ltb}
 use Rattle.endian.specs.Bytes.{twosComplement}
-use Rattle.policies.specs.Index.{within, tile, parity}
+use Rattle.policies.specs.Index.{inRange, tile, parity}
 use Rattle.policies.specs.Random.{mix}
 use Rattle.policies.specs.Named.{
   Policy,
@@ -54,10 +54,10 @@ module _ (w h : ℕ) (w-pos : 0 < w) (h-pos : 0 < h) where
   outside-lies Tile x y = (tile-lt x w w-pos, tile-lt y h h-pos)
   outside-lies Mirror x y = (mirror-lt x w w-pos, mirror-lt y h h-pos)
   outside-lies HorizontalTile x y =
-      either w h (within y h) (Tap.Pixel (tile x w) (mag y)) Tap.Background (λ e. (tile-lt x w w-pos, within-lt y h e))
+      either w h (inRange y h) (Tap.Pixel (tile x w) (mag y)) Tap.Background (λ e. (tile-lt x w w-pos, within-lt y h e))
       tt
   outside-lies VerticalTile x y =
-      either w h (within x w) (Tap.Pixel (mag x) (tile y h)) Tap.Background (λ e. (within-lt x w e, tile-lt y h h-pos))
+      either w h (inRange x w) (Tap.Pixel (mag x) (tile y h)) Tap.Background (λ e. (within-lt x w e, tile-lt y h h-pos))
       tt
   outside-lies HorizontalTileEdge x y = (tile-lt x w w-pos, clamped-lt y h h-pos)
   outside-lies VerticalTileEdge x y = (clamped-lt x w w-pos, tile-lt y h h-pos)
@@ -71,9 +71,9 @@ module _ (w h : ℕ) (w-pos : 0 < w) (h-pos : 0 < h) where
 
   pub named-lies : (code : ℕ) (x y : ℤ) → Lies w h (named code w h x y)
   unfolding named
-  named-lies code x y = go (within x w) refl (within y h) refl
+  named-lies code x y = go (inRange x w) refl (inRange y h) refl
     where
-      go : (s : Bool) → within x w ≡ s → (t : Bool) → within y h ≡ t
+      go : (s : Bool) → inRange x w ≡ s → (t : Bool) → inRange y h ≡ t
           → Lies w h (cond (s && t) (Tap.Pixel (mag x) (mag y)) (outside (policy code) w h x y))
       go true d true e = (within-lt x w d, within-lt y h e)
       go true d false e = outside-lies (policy code) x y
@@ -82,5 +82,5 @@ module _ (w h : ℕ) (w-pos : 0 < w) (h-pos : 0 < h) where
 
 -- an index inside names its own pixel, under every policy
 pub named-inside : (code w h x y : ℕ) → x < w → y < h → named code w h (pos x) (pos y) ≡ Tap.Pixel x y
-unfolding named within
+unfolding named inRange
 named-inside code w h x y hx hy = rw (lt-ltb x w hx, lt-ltb y h hy)

@@ -10,9 +10,9 @@ unfoldable pub signed : ℕ → ℤ
 signed b = cond (ltb b (2 ^ 63)) (pos b) (negsuc (2 ^ 64 - 1 - b))
 
 -- 0 <= v && v < n
-unfoldable pub within : ℤ → ℕ → Bool
-within (pos a) n = ltb a n
-within (negsuc a) n = false
+unfoldable pub inRange : ℤ → ℕ → Bool
+inRange (pos a) n = ltb a n
+inRange (negsuc a) n = false
 
 -- v.clamp(0, n - 1)
 unfoldable pub clamped : ℤ → ℕ → ℕ

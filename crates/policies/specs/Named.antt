@@ -8,7 +8,7 @@ use lib.ListN.{getD}
 use lib.IntN.{ℤ}
 use lib.Signed.{mag}
 use Rattle.endian.specs.Bytes.{twosComplement}
-use Rattle.policies.specs.Index.{within, clamped, tile, mirror, parity}
+use Rattle.policies.specs.Index.{inRange, clamped, tile, mirror, parity}
 use Rattle.policies.specs.Random.{mix}
 use Rattle.policies.specs.declared.named.Tap.{Tap}
 use Rattle.policies.specs.declared.named.Tap.the-variants as Tap
@@ -34,6 +34,13 @@ policies =
 unfoldable pub policy : ℕ → Policy
 policy code = getD policies code Random
 
+-- the codes that a definition asks for by name: that of `Transparent`, and the last
+abbrev pub transparentCode : ℕ
+transparentCode = 5
+
+abbrev pub randomCode : ℕ
+randomCode = 13
+
 -- the pixel of a mix: its low part counts columns, its upper half rows
 unfoldable pub picked : ℕ → ℕ → ℕ → Tap
 picked w h z = Tap.Pixel (z % w) (z / 2 ^ 32 % h)
@@ -47,8 +54,8 @@ outside Gray w h x y = Tap.Gray
 outside Transparent w h x y = Tap.Transparent
 outside Tile w h x y = Tap.Pixel (tile x w) (tile y h)
 outside Mirror w h x y = Tap.Pixel (mirror x w) (mirror y h)
-outside HorizontalTile w h x y = cond (within y h) (Tap.Pixel (tile x w) (mag y)) Tap.Background
-outside VerticalTile w h x y = cond (within x w) (Tap.Pixel (mag x) (tile y h)) Tap.Background
+outside HorizontalTile w h x y = cond (inRange y h) (Tap.Pixel (tile x w) (mag y)) Tap.Background
+outside VerticalTile w h x y = cond (inRange x w) (Tap.Pixel (mag x) (tile y h)) Tap.Background
 outside HorizontalTileEdge w h x y = Tap.Pixel (tile x w) (clamped y h)
 outside VerticalTileEdge w h x y = Tap.Pixel (clamped x w) (tile y h)
 outside CheckerTile w h x y =
@@ -56,7 +63,7 @@ outside CheckerTile w h x y =
 outside Random w h x y = picked w h (mix (twosComplement x) (twosComplement y))
 
 unfoldable pub named : ℕ → ℕ → ℕ → ℤ → ℤ → Tap
-named code w h x y = cond (within x w && within y h) (Tap.Pixel (mag x) (mag y)) (outside (policy code) w h x y)
+named code w h x y = cond (inRange x w && inRange y h) (Tap.Pixel (mag x) (mag y)) (outside (policy code) w h x y)
 
 -- a pixel that was named lies inside the picture
 abbrev pub Lies : ℕ → ℕ → Tap → Type 0

@@ -16,11 +16,11 @@ unfoldable pub storeCoefficient : List Float → ℕ → List ℕ → List ℕ
 storeCoefficient coef k out = storeF64 out (8 + 8 * k) (getD coef k nan)
 
 -- (no mapping has more than 256)
-abbrev pub written : Mapping → List ℕ → List ℕ
-written m out = upTo (storeCoefficient (m .coef)) 0 (min (m .count) 256) (storeU64 out 0 (m .count))
+abbrev pub storeMapping : Mapping → List ℕ → List ℕ
+storeMapping m out = upTo (storeCoefficient (m .coef)) 0 (min (m .count) 256) (storeU64 out 0 (m .count))
 
 unfoldable pub answered : Fitted → List ℕ → ℕ × List ℕ
-answered f out = cond (eqb (f .refusal) 0) (0, written (f .mapping) out) (f .refusal, out)
+answered f out = cond (eqb (f .refusal) 0) (0, storeMapping (f .mapping) out) (f .refusal, out)
 
 unfoldable pub probeFit : ℕ → List ℕ → ℕ → ℕ → List ℕ → ℕ × List ℕ
 probeFit method bytes width height out = answered (sizedFit method bytes width height) out

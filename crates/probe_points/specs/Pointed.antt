@@ -1,7 +1,7 @@
 -- A source point handed out: the refusal's number, or 0 with the bits of u and v and then usable as 0 or 1 in the bytes
 -- lent. A refusal writes nothing. Assumes nothing.
 use Prim.Native.Nat.{ℕ, _+_}
-use mathlib.Core.Bool.{Bool, cond}
+use mathlib.Core.Bool.{cond}
 use mathlib.Core.List.{List}
 use lib.Dec.{eqb}
 use lib.Ieee.{Float, binary64, ofBits}
@@ -11,9 +11,7 @@ use Rattle.mappings.specs.declared.mapping.Mapping.{Mapping}
 use Rattle.inverse.specs.Inverse.{inverse}
 use Rattle.point.specs.declared.point.Point.{Point}
 use Rattle.probe_fit.specs.Sized.{sizedFit}
-
-abbrev pub flag : Bool → ℕ
-flag b = cond b 1 0
+use Rattle.window.specs.View.{flag}
 
 abbrev pub storePoint : List ℕ → ℕ → Point → List ℕ
 storePoint out at p = storeU64 (storeF64 (storeF64 out at (p .u)) (at + 8) (p .v)) (at + 16) (flag (p .usable))

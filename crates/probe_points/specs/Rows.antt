@@ -44,12 +44,12 @@ wrongRows width x y first rows out =
 abbrev pub storeRows : Mapping → ℤ → ℤ → ℕ → ℕ → ℕ → List ℕ → List ℕ
 storeRows m x y width first rows out = upTo (storeRow (frameOf m x y) (m .coef) width first) 0 rows out
 
-unfoldable pub rowsOf : Fitted → ℕ → ℤ → ℤ → ℕ → ℕ → List ℕ → ℕ × List ℕ
-rowsOf f width x y first rows out =
+unfoldable pub rowsAnswer : Fitted → ℕ → ℤ → ℤ → ℕ → ℕ → List ℕ → ℕ × List ℕ
+rowsAnswer f width x y first rows out =
     cond (eqb (f .refusal) 0)
     (cond (wrongRows width x y first rows (length out)) (12, out) (0, storeRows (f .mapping) x y width first rows out))
     (f .refusal, out)
 
 unfoldable pub probeRows : ℕ → List ℕ → ℕ → ℕ → ℤ → ℤ → ℕ → ℕ → List ℕ → ℕ × List ℕ
 probeRows method bytes width height x y first rows out =
-    rowsOf (sizedFit method bytes width height) width x y first rows out
+    rowsAnswer (sizedFit method bytes width height) width x y first rows out

@@ -2,7 +2,8 @@
 ghost use mathlib.Core.Path.{_≡_};
 ghost use Prim.Native.Nat.{_+_, _≤_};
 ghost use lib.ListN.{length};
-ghost use Rattle.probe_points.specs.Pointed.{flag, storePoint, probeInverse};
+ghost use Rattle.window.specs.View.{flag};
+ghost use Rattle.probe_points.specs.Pointed.{storePoint, probeInverse};
 use endian::bytes::store_f64;
 use endian::bytes::store_u64;
 use endian::pattern::f64_of_bits;

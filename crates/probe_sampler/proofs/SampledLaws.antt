@@ -8,7 +8,7 @@ use lib.Dec.{T}
 use lib.ListN.{length}
 use lib.Ieee.{binary64, ofBits}
 use borrow.Author.Tests.{not-false}
-use Rattle.probe_sampler.specs.Sampled.{samples, wrongPicture, wrongCodes, large, beyond, outside}
+use Rattle.probe_sampler.specs.Sampled.{samples, wrongPicture, wrongCodes, large, farCoordinate, unfitSample}
 use Rattle.taps.specs.Cell.{reach, Reached}
 use Rattle.picture.specs.Pixel.{Shaped, Inside}
 use Rattle.picture.specs.Size.{badSize, badStock}
@@ -24,8 +24,8 @@ unfolding wrongPicture
 shape-fit bytes s f =
     or-false (badSize (s .width) (s .height) (s .channels)) (badStock bytes (s .width) (s .height) (s .channels)) f
 
-pub reached : (x : ℕ) → beyond x ≡ false → Reached (ofBits binary64 x)
-unfolding beyond
+pub reached : (x : ℕ) → farCoordinate x ≡ false → Reached (ofBits binary64 x)
+unfolding farCoordinate
 reached x h = holds (within reach (ofBits binary64 x)) (not-false (within reach (ofBits binary64 x)) h)
   where
     holds : (t : Bool) → t ≡ true → T t
@@ -33,20 +33,20 @@ reached x h = holds (within reach (ofBits binary64 x)) (not-false (within reach 
     holds false e = absurd (true≢false (sym e))
 
 pub outside-fit : (bytes : List ℕ) (s : Shape) (policy code : ℕ) (background : List ℕ) (x y : ℕ)
-    → outside bytes s policy code background x y ≡ false
+    → unfitSample bytes s policy code background x y ≡ false
     → Shaped bytes s
     × ((length background ≡ 16 → Inside background 1 4 0 0)
     × (Reached (ofBits binary64 x) × Reached (ofBits binary64 y)))
-unfolding outside large
+unfolding unfitSample large
 outside-fit bytes s policy code background x y f =
-    let r : Bool = beyond x || beyond y in
+    let r : Bool = farCoordinate x || farCoordinate y in
     let q : Bool = large background 4 || r in
     let p : Bool = large bytes (samples s) || q in
     let t = or-false (wrongPicture bytes s) (wrongCodes policy code || p) f in
     let u = or-false (wrongCodes policy code) p (t .1) in
     let v = or-false (large bytes (samples s)) q (u .1) in
     let k = or-false (large background 4) r (v .1) in
-    let l = or-false (beyond x) (beyond y) (k .1) in
+    let l = or-false (farCoordinate x) (farCoordinate y) (k .1) in
     let z = shape-fit bytes s (t .0) in (
       picture-fit bytes (s .width) (s .height) (s .channels) (z .0) (z .1) (v .0),
       (λ e. one-pixel background e (k .0), (reached x (l .0), reached y (l .1))),

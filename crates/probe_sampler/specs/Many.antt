@@ -7,24 +7,24 @@ use lib.Dec.{eqb}
 use lib.ListN.{length}
 use Rattle.exact.specs.Loop.{upTo}
 use Rattle.endian.specs.Bytes.{u64At}
-use Rattle.probe_sampler.specs.Sampled.{beyond, outside, storeColour, shapeOf}
+use Rattle.probe_sampler.specs.Sampled.{farCoordinate, unfitSample, storeColour, shapeOf}
 use Rattle.picture.specs.Pixel.{pixelAt}
 use Rattle.picture.specs.declared.shape.Shape.{Shape}
 use Rattle.probe_sampler.specs.declared.many.Sampler.{Sampler}
 
 -- the bits of the coordinates of the point numbered k
-abbrev pub xOf : List ℕ → ℕ → ℕ
-xOf points k = u64At points (16 * k)
+abbrev pub xBits : List ℕ → ℕ → ℕ
+xBits points k = u64At points (16 * k)
 
-abbrev pub yOf : List ℕ → ℕ → ℕ
-yOf points k = u64At points (16 * k + 8)
+abbrev pub yBits : List ℕ → ℕ → ℕ
+yBits points k = u64At points (16 * k + 8)
 
 -- its colour, as the pixel numbered k; a point beyond the domain leaves the bytes as they are
 unfoldable pub storeSampled : List ℕ → Shape → Sampler → List ℕ → ℕ → List ℕ → List ℕ
 storeSampled bytes s m points k out =
-    cond (beyond (xOf points k) || beyond (yOf points k)) out
-    (storeColour bytes (s .width) (s .height) (s .channels) (m .policy) (m .code) (m .background) (xOf points k)
-    (yOf points k) out k)
+    cond (farCoordinate (xBits points k) || farCoordinate (yBits points k)) out
+    (storeColour bytes (s .width) (s .height) (s .channels) (m .policy) (m .code) (m .background) (xBits points k)
+    (yBits points k) out k)
 
 -- all points that are whole
 abbrev pub storeSamples : List ℕ → Shape → Sampler → List ℕ → List ℕ → List ℕ
@@ -40,6 +40,6 @@ unfoldable pub probeSamples : List ℕ → ℕ → ℕ → ℕ → ℕ → ℕ �
 probeSamples bytes width height channels policy code background points out =
     cond
     (not (eqb (length points) (length out))
-    || outside bytes (shapeOf width height channels) policy code background 0 0)
+    || unfitSample bytes (shapeOf width height channels) policy code background 0 0)
     (1, out)
     (0, storeSamples bytes (shapeOf width height channels) (samplerOf policy code background) points out)

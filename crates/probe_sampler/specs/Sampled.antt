@@ -7,6 +7,7 @@ use lib.Dec.{ltb}
 use lib.Ieee.{binary64, ofBits}
 use Rattle.number.specs.Magnitude.{within}
 unfoldable pub use Rattle.sample_limit.specs.Samples.{large}
+use Rattle.policies.specs.Named.{randomCode}
 use Rattle.taps.specs.Cell.{reach}
 use Rattle.taps.specs.Interpolation.{backgroundCode}
 use Rattle.sampler.specs.Interpolate.{interpolate}
@@ -26,17 +27,17 @@ wrongPicture bytes s =
     badSize (s .width) (s .height) (s .channels) || badStock bytes (s .width) (s .height) (s .channels)
 
 unfoldable pub wrongCodes : ℕ → ℕ → Bool
-wrongCodes policy code = ltb 13 policy || ltb backgroundCode code
+wrongCodes policy code = ltb randomCode policy || ltb backgroundCode code
 
 -- a coordinate, by its bits, that is not a number or above 2^30 + 1 in magnitude
-unfoldable pub beyond : ℕ → Bool
-beyond x = not (within reach (ofBits binary64 x))
+unfoldable pub farCoordinate : ℕ → Bool
+farCoordinate x = not (within reach (ofBits binary64 x))
 
-unfoldable pub outside : List ℕ → Shape → ℕ → ℕ → List ℕ → ℕ → ℕ → Bool
-outside bytes s policy code background x y =
+unfoldable pub unfitSample : List ℕ → Shape → ℕ → ℕ → List ℕ → ℕ → ℕ → Bool
+unfitSample bytes s policy code background x y =
     wrongPicture bytes s
     || (wrongCodes policy code
-    || (large bytes (samples s) || (large background 4 || (beyond x || beyond y))))
+    || (large bytes (samples s) || (large background 4 || (farCoordinate x || farCoordinate y))))
 
 -- ---- the answers
 -- the colour at a point, by the bits of its coordinates, as the pixel numbered k
@@ -50,5 +51,5 @@ shapeOf width height channels = record { width = width; height = height; channel
 
 unfoldable pub probeInterpolate : List ℕ → ℕ → ℕ → ℕ → ℕ → ℕ → List ℕ → ℕ → ℕ → List ℕ → ℕ × List ℕ
 probeInterpolate bytes width height channels policy code background x y out =
-    cond (outside bytes (shapeOf width height channels) policy code background x y) (1, out)
+    cond (unfitSample bytes (shapeOf width height channels) policy code background x y) (1, out)
     (0, storeColour bytes width height channels policy code (pixelAt background 1 4 0 0) x y out 0)

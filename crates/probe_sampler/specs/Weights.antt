@@ -4,15 +4,11 @@ use Prim.Native.Nat.{ℕ}
 use mathlib.Core.Bool.{Bool, not, cond, _||_}
 use mathlib.Core.List.{List}
 use lib.Dec.{eqb}
-use lib.ListN.{getD}
-use lib.Ieee.{Float, nan, binary32, ofBits, le}
+use lib.Ieee.{Float, binary32, ofBits, le}
+use Rattle.exact.specs.Vector.{at}
 use Rattle.endian.specs.Bytes.{storeF32}
 use Rattle.cubic.specs.Cubic.{zero, half, one, cubicWeights}
 use Rattle.taps.specs.Interpolation.{catromCode, splineCode}
-
--- w[k], of four
-abbrev pub at : List Float → ℕ → Float
-at w k = getD w k nan
 
 abbrev pub storeWeights : List ℕ → List Float → List ℕ
 storeWeights out w = storeF32 (storeF32 (storeF32 (storeF32 out 0 (at w 0)) 4 (at w 1)) 8 (at w 2)) 12 (at w 3)

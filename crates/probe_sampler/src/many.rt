@@ -6,9 +6,9 @@ ghost use lib.ListN.{length};
 ghost use Rattle.exact.specs.Loop.{upTo};
 ghost use Rattle.probe_sampler.specs.Many.{storeSampled, storeSamples, probeSamples};
 ghost use Rattle.picture.specs.Pixel.{Shaped};
-use crate::sampled::beyond;
-use crate::sampled::outside;
+use crate::sampled::far_coordinate;
 use crate::sampled::store_colour;
+use crate::sampled::unfit_sample;
 use endian::bytes::u64_at;
 use picture::colour::Rgba;
 use picture::pixel::pixel_at;
@@ -37,10 +37,10 @@ fn store_sampled(
 {
     let x = u64_at(points, 16 * k);
     let y = u64_at(points, 16 * k + 8);
-    if beyond(x) {
+    if far_coordinate(x) {
         return;
     }
-    if beyond(y) {
+    if far_coordinate(y) {
         return;
     }
     let background = sampler.background;
@@ -96,7 +96,7 @@ pub extern "C" fn probe_samples(
         height,
         channels,
     };
-    if outside(picture, shape, policy, interpolation, background, 0, 0) {
+    if unfit_sample(picture, shape, policy, interpolation, background, 0, 0) {
         return 1;
     }
     let colour = pixel_at(background, 1, 4, 0, 0);

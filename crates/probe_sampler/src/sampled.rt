@@ -7,8 +7,8 @@ ghost use lib.Ieee.{binary64, ofBits};
 ghost use Rattle.probe_sampler.specs.Sampled.{
   wrongPicture,
   wrongCodes,
-  beyond,
-  outside,
+  farCoordinate,
+  unfitSample,
   storeColour,
   probeInterpolate,
 };
@@ -42,13 +42,13 @@ fn wrong_codes(policy: u64, code: u64) -> bool
     (RANDOM < policy) | (BACKGROUND < code)
 }
 
-pub fn beyond(x: u64) -> bool
-    ensures { λ r. ⌜ r ≡ beyond x ⌝ }
+pub fn far_coordinate(x: u64) -> bool
+    ensures { λ r. ⌜ r ≡ farCoordinate x ⌝ }
 {
     !f64_bits_within(x, 0x41d0_0000_0040_0000)
 }
 
-pub fn outside(
+pub fn unfit_sample(
     picture: &[u8],
     shape: Shape,
     policy: u64,
@@ -57,7 +57,7 @@ pub fn outside(
     x: u64,
     y: u64,
 ) -> bool
-    ensures { λ r. ⌜ r ≡ outside (now (picture .entry)) shape policy code (now (background .entry)) x y ⌝ }
+    ensures { λ r. ⌜ r ≡ unfitSample (now (picture .entry)) shape policy code (now (background .entry)) x y ⌝ }
 {
     if wrong_picture(picture, shape) {
         return true;
@@ -74,10 +74,10 @@ pub fn outside(
     if large(background, 4) {
         return true;
     }
-    if beyond(x) {
+    if far_coordinate(x) {
         return true;
     }
-    beyond(y)
+    far_coordinate(y)
 }
 
 // The colour at a point of the domain, as the pixel numbered k.
@@ -137,7 +137,7 @@ pub extern "C" fn probe_interpolate(
         height,
         channels,
     };
-    if outside(picture, shape, policy, interpolation, background, x, y) {
+    if unfit_sample(picture, shape, policy, interpolation, background, x, y) {
         return 1;
     }
     store_colour(

@@ -15,7 +15,7 @@ const FEWEST: u32 = 2;
 const MOST: u32 = 9;
 
 // The limit of a sample, which no sample of a picture is above.
-const LIMIT: f32 = 65536.0;
+const SAMPLE_LIMIT: f32 = 65536.0;
 
 // Whether a whole span goes over so many rows.
 fn slants(rows: &[u32; 64], n: usize) -> bool {
@@ -52,7 +52,7 @@ fn read(picture: &[u8], shape: Shape, columns: &[u32; 64], rows: &[u32; 64], n: 
     let fourths = n / 4;
     for e in 0..fourths {
         let k = 4 * e;
-        good = good & (second(picture, shape, wide(columns[k]), wide(rows[k])) <= LIMIT);
+        good = good & (second(picture, shape, wide(columns[k]), wide(rows[k])) <= SAMPLE_LIMIT);
     }
     good
 }

@@ -10,7 +10,7 @@ use Rattle.exact.specs.Loop.{upTo}
 use Rattle.exact.proofs.Any.{each-none, none-each}
 use Rattle.exact.proofs.Booleans.{or-false, both-false, same-false}
 use Rattle.exact.proofs.Loop.{upTo-join}
-use Rattle.sample_limit.specs.Samples.{beyond, large, apart, parted}
+use Rattle.sample_limit.specs.Samples.{beyondLimit, large, oneOfEight, inParts}
 
 -- what holds of the eight
 eighth : (P : ℕ → Type 0) → P 0 → P 1 → P 2 → P 3 → P 4 → P 5 → P 6 → P 7 → (s : ℕ) → s < 8 → P s
@@ -26,7 +26,7 @@ eighth P a b c d e f g h (suc (suc (suc (suc (suc (suc (suc (suc s)))))))) l = a
 
 module _ (bytes : List ℕ) (m : ℕ) where
   -- one part's place, of eight that are none
-  of-apart : (k : ℕ) → apart bytes m k ≡ false → (s : ℕ) → s < 8 → beyond bytes (k + s * m) ≡ false
+  of-apart : (k : ℕ) → oneOfEight bytes m k ≡ false → (s : ℕ) → s < 8 → beyondLimit bytes (k + s * m) ≡ false
   of-apart k none =
       let g = or-false _ _ none in
       let f = or-false _ _ (g .0) in
@@ -35,9 +35,9 @@ module _ (bytes : List ℕ) (m : ℕ) where
       let c = or-false _ _ (d .0) in
       let b = or-false _ _ (c .0) in
       let a = or-false _ _ (b .0) in
-      eighth (λ (s : ℕ). beyond bytes (k + s * m) ≡ false)
-      (subst (λ (i : ℕ). beyond bytes i ≡ false) (at-0 k m) (a .0))
-      (subst (λ (i : ℕ). beyond bytes i ≡ false) (at-1 k m) (a .1))
+      eighth (λ (s : ℕ). beyondLimit bytes (k + s * m) ≡ false)
+      (subst (λ (i : ℕ). beyondLimit bytes i ≡ false) (at-0 k m) (a .0))
+      (subst (λ (i : ℕ). beyondLimit bytes i ≡ false) (at-1 k m) (a .1))
       (b .1)
       (c .1)
       (d .1)
@@ -51,7 +51,7 @@ module _ (bytes : List ℕ) (m : ℕ) where
       at-1 : (k m : ℕ) → k + m ≡ k + 1 * m
       at-1 k m = omega arith
 
-  to-apart : (k : ℕ) → k < m → ((j : ℕ) → j < 8 * m → beyond bytes j ≡ false) → apart bytes m k ≡ false
+  to-apart : (k : ℕ) → k < m → ((j : ℕ) → j < 8 * m → beyondLimit bytes j ≡ false) → oneOfEight bytes m k ≡ false
   to-apart k h all =
       both-false _ _
       (both-false _ _ (both-false _ _
@@ -61,19 +61,21 @@ module _ (bytes : List ℕ) (m : ℕ) where
       (all (k + 5 * m) (omega arith))) (all (k + 6 * m) (omega arith)))
       (all (k + 7 * m) (omega arith))
 
-  pub parts-whole : parted bytes m m ≡ large bytes (8 * m)
+  pub parts-whole : inParts bytes m m ≡ large bytes (8 * m)
   unfolding large
-  parts-whole = same-false (parted bytes m m) (large bytes (8 * m))
-      (λ none. each-none (beyond bytes) (8 * m) (λ j h. from j h none))
-      (λ none. each-none (apart bytes m) m (λ k h. to-apart k h (λ j l. none-each (beyond bytes) (8 * m) none j l)))
+  parts-whole = same-false (inParts bytes m m) (large bytes (8 * m))
+      (λ none. each-none (beyondLimit bytes) (8 * m) (λ j h. from j h none))
+      (λ none. each-none (oneOfEight bytes m) m
+      (λ k h. to-apart k h (λ j l. none-each (beyondLimit bytes) (8 * m) none j l)))
     where
       positive : (j m : ℕ) → j < 8 * m → 0 < m
       positive j m h = omega arith
 
-      from : (j : ℕ) → j < 8 * m → parted bytes m m ≡ false → beyond bytes j ≡ false
+      from : (j : ℕ) → j < 8 * m → inParts bytes m m ≡ false → beyondLimit bytes j ≡ false
       from j h none =
-          subst (λ (i : ℕ). beyond bytes i ≡ false) (place j)
-          (of-apart (j % m) (none-each (apart bytes m) m none (j % m) (mod-lt j (positive j m h))) (j / m) (below j h))
+          subst (λ (i : ℕ). beyondLimit bytes i ≡ false) (place j)
+          (of-apart (j % m) (none-each (oneOfEight bytes m) m none (j % m) (mod-lt j (positive j m h))) (j / m)
+          (below j h))
         where
           place : (j : ℕ) → j % m + j / m * m ≡ j
           place j = omega (arith, div-add-mod' j m)
@@ -82,10 +84,10 @@ module _ (bytes : List ℕ) (m : ℕ) where
           below j h = div-lt-iff-lt-mul (positive j m h) .1 h
 
   -- and the rest after them
-  pub parts-and-rest : (n : ℕ) (t r : Bool) → 8 * m ≤ n → t ≡ parted bytes m m
-      → r ≡ upTo (λ (k : ℕ) (t : Bool). t || beyond bytes k) (8 * m) n t → r ≡ large bytes n
+  pub parts-and-rest : (n : ℕ) (t r : Bool) → 8 * m ≤ n → t ≡ inParts bytes m m
+      → r ≡ upTo (λ (k : ℕ) (t : Bool). t || beyondLimit bytes k) (8 * m) n t → r ≡ large bytes n
   unfolding large
   parts-and-rest n t r h e f =
       f
-      ∙ ap (upTo (λ (k : ℕ) (t : Bool). t || beyond bytes k) (8 * m) n) (e ∙ parts-whole)
-      ∙ sym (upTo-join (λ (k : ℕ) (t : Bool). t || beyond bytes k) 0 false (8 * m) n zero-le h)
+      ∙ ap (upTo (λ (k : ℕ) (t : Bool). t || beyondLimit bytes k) (8 * m) n) (e ∙ parts-whole)
+      ∙ sym (upTo-join (λ (k : ℕ) (t : Bool). t || beyondLimit bytes k) 0 false (8 * m) n zero-le h)

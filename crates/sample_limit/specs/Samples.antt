@@ -8,23 +8,23 @@ use Rattle.endian.specs.Bytes.{sampleAt, sampleLimit}
 use Rattle.number.specs.Magnitude.{within}
 
 -- the sample numbered k is
-abbrev pub beyond : List ℕ → ℕ → Bool
-beyond bytes k = not (within sampleLimit (sampleAt bytes k))
+abbrev pub beyondLimit : List ℕ → ℕ → Bool
+beyondLimit bytes k = not (within sampleLimit (sampleAt bytes k))
 
 -- one of the first n is
 unfoldable pub large : List ℕ → ℕ → Bool
-large bytes n = upTo (λ (k : ℕ) (t : Bool). t || beyond bytes k) 0 n false
+large bytes n = upTo (λ (k : ℕ) (t : Bool). t || beyondLimit bytes k) 0 n false
 
 -- ---- the order in which the code asks, which changes nothing (proofs/PartsLaws)
 -- one of eight samples is, m apart, from the one numbered k on
-abbrev pub apart : List ℕ → ℕ → ℕ → Bool
-apart bytes m k =
-    beyond bytes k || beyond bytes (k + m) || beyond bytes (k + 2 * m) || beyond bytes (k + 3 * m)
-    || beyond bytes (k + 4 * m)
-    || beyond bytes (k + 5 * m)
-    || beyond bytes (k + 6 * m)
-    || beyond bytes (k + 7 * m)
+abbrev pub oneOfEight : List ℕ → ℕ → ℕ → Bool
+oneOfEight bytes m k =
+    beyondLimit bytes k || beyondLimit bytes (k + m) || beyondLimit bytes (k + 2 * m) || beyondLimit bytes (k + 3 * m)
+    || beyondLimit bytes (k + 4 * m)
+    || beyondLimit bytes (k + 5 * m)
+    || beyondLimit bytes (k + 6 * m)
+    || beyondLimit bytes (k + 7 * m)
 
 -- one of n in each of eight parts, which start m apart
-abbrev pub parted : List ℕ → ℕ → ℕ → Bool
-parted bytes m n = upTo (λ (k : ℕ) (t : Bool). t || apart bytes m k) 0 n false
+abbrev pub inParts : List ℕ → ℕ → ℕ → Bool
+inParts bytes m n = upTo (λ (k : ℕ) (t : Bool). t || oneOfEight bytes m k) 0 n false

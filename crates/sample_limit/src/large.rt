@@ -7,43 +7,43 @@ ghost use Prim.Native.Nat.{ℕ, _+_, _*_, _≤_};
 ghost use lib.ListN.{length};
 ghost use Rattle.exact.specs.Loop.{upTo};
 ghost use Rattle.sample_limit.specs.Samples as Samples;
-ghost use Rattle.sample_limit.specs.Samples.{beyond, apart, parted};
+ghost use Rattle.sample_limit.specs.Samples.{beyondLimit, oneOfEight, inParts};
 use endian::bytes::f32_within;
 
 // 65536.0, the largest sample in magnitude, by its pattern.
-const LIMIT: u32 = 0x4780_0000;
+const SAMPLE_LIMIT: u32 = 0x4780_0000;
 
 // The sample numbered k.
-fn beyond(bytes: &[u8], k: usize) -> bool
+fn beyond_limit(bytes: &[u8], k: usize) -> bool
     requires { ⌜ (k + 1) * 4 ≤ length (now bytes) ⌝ }
-    ensures { λ r. ⌜ r ≡ beyond (now (bytes .entry)) k ⌝ }
+    ensures { λ r. ⌜ r ≡ beyondLimit (now (bytes .entry)) k ⌝ }
 {
-    !f32_within(bytes, 4 * k, LIMIT)
+    !f32_within(bytes, 4 * k, SAMPLE_LIMIT)
 }
 
 // One of eight samples, m apart, from the one numbered k on.
-fn eight(bytes: &[u8], m: usize, k: usize) -> bool
+fn one_of_eight(bytes: &[u8], m: usize, k: usize) -> bool
     requires { ⌜ (k + 7 * m + 1) * 4 ≤ length (now bytes) ⌝ }
-    ensures { λ r. ⌜ r ≡ apart (now (bytes .entry)) m k ⌝ }
+    ensures { λ r. ⌜ r ≡ oneOfEight (now (bytes .entry)) m k ⌝ }
 {
-    beyond(bytes, k)
-        | beyond(bytes, k + m)
-        | beyond(bytes, k + 2 * m)
-        | beyond(bytes, k + 3 * m)
-        | beyond(bytes, k + 4 * m)
-        | beyond(bytes, k + 5 * m)
-        | beyond(bytes, k + 6 * m)
-        | beyond(bytes, k + 7 * m)
+    beyond_limit(bytes, k)
+        | beyond_limit(bytes, k + m)
+        | beyond_limit(bytes, k + 2 * m)
+        | beyond_limit(bytes, k + 3 * m)
+        | beyond_limit(bytes, k + 4 * m)
+        | beyond_limit(bytes, k + 5 * m)
+        | beyond_limit(bytes, k + 6 * m)
+        | beyond_limit(bytes, k + 7 * m)
 }
 
 // One of the first 8 m.
 fn in_parts(bytes: &[u8], m: usize) -> bool
     requires { ⌜ 8 * m * 4 ≤ length (now bytes) ⌝ }
-    ensures { λ r. ⌜ r ≡ parted (now (bytes .entry)) m m ⌝ }
+    ensures { λ r. ⌜ r ≡ inParts (now (bytes .entry)) m m ⌝ }
 {
     let mut found = false;
     for k in 0..m {
-        found = found | eight(bytes, m, k);
+        found = found | one_of_eight(bytes, m, k);
     }
     found
 }
@@ -51,11 +51,11 @@ fn in_parts(bytes: &[u8], m: usize) -> bool
 // What was found already, or one of those from the one numbered `first` on, up to n.
 fn in_rest(bytes: &[u8], first: usize, n: usize, already: bool) -> bool
     requires { ⌜ (first ≤ n) × (n * 4 ≤ length (now bytes)) ⌝ }
-    ensures { λ r. ⌜ r ≡ upTo (λ (k : ℕ) (t : Bool). t || beyond (now (bytes .entry)) k) first n already ⌝ }
+    ensures { λ r. ⌜ r ≡ upTo (λ (k : ℕ) (t : Bool). t || beyondLimit (now (bytes .entry)) k) first n already ⌝ }
 {
     let mut found = already;
     for k in first..n {
-        found = found | beyond(bytes, k);
+        found = found | beyond_limit(bytes, k);
     }
     found
 }

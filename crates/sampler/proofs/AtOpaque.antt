@@ -16,7 +16,7 @@ use Rattle.exact.specs.Weighted.{Unit32}
 use Rattle.endian.specs.Bytes.{sampleAt, twosComplement}
 use Rattle.picture.specs.At.{at}
 use Rattle.picture.specs.Colour.{zero, half, one}
-use Rattle.policies.specs.Index.{within, tile, parity}
+use Rattle.policies.specs.Index.{inRange, tile, parity}
 use Rattle.policies.specs.Named.{
   Policy,
   Edge,
@@ -62,8 +62,8 @@ outside-solid Gray f w h x y = tt
 outside-solid Transparent f w h x y = f refl
 outside-solid Tile f w h x y = tt
 outside-solid Mirror f w h x y = tt
-outside-solid HorizontalTile f w h x y = either (within y h) (Tap.Pixel (tile x w) (mag y)) Tap.Background tt tt
-outside-solid VerticalTile f w h x y = either (within x w) (Tap.Pixel (mag x) (tile y h)) Tap.Background tt tt
+outside-solid HorizontalTile f w h x y = either (inRange y h) (Tap.Pixel (tile x w) (mag y)) Tap.Background tt tt
+outside-solid VerticalTile f w h x y = either (inRange x w) (Tap.Pixel (mag x) (tile y h)) Tap.Background tt tt
 outside-solid HorizontalTileEdge f w h x y = tt
 outside-solid VerticalTileEdge f w h x y = tt
 outside-solid CheckerTile f w h x y =
@@ -73,7 +73,7 @@ outside-solid Random f w h x y = tt
 pub named-solid : (code w h : ℕ) → (policy code ≡ Transparent → ⊥) → (x y : ℤ) → Solid (named code w h x y)
 unfolding named
 named-solid code w h f x y =
-    either (within x w && within y h) (Tap.Pixel (mag x) (mag y)) (outside (policy code) w h x y) tt
+    either (inRange x w && inRange y h) (Tap.Pixel (mag x) (mag y)) (outside (policy code) w h x y) tt
     (outside-solid (policy code) f w h x y)
 
 -- ---- the constants

@@ -10,7 +10,7 @@ use lib.Dec.{lit≤}
 use lib.Ieee.{Float}
 use Rattle.exact.specs.Double.{_⊖_}
 use Rattle.exact.specs.Fraction.{Fraction, frac, value, _≤F_, _+F_, _-F_, absF, Unit01}
-use Rattle.exact.specs.Warp.{half, Cell, Coordinate, exactSample}
+use Rattle.exact.specs.Warp.{half, InCell, Coordinate, exactSample}
 use Rattle.exact.specs.Weighted.{w00, w10, w01, w11, colour, alpha, Unit32, Sample}
 use Rattle.exact.proofs.Weighted.{alpha-one}
 use Rattle.exact.proofs.Warp.{warp-demand}
@@ -20,7 +20,7 @@ use Rattle.taps.specs.Cell.{Reached, fraction, cell}
 use Rattle.picture.specs.Colour.{one}
 use Rattle.sampler.specs.Interpolate.{several, interpolate}
 use Rattle.taps.specs.Interpolation.{Bilinear, interpolation, bilinearCode}
-use Rattle.sampler.specs.Opaque.{OpaquePlace, Exact, UnitExact, NearExact, NearSample}
+use Rattle.sampler.specs.Opaque.{OpaquePlace, Exact, UnitExact, NearExact, NearColour}
 use Rattle.taps.specs.Taps.{Plane, tap, taps}
 use Rattle.taps.specs.Weighted.{mean, weighted, Opaque}
 use Rattle.taps.specs.Weights.{fourWeights, weights}
@@ -80,10 +80,10 @@ module _ (bytes : List ℕ) (w h channels code : ℕ) (background : Rgba)
     point : (z : Float) (Z : Fraction) → Coordinate z Z → Reached (z ⊖ half)
     point z Z c = less-half-reached z 16385 (c .number) (c .small) (lit≤ tt)
 
-    px : Cell (u ⊖ half) (floorI64 (u ⊖ half)) (fraction (u ⊖ half))
+    px : InCell (u ⊖ half) (floorI64 (u ⊖ half)) (fraction (u ⊖ half))
     px = cell-law (u ⊖ half) (point u U cu)
 
-    py : Cell (v ⊖ half) (floorI64 (v ⊖ half)) (fraction (v ⊖ half))
+    py : InCell (v ⊖ half) (floorI64 (v ⊖ half)) (fraction (v ⊖ half))
     py = cell-law (v ⊖ half) (point v V' cv)
 
     -- one colour of the plane
@@ -99,11 +99,11 @@ module _ (bytes : List ℕ) (w h channels code : ℕ) (background : Rgba)
         warp-demand Q unit e u v (fraction (u ⊖ half)) (fraction (v ⊖ half)) U V' (floorI64 (u ⊖ half))
         (floorI64 (v ⊖ half)) cu cv px py (λ (i j : ℤ). part (plane i j)) close
 
-    pub sampled-near : NearSample (interpolate bytes w h channels code bilinearCode background (u ⊖ half) (v ⊖ half)) q
+    pub sampled-near : NearColour (interpolate bytes w h channels code bilinearCode background (u ⊖ half) (v ⊖ half)) q
         (U -F frac 1 2) (V' -F frac 1 2) (e +F frac 1 524288)
     unfolding interpolate interpolation
     sampled-near =
-        subst (λ (m : Rgba). NearSample m q (U -F frac 1 2) (V' -F frac 1 2) (e +F frac 1 524288))
+        subst (λ (m : Rgba). NearColour m q (U -F frac 1 2) (V' -F frac 1 2) (e +F frac 1 524288))
         (sym (bilinear-opaque plane (u ⊖ half) (v ⊖ half) (px .fraction) (py .fraction)
         (at-opaque bytes w h channels code background O)))
         (record {

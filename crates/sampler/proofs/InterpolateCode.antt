@@ -8,11 +8,11 @@ use Rattle.taps.specs.Cell.{cell}
 use Rattle.taps.specs.Interpolation.{interpolation, averageCode, backgroundCode, Single}
 use Rattle.taps.specs.Taps.{Plane}
 use Rattle.taps.proofs.InterpolationCode.{each-code}
-use Rattle.sampler.specs.Interpolate.{single, several, interpolated}
+use Rattle.sampler.specs.Interpolate.{singleTap, several, interpolated}
 
 module _ (plane : Plane) (background : Rgba) (x y : Float) where
   pub single-code : (code : ℕ) → Single code
-      → interpolated (interpolation code) plane background x y ≡ single plane (cell (interpolation code) x y)
+      → interpolated (interpolation code) plane background x y ≡ singleTap plane (cell (interpolation code) x y)
   unfolding interpolation
   single-code zero h = refl
   single-code (suc zero) h = refl

@@ -39,8 +39,8 @@ use Rattle.taps.specs.Interpolation.{
 }
 use Rattle.picture.specs.Pixel.{Picture}
 use Rattle.taps.specs.Taps.{Plane, side, count, sixteen, tap, taps}
-use Rattle.taps.specs.Weighted.{least, quotient, mean, tapAt, weightAt, summed, weighted, Bounded, BoundedBy}
-use Rattle.taps.specs.Weights.{fourWeights, products, alike, weights}
+use Rattle.taps.specs.Weighted.{least, quotient, mean, tapAt, weightAt, tapSums, weighted, Bounded, BoundedBy}
+use Rattle.taps.specs.Weights.{fourWeights, products, alikeWeights, weights}
 use Rattle.picture.specs.declared.colour.Rgba.{Rgba}
 use Rattle.taps.specs.declared.weighted.Sums.{Sums}
 use Rattle.sampler.proofs.AtFinite.{bounded-more, at-bounded, at-fits}
@@ -66,7 +66,7 @@ each-at a b c d (p, (q, (r, (s, _)))) (suc (suc zero)) l = r
 each-at a b c d (p, (q, (r, (s, _)))) (suc (suc (suc zero))) l = s
 each-at a b c d h (suc (suc (suc (suc j)))) l = absurd (omega arith)
 
-alike-small : (k : ℕ) → k < 16 → Small (weightAt alike k)
+alike-small : (k : ℕ) → k < 16 → Small (weightAt alikeWeights k)
 alike-small = of-sixteen (λ (k : ℕ). Colour.one) (λ k l. one-bounded)
 
 products-small : (wx wy : List Float) → ((j : ℕ) → j < 4 → Small (weightAt wx j))
@@ -151,7 +151,7 @@ quotient-fits x y = cond-fits binary32 (lt least (abs y)) (x ⊘ y) Colour.zero 
 weighted-fits : (taps : List Rgba) (ws : List Float) (n : ℕ) → FitsBy (weighted taps ws n)
 unfolding weighted mean
 weighted-fits taps ws n =
-    let s : Sums = summed taps ws n in
+    let s : Sums = tapSums taps ws n in
     record {
       red = quotient-fits (s .r) (s .a);
       green = quotient-fits (s .g) (s .a);

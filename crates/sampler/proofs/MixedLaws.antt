@@ -19,7 +19,7 @@ use Rattle.taps.specs.declared.weights.BilinearWeights.{BilinearWeights}
 use Rattle.taps.specs.Weighted.{added, weighted, mean}
 use Rattle.taps.specs.declared.weighted.Sums.{Sums}
 use Rattle.taps.proofs.WeightedOpaque.{summed-four, opaque-four}
-use Rattle.sampler.specs.TwoByTwo.{Weighed, blend, twoByTwoSums, over, mixed}
+use Rattle.sampler.specs.TwoByTwo.{Weighed, cellColour, twoByTwoSums, overWeight, mixed}
 
 -- the code's weights, and their sum
 pub weighed-by : {tx ty : Float} {c : BilinearWeights} → c ≡ bilinearWeights tx ty
@@ -48,12 +48,12 @@ module _ (bytes : List ℕ) (w n i j : ℕ) (tx ty : Float) where
   abbrev sums : Sums
   sums = twoByTwoSums bytes w n i j (w00 tx ty) (w10 tx ty) (w01 tx ty) (w11 tx ty) (weightSum tx ty)
 
-  own-mean : mean sums ≡ blend bytes w n i j tx ty
-  unfolding blend weighted twoByTwoSums added
+  own-mean : mean sums ≡ cellColour bytes w n i j tx ty
+  unfolding cellColour weighted twoByTwoSums added
   own-mean = sym (ap mean (summed-four (p ∷ q ∷ r ∷ s ∷ []) (fourWeights tx ty)))
 
   -- with every alpha 1, the sum of alphas is that of the weights
-  own-over : (n ≡ 4 → ⊥) → Unit32 tx → Unit32 ty → over sums ≡ mean sums
+  own-over : (n ≡ 4 → ⊥) → Unit32 tx → Unit32 ty → overWeight sums ≡ mean sums
   unfolding twoByTwoSums added pixelAt
   own-over fewer x y =
       let P : p .a ≡ one = widened-opaque bytes n _ fewer in
@@ -72,12 +72,12 @@ module _ (bytes : List ℕ) (w n i j : ℕ) (tx ty : Float) where
       ∙ sym (opaque-four tx ty x y p q r s P Q R S)
 
   pub mixed-blend : {a b c d t : Float} → Unit32 tx → Unit32 ty → Weighed tx ty a b c d t
-      → mixed bytes w n i j a b c d t ≡ blend bytes w n i j tx ty
+      → mixed bytes w n i j a b c d t ≡ cellColour bytes w n i j tx ty
   unfolding mixed
   mixed-blend {a} {b} {c} {d} {t} x y W =
       (λ z. mixed bytes w n i j (W .at-00 z) (W .at-10 z) (W .at-01 z) (W .at-11 z) (W .total z))
       ∙ either (eqb n 4) refl ∙ own-mean
     where
-      either : (four : Bool) → eqb n 4 ≡ four → cond four (mean sums) (over sums) ≡ mean sums
+      either : (four : Bool) → eqb n 4 ≡ four → cond four (mean sums) (overWeight sums) ≡ mean sums
       either true e = refl
       either false e = own-over (λ m. false≢true (sym e ∙ rw m)) x y

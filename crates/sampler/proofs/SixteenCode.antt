@@ -20,7 +20,7 @@ use Rattle.taps.specs.Weights.{products}
 use Rattle.taps.proofs.InterpolationCode.{each-code}
 use Rattle.sampler.specs.Interpolate.{several, interpolated, interpolate}
 use Rattle.sampler.specs.FourByFour.{own}
-use Rattle.sampler.specs.Sixteen.{kernel}
+use Rattle.sampler.specs.Sixteen.{kernelOf}
 use Rattle.sampler.proofs.InterpolateCode.{several-code}
 
 -- ---- the answers
@@ -28,13 +28,13 @@ use Rattle.sampler.proofs.InterpolateCode.{several-code}
 cubic-code : (plane : Plane) (background : Rgba) (x y : Float) (code : ℕ) → Cubic code
     → interpolated (interpolation code) plane background x y
     ≡ weighted (taps plane (record { column = floorI64 x -ℤ pos 1; row = floorI64 y -ℤ pos 1 }) 4)
-    (products (kernel code (fraction x)) (kernel code (fraction y))) 16
-unfolding interpolation kernel
+    (products (kernelOf code (fraction x)) (kernelOf code (fraction y))) 16
+unfolding interpolation kernelOf
 cubic-code plane background x y =
     each-code
     (λ n. Cubic n → interpolated (interpolation n) plane background x y ≡ weighted
     (taps plane (record { column = floorI64 x -ℤ pos 1; row = floorI64 y -ℤ pos 1 }) 4)
-    (products (kernel n (fraction x)) (kernel n (fraction y))) 16)
+    (products (kernelOf n (fraction x)) (kernelOf n (fraction y))) 16)
     (λ g. absurd (omega arith)) (λ g. absurd (omega arith)) (λ g. absurd (omega arith))
     (λ g. absurd (omega arith)) (λ g. absurd (omega arith)) (λ g. absurd (omega arith))
     (λ g. refl) (λ g. refl) (λ g. absurd (omega arith)) (λ n g. absurd (omega arith))
@@ -64,7 +64,7 @@ module _ (bytes : List ℕ) (w h n policy : ℕ) (background : Rgba) where
   module _ (x y : Float) (code : ℕ) (cubic : Cubic code) where
     pub cubic-inside : {r : Rgba} {tx ty : Float} {wx wy : List Float} (i j : ℕ) → i + 3 < w → j + 3 < h
         → pos i ≡ floorI64 x -ℤ pos 1 → pos j ≡ floorI64 y -ℤ pos 1
-        → tx ≡ fraction x → ty ≡ fraction y → wx ≡ kernel code tx → wy ≡ kernel code ty
+        → tx ≡ fraction x → ty ≡ fraction y → wx ≡ kernelOf code tx → wy ≡ kernelOf code ty
         → r ≡ weighted (taps (own bytes w n) (record { column = pos i; row = pos j }) 4) (products wx wy) 16
         → r ≡ interpolate bytes w h n policy code background x y
     unfolding interpolate
@@ -72,7 +72,7 @@ module _ (bytes : List ℕ) (w h n policy : ℕ) (background : Rgba) where
         e
         ∙ (λ t. weighted (own-taps i j hi hj t) (products (kx t) (ky t)) 16)
         ∙ (λ t. weighted (taps plane (record { column = ex t; row = ey t }) 4)
-        (products (kernel code (fx t)) (kernel code (fy t))) 16)
+        (products (kernelOf code (fx t)) (kernelOf code (fy t))) 16)
         ∙ sym (cubic-code plane background x y code cubic)
 
     pub cubic-anywhere : {r : Rgba} → r ≡ several (interpolation code) plane x y

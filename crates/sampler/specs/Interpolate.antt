@@ -24,16 +24,16 @@ use Rattle.taps.specs.Weights.{weights}
 use Rattle.picture.specs.declared.colour.Rgba.{Rgba}
 
 -- the tap at the cell itself
-abbrev pub single : Plane → Cell → Rgba
-single plane c = plane (c .column) (c .row)
+abbrev pub singleTap : Plane → Cell → Rgba
+singleTap plane c = plane (c .column) (c .row)
 
 -- the weighted mean of the square of taps
 abbrev pub several : Interpolation → Plane → Float → Float → Rgba
 several i plane x y = weighted (taps plane (cell i x y) (side i)) (weights i (fraction x) (fraction y)) (count i)
 
 abbrev pub interpolated : Interpolation → Plane → Rgba → Float → Float → Rgba
-interpolated Integer plane background x y = single plane (cell Integer x y)
-interpolated Nearest plane background x y = single plane (cell Nearest x y)
+interpolated Integer plane background x y = singleTap plane (cell Integer x y)
+interpolated Nearest plane background x y = singleTap plane (cell Nearest x y)
 interpolated Average plane background x y = several Average plane x y
 interpolated Average9 plane background x y = several Average9 plane x y
 interpolated Average16 plane background x y = several Average16 plane x y

@@ -47,7 +47,7 @@ pub record NearExact (plane : Plane) (q : Exact) (e : Fraction) : Type 0 where
   pub blue : (i j : ℤ) → Sample (plane i j .b) (q .blue i j) e
 
 -- each colour of m is from 0 to 1 and at most e away from the exact sample at X and Y in index space, and alpha is 1
-pub record NearSample (m : Rgba) (q : Exact) (X Y e : Fraction) : Type 0 where
+pub record NearColour (m : Rgba) (q : Exact) (X Y e : Fraction) : Type 0 where
   pub red : Sample (m .r) (exactSample (q .red) X Y) e
   pub green : Sample (m .g) (exactSample (q .green) X Y) e
   pub blue : Sample (m .b) (exactSample (q .blue) X Y) e

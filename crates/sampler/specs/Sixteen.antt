@@ -8,5 +8,5 @@ use Rattle.cubic.specs.Cubic.{catrom, spline}
 use Rattle.taps.specs.Interpolation.{catromCode}
 
 -- by the interpolation's code, one of the two
-unfoldable pub kernel : ℕ → Float → List Float
-kernel code t = cond (eqb code catromCode) (catrom t) (spline t)
+unfoldable pub kernelOf : ℕ → Float → List Float
+kernelOf code t = cond (eqb code catromCode) (catrom t) (spline t)

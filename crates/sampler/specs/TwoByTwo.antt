@@ -16,8 +16,8 @@ use Rattle.taps.specs.Weighted.{nothing, added, mean, weighted}
 use Rattle.taps.specs.declared.weighted.Sums.{Sums}
 
 -- the colour of the cell at column i and row j, for a point with the fractions tx and ty
-unfoldable pub blend : List ℕ → ℕ → ℕ → ℕ → ℕ → Float → Float → Rgba
-blend bytes width channels i j tx ty =
+unfoldable pub cellColour : List ℕ → ℕ → ℕ → ℕ → ℕ → Float → Float → Rgba
+cellColour bytes width channels i j tx ty =
     weighted (pixelAt bytes width channels i j ∷ pixelAt bytes width channels (i + 1) j
     ∷ pixelAt bytes width channels i (j + 1) ∷ pixelAt bytes width channels (i + 1) (j + 1) ∷ []) (fourWeights tx ty) 4
 
@@ -44,11 +44,11 @@ twoByTwoSums bytes width channels i j a b c d t =
     (added (pixelAt bytes width channels i j) a nothing))))
 
 -- the sums over the sum of weights
-abbrev pub over : Sums → Rgba
-over s = record { r = s .r ⊘ s .weight; g = s .g ⊘ s .weight; b = s .b ⊘ s .weight; a = s .a ⊘ s .weight }
+abbrev pub overWeight : Sums → Rgba
+overWeight s = record { r = s .r ⊘ s .weight; g = s .g ⊘ s .weight; b = s .b ⊘ s .weight; a = s .a ⊘ s .weight }
 
 -- the cell's colour by given weights and their sum, which is that of the alphas where each is 1
 unfoldable pub mixed : List ℕ → ℕ → ℕ → ℕ → ℕ → Float → Float → Float → Float → Float → Rgba
 mixed bytes width channels i j a b c d t =
     cond (eqb channels 4) (mean (twoByTwoSums bytes width channels i j a b c d t))
-    (over (twoByTwoSums bytes width channels i j a b c d t))
+    (overWeight (twoByTwoSums bytes width channels i j a b c d t))

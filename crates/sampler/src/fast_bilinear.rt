@@ -8,7 +8,7 @@ ghost use Rattle.picture.specs.At.{at};
 ghost use Rattle.taps.specs.Cell.{Reached};
 ghost use Rattle.sampler.specs.Interpolate as Interpolate;
 ghost use Rattle.taps.specs.Interpolation.{Bilinear};
-ghost use Rattle.sampler.specs.TwoByTwo.{blend};
+ghost use Rattle.sampler.specs.TwoByTwo.{cellColour};
 ghost use Rattle.exact.specs.Weighted.{Unit32};
 ghost use Rattle.picture.specs.Pixel.{Picture};
 ghost use Rattle.taps.specs.Taps.{taps};
@@ -35,7 +35,7 @@ fn blended(a: Rgba, b: Rgba, c: Rgba, d: Rgba, tx: f32, ty: f32) -> Rgba
 }
 
 // The four taps of a cell that lies inside, which no policy is asked for.
-fn inside(
+fn inside_cell(
     picture: &[u8],
     width: u64,
     height: u64,
@@ -48,7 +48,7 @@ fn inside(
     requires { ⌜ Picture (now picture) width height channels ⌝ }
     requires { ⌜ (i + 1 < width) × (j + 1 < height) ⌝ }
     requires { ⌜ Unit32 tx × Unit32 ty ⌝ }
-    ensures { λ r. ⌜ r ≡ blend (now (picture .entry)) width channels i j tx ty ⌝ }
+    ensures { λ r. ⌜ r ≡ cellColour (now (picture .entry)) width channels i j tx ty ⌝ }
 {
     let w = bilinear_weights(tx, ty);
     mixed(
@@ -140,7 +140,7 @@ pub fn anywhere(
 }
 
 // The four taps around a point, from its cell on.
-fn around(
+fn around_cell(
     picture: &[u8],
     width: u64,
     height: u64,
@@ -162,7 +162,7 @@ fn around(
     let i = bits_of_i64(column);
     let j = bits_of_i64(row);
     if i < width - 1 && j < height - 1 {
-        return inside(picture, width, height, channels, i, j, tx, ty);
+        return inside_cell(picture, width, height, channels, i, j, tx, ty);
     }
     anywhere(
         picture,
@@ -198,7 +198,7 @@ pub fn bilinear(
     let tx = fraction(x);
     let row = below(y);
     let ty = fraction(y);
-    around(
+    around_cell(
         picture,
         width,
         height,

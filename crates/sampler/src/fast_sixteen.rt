@@ -6,7 +6,7 @@ ghost use Rattle.picture.specs.Pixel.{Picture};
 ghost use Rattle.taps.specs.Cell.{Reached};
 ghost use Rattle.taps.specs.Interpolation.{Cubic};
 ghost use Rattle.sampler.specs.Interpolate as Interpolate;
-ghost use Rattle.sampler.specs.Sixteen.{kernel};
+ghost use Rattle.sampler.specs.Sixteen.{kernelOf};
 use crate::fast_four_by_four::four_by_four;
 use crate::several::several;
 use cubic::cubic::catrom;
@@ -20,8 +20,8 @@ use taps::cell::fraction;
 use taps::interpolation::CATROM;
 
 // The weights of a column or a row, by the interpolation's code.
-fn kernel(code: u64, t: f32) -> [f32; 4]
-    ensures { λ r. ⌜ r ≡ kernel code t ⌝ }
+fn kernel_of(code: u64, t: f32) -> [f32; 4]
+    ensures { λ r. ⌜ r ≡ kernelOf code t ⌝ }
 {
     if code == CATROM {
         return catrom(t);
@@ -50,8 +50,8 @@ pub fn cubic(
     let i = bits_of_i64(before(below(x)));
     let j = bits_of_i64(before(below(y)));
     if i < side_less(width, 3) && j < side_less(height, 3) {
-        let wx = kernel(code, fraction(x));
-        let wy = kernel(code, fraction(y));
+        let wx = kernel_of(code, fraction(x));
+        let wy = kernel_of(code, fraction(y));
         return four_by_four(picture, width, height, channels, i, j, &wx, &wy);
     }
     several(

@@ -54,8 +54,8 @@ fn sums(
 }
 
 // The quotients of sums by the sum of weights.
-fn over(s: Sums) -> Rgba
-    ensures { λ r. ⌜ r ≡ TwoByTwo.over s ⌝ }
+fn over_weight(s: Sums) -> Rgba
+    ensures { λ r. ⌜ r ≡ TwoByTwo.overWeight s ⌝ }
 {
     Rgba {
         r: s.r / s.weight,
@@ -88,7 +88,7 @@ pub fn mixed(
         return mean(sums(picture, width, height, 4, i, j, a, b, c, d, t));
     }
     if channels == 3 {
-        return over(sums(picture, width, height, 3, i, j, a, b, c, d, t));
+        return over_weight(sums(picture, width, height, 3, i, j, a, b, c, d, t));
     }
-    over(sums(picture, width, height, channels, i, j, a, b, c, d, t))
+    over_weight(sums(picture, width, height, channels, i, j, a, b, c, d, t))
 }

@@ -29,7 +29,7 @@ use taps::interpolation::NEAREST;
 use taps::interpolation::SPLINE;
 
 // One tap alone.
-fn single(
+fn single_tap(
     picture: &[u8],
     width: u64,
     height: u64,
@@ -43,7 +43,7 @@ fn single(
     requires { ⌜ Picture (now picture) width height channels ⌝ }
     requires { ⌜ Reached x × Reached y ⌝ }
     ensures { λ r.
-        ⌜ r ≡ Interpolate.single (at (now (picture .entry)) width height channels policy background)
+        ⌜ r ≡ Interpolate.singleTap (at (now (picture .entry)) width height channels policy background)
         (cell (interpolation code) x y) ⌝ }
 {
     at(
@@ -76,7 +76,7 @@ pub fn interpolate_at(
         y ⌝ }
 {
     match code {
-        INTEGER | NEAREST => single(
+        INTEGER | NEAREST => single_tap(
             picture,
             width,
             height,

@@ -17,7 +17,7 @@ use Rattle.exact.specs.Double.{_⊖_, usableLimit}
 use Rattle.exact.specs.Fraction.{Fraction, frac, whole, value, _≤F_, _<F_, _≈_, _+F_, _-F_, absF}
 use Rattle.exact.specs.Rounds.{Rounds, Close}
 use Rattle.exact.specs.Surface.{floorF}
-use Rattle.exact.specs.Warp.{half, Cell}
+use Rattle.exact.specs.Warp.{half, InCell}
 use Rattle.exact.proofs.Scale.{At, at-le, at-lt, at-eq, at-add}
 use Rattle.exact.proofs.Near as Near
 use Rattle.exact.proofs.Products.{eq-refl, back, at-zero, at-one, le-same, lt-le-trans}
@@ -147,10 +147,10 @@ module _ (x : Float) (r : Reached x) where
   rest-number = finite-number (x ⊖ floorF64 x)
       (cell-rest x (floorF64 x) (reached-number x r) (float-floor .0) (float-floor .1) .0)
 
-  pub cell-law : Cell x (floorI64 x) (fraction x)
+  pub cell-law : InCell x (floorI64 x) (fraction x)
   cell-law =
       let n = reached-number x r in
-      subst (λ (j : ℤ). Cell x j (fraction x)) (floor-value x n ∙ sym (floor-integer x (reached-domain x r)))
+      subst (λ (j : ℤ). InCell x j (fraction x)) (floor-value x n ∙ sym (floor-integer x (reached-domain x r)))
       (cell-of x (floorF64 x) n (float-floor .0) (float-floor .1) (fraction x)
       (narrow-rounds (x ⊖ floorF64 x) (cell-rest x (floorF64 x) n (float-floor .0) (float-floor .1) .0)))
 

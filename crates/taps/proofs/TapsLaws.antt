@@ -31,7 +31,7 @@ use Rattle.taps.specs.Interpolation.{
 }
 use Rattle.picture.specs.Pixel.{pixelAt}
 use Rattle.taps.specs.Taps.{Plane, side, sixteen, tap, taps}
-use Rattle.taps.specs.Weighted.{nothing, added, mean, tapAt, weightAt, summed, lined, weighted}
+use Rattle.taps.specs.Weighted.{nothing, added, mean, tapAt, weightAt, tapSums, lined, weighted}
 use Rattle.taps.specs.Weights.{fourWeights, weights}
 use Rattle.picture.specs.declared.colour.Rgba.{Rgba}
 use Rattle.taps.specs.declared.weighted.Sums.{Sums}
@@ -96,31 +96,31 @@ module _ (plane : Plane) (c : Cell) (n : ℕ) (w : List Float) where
   row-done j i start s a b inv = inv ∙ ap (λ (k : ℕ). upTo step (j * n) (j * n + k) start) (le-antisymm a b)
 
   -- before the first row
-  pub none-lined : nothing ≡ summed (taps plane c n) w (0 * n)
-  none-lined = upTo-none step 0 nothing ∙ ap (λ (k : ℕ). summed (taps plane c n) w k) (sym (zero-mul n))
+  pub none-lined : nothing ≡ tapSums (taps plane c n) w (0 * n)
+  none-lined = upTo-none step 0 nothing ∙ ap (λ (k : ℕ). tapSums (taps plane c n) w k) (sym (zero-mul n))
 
   -- with a whole row
-  pub lined-next : (j : ℕ) (s r : Sums) → s ≡ summed (taps plane c n) w (j * n) → r ≡ lined (taps plane c n) w n j s
-      → r ≡ summed (taps plane c n) w ((j + 1) * n)
+  pub lined-next : (j : ℕ) (s r : Sums) → s ≡ tapSums (taps plane c n) w (j * n) → r ≡ lined (taps plane c n) w n j s
+      → r ≡ tapSums (taps plane c n) w ((j + 1) * n)
   lined-next j s r inv g =
       g
       ∙ ap (λ (z : Sums). upTo step (j * n) (j * n + n) z) inv
       ∙ sym (upTo-join step 0 nothing (j * n) (j * n + n) zero-le (le-add-right (j * n) n))
-      ∙ ap (λ (k : ℕ). summed (taps plane c n) w k) (another j)
+      ∙ ap (λ (k : ℕ). tapSums (taps plane c n) w k) (another j)
     where
       another : (j : ℕ) → j * n + n ≡ (j + 1) * n
       another j = omega arith
 
   -- and after the last row
-  pub finished : (j : ℕ) (s : Sums) (r : Rgba) → j ≤ n → n ≤ j → s ≡ summed (taps plane c n) w (j * n) → r ≡ mean s
+  pub finished : (j : ℕ) (s : Sums) (r : Rgba) → j ≤ n → n ≤ j → s ≡ tapSums (taps plane c n) w (j * n) → r ≡ mean s
       → r ≡ weighted (taps plane c n) w (n * n)
   unfolding weighted
-  finished j s r a b inv g = g ∙ ap mean (inv ∙ ap (λ (i : ℕ). summed (taps plane c n) w (i * n)) (le-antisymm a b))
+  finished j s r a b inv g = g ∙ ap mean (inv ∙ ap (λ (i : ℕ). tapSums (taps plane c n) w (i * n)) (le-antisymm a b))
 
 -- ---- two by two: the list's four taps, in order
 pub four-taps : (plane : Plane) (c : Cell) (tx ty : Float)
-    → weighted (tap plane c 2 0 ∷ tap plane c 2 1 ∷ tap plane c 2 2 ∷ tap plane c 2 3 ∷ []) (fourWeights tx ty) 4 ≡
-    weighted (taps plane c 2) (weights Bilinear tx ty) 4
+    → weighted (tap plane c 2 0 ∷ tap plane c 2 1 ∷ tap plane c 2 2 ∷ tap plane c 2 3 ∷ []) (fourWeights tx ty) 4
+    ≡ weighted (taps plane c 2) (weights Bilinear tx ty) 4
 unfolding weighted taps
 four-taps plane c tx ty =
     ap mean (summed-four (tap plane c 2 0 ∷ tap plane c 2 1 ∷ tap plane c 2 2 ∷ tap plane c 2 3 ∷ [])

@@ -29,7 +29,7 @@ use Rattle.taps.specs.Weighted.{
   mean,
   tapAt,
   weightAt,
-  summed,
+  tapSums,
   weighted,
   Bounded,
   BoundedBy,
@@ -140,7 +140,7 @@ module _ (taps : List Rgba) (weights : List Float) (n : ℕ) (l : n ≤ 16) (P :
   part-bounded : (part : Sums → Float) (t : ℕ → Float)
       → ((k : ℕ) (s : Sums) → part (added (tapAt taps k) (weightAt weights k) s) ≡ part s ⊕ t k)
       → part nothing ≡ Colour.zero
-      → ((k : ℕ) → k < n → Bounded (frac (2 ^ 32) 1) (t k)) → Bounded (frac (2 ^ 37) 1) (part (summed taps weights n))
+      → ((k : ℕ) → k < n → Bounded (frac (2 ^ 32) 1) (t k)) → Bounded (frac (2 ^ 37) 1) (part (tapSums taps weights n))
   part-bounded part t same first b =
       subst (λ (x : Float). Bounded (frac (2 ^ 37) 1) x)
       (sym (upTo-part part (λ (k : ℕ). added (tapAt taps k) (weightAt weights k)) (λ (k : ℕ) (s : Float). s ⊕ t k) same
@@ -149,7 +149,7 @@ module _ (taps : List Rgba) (weights : List Float) (n : ℕ) (l : n ≤ 16) (P :
   pub weighted-bounded : BoundedBy most (weighted taps weights n)
   unfolding weighted mean added
   weighted-bounded =
-      let s : Sums = summed taps weights n in
+      let s : Sums = tapSums taps weights n in
       let r = part-bounded (λ s. s .r) (term (λ p. p .r)) (λ k s. refl) refl
       (term-bounded (λ p. p .r) (λ k h. P k h .red)) in
       let g = part-bounded (λ s. s .g) (term (λ p. p .g)) (λ k s. refl) refl

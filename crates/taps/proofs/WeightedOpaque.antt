@@ -25,7 +25,7 @@ use Rattle.taps.specs.Weighted.{
   mean,
   tapAt,
   weightAt,
-  summed,
+  tapSums,
   weighted,
   Opaque,
   Bilinear,
@@ -39,7 +39,7 @@ abbrev pub four : Rgba → Rgba → Rgba → Rgba → Float → Float → Float 
 four p q r s wp wq wr ws = added s ws (added r wr (added q wq (added p wp nothing)))
 
 pub summed-four : (taps : List Rgba) (weights : List Float)
-    → summed taps weights 4 ≡ four (tapAt taps 0) (tapAt taps 1) (tapAt taps 2) (tapAt taps 3) (weightAt weights 0)
+    → tapSums taps weights 4 ≡ four (tapAt taps 0) (tapAt taps 1) (tapAt taps 2) (tapAt taps 3) (weightAt weights 0)
     (weightAt weights 1) (weightAt weights 2) (weightAt weights 3)
 unfolding upTo turns
 summed-four taps weights = refl
@@ -69,8 +69,8 @@ module _ (tx ty : Float) (x : Unit32 tx) (y : Unit32 ty) where
 
     -- one colour's sum
     colour-is : (a b c d : Float)
-        → fourSum (w00 tx ty ⊗ a ⊗ p .a) (w10 tx ty ⊗ b ⊗ q .a) (w01 tx ty ⊗ c ⊗ r .a) (w11 tx ty ⊗ d ⊗ s .a) ≡
-        colourSum tx ty a b c d
+        → fourSum (w00 tx ty ⊗ a ⊗ p .a) (w10 tx ty ⊗ b ⊗ q .a) (w01 tx ty ⊗ c ⊗ r .a) (w11 tx ty ⊗ d ⊗ s .a)
+        ≡ colourSum tx ty a b c d
     colour-is a b c d = λ i. fourSum (w00 tx ty ⊗ a ⊗ P i) (w10 tx ty ⊗ b ⊗ Q i) (w01 tx ty ⊗ c ⊗ R i)
         (w11 tx ty ⊗ d ⊗ S i)
 

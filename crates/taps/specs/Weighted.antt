@@ -6,7 +6,7 @@ use mathlib.Core.Bool.{cond}
 use mathlib.Core.List.{List, [], _∷_}
 use lib.ListN.{getD}
 use lib.Ieee.{Float, nan, lt}
-use Rattle.exact.specs.Blend.{blend}
+use Rattle.exact.specs.Blend.{blendF}
 use Rattle.exact.specs.Fraction.{Fraction, value}
 use Rattle.exact.specs.Loop.{upTo}
 use Rattle.exact.specs.Single.{_⊕_, _⊗_, _⊘_}
@@ -52,15 +52,15 @@ abbrev pub weightAt : List Float → ℕ → Float
 weightAt weights k = getD weights k nan
 
 -- the sums over the first n taps
-abbrev pub summed : List Rgba → List Float → ℕ → Sums
-summed taps weights n = upTo (λ (k : ℕ). added (tapAt taps k) (weightAt weights k)) 0 n nothing
+abbrev pub tapSums : List Rgba → List Float → ℕ → Sums
+tapSums taps weights n = upTo (λ (k : ℕ). added (tapAt taps k) (weightAt weights k)) 0 n nothing
 
 -- the sums with the taps of row j of n by n added
 abbrev pub lined : List Rgba → List Float → ℕ → ℕ → Sums → Sums
 lined taps weights n j s = upTo (λ (k : ℕ). added (tapAt taps k) (weightAt weights k)) (j * n) (j * n + n) s
 
 unfoldable pub weighted : List Rgba → List Float → ℕ → Rgba
-weighted taps weights n = mean (summed taps weights n)
+weighted taps weights n = mean (tapSums taps weights n)
 
 -- ---- what the laws speak of
 -- samples from 0 to 1, and alpha 1
@@ -78,14 +78,14 @@ pub record Bilinear (weights : List Float) (tx ty : Float) : Type 0 where
   pub at-11 : weightAt weights 3 ≡ w11 tx ty
 
 -- the exact blend of four samples at that point
-abbrev pub exactly : Float → Float → Float → Float → Float → Float → Fraction
-exactly tx ty a b c d = blend (value tx ∷ value ty ∷ []) (value a ∷ value b ∷ value c ∷ value d ∷ [])
+abbrev pub exactBlend : Float → Float → Float → Float → Float → Float → Fraction
+exactBlend tx ty a b c d = blendF (value tx ∷ value ty ∷ []) (value a ∷ value b ∷ value c ∷ value d ∷ [])
 
 -- each colour of m is from 0 to 1 and near the exact blend of the taps' colours, and alpha is 1
 pub record Blended (m : Rgba) (tx ty : Float) (p q r s : Rgba) : Type 0 where
-  pub red : Sample (m .r) (exactly tx ty (p .r) (q .r) (r .r) (s .r)) blendError
-  pub green : Sample (m .g) (exactly tx ty (p .g) (q .g) (r .g) (s .g)) blendError
-  pub blue : Sample (m .b) (exactly tx ty (p .b) (q .b) (r .b) (s .b)) blendError
+  pub red : Sample (m .r) (exactBlend tx ty (p .r) (q .r) (r .r) (s .r)) blendError
+  pub green : Sample (m .g) (exactBlend tx ty (p .g) (q .g) (r .g) (s .g)) blendError
+  pub blue : Sample (m .b) (exactBlend tx ty (p .b) (q .b) (r .b) (s .b)) blendError
   pub alpha : m .a ≡ one
 
 -- each component is a number of at most b in magnitude

@@ -42,16 +42,16 @@ bilinearWeights tx ty = record {
 abbrev pub products : List Float → List Float → List Float
 products wx wy = sixteen (λ (k : ℕ). weightAt wx (k % 4) ⊗ weightAt wy (k / 4))
 
-abbrev pub alike : List Float
-alike = sixteen (λ (k : ℕ). one)
+abbrev pub alikeWeights : List Float
+alikeWeights = sixteen (λ (k : ℕ). one)
 
 abbrev pub weights : Interpolation → Float → Float → List Float
-weights Integer tx ty = alike
-weights Nearest tx ty = alike
-weights Average tx ty = alike
-weights Average9 tx ty = alike
-weights Average16 tx ty = alike
+weights Integer tx ty = alikeWeights
+weights Nearest tx ty = alikeWeights
+weights Average tx ty = alikeWeights
+weights Average9 tx ty = alikeWeights
+weights Average16 tx ty = alikeWeights
 weights Bilinear tx ty = sixteen (λ (k : ℕ). getD (fourWeights tx ty) k zero)
 weights Catrom tx ty = products (catrom tx) (catrom ty)
 weights Spline tx ty = products (spline tx) (spline ty)
-weights Background tx ty = alike
+weights Background tx ty = alikeWeights

@@ -18,7 +18,7 @@ use Rattle.number.specs.Floor.{ceilDiv, floorℤ, inDomain, domainEnd, floorI64
 use Rattle.number.proofs.FloorLaws.{floor-integer, floor-integer-out}
 use Rattle.window.specs.declared.extent.Extent.the-variants.{Out}
 use Rattle.window.specs.Ceil.{ceilℤ, ceilI64}
-use Rattle.window.specs.Extent.{goodOffset, reach}
+use Rattle.window.specs.Extent.{goodOffset, fromTo}
 use Rattle.window.proofs.CeilLaws.{by-test, ceil-in, ceil-out}
 use Rattle.window.proofs.ExtentLaws.{offset-far, reach-off, reach-high, reach-low}
 
@@ -44,16 +44,16 @@ floor-far true m e d = subst (λ (q : ℕ). 2147483648 ≤ q) (sym (natAbs-neg (
 least-off : goodOffset (negsuc 9223372036854775807) ≡ false
 least-off = offset-far (negsuc 9223372036854775807) (lit< tt)
 
-pub low-edge : (x : Float) (y : ℤ) → reach (floorI64 x) y ≡ cond (finite x) (reach (floorℤ x) y) Out
-low-edge nan y = ap (λ (z : ℤ). reach z y) (floor-integer-out nan (unfold inDomain in tt))
+pub low-edge : (x : Float) (y : ℤ) → fromTo (floorI64 x) y ≡ cond (finite x) (fromTo (floorℤ x) y) Out
+low-edge nan y = ap (λ (z : ℤ). fromTo z y) (floor-integer-out nan (unfold inDomain in tt))
     ∙ reach-off (negsuc 9223372036854775807) y least-off
-low-edge (inf s) y = ap (λ (z : ℤ). reach z y) (floor-integer-out (inf s) (unfold inDomain in tt))
+low-edge (inf s) y = ap (λ (z : ℤ). fromTo z y) (floor-integer-out (inf s) (unfold inDomain in tt))
     ∙ reach-off (negsuc 9223372036854775807) y least-off
 low-edge (fin s m e) y =
     by-test (inDomain (fin s m e))
-    (λ d. ap (λ (z : ℤ). reach z y) (floor-integer (fin s m e) d))
+    (λ d. ap (λ (z : ℤ). fromTo z y) (floor-integer (fin s m e) d))
     (λ d.
-    ap (λ (z : ℤ). reach z y) (floor-integer-out (fin s m e) d)
+    ap (λ (z : ℤ). fromTo z y) (floor-integer-out (fin s m e) d)
     ∙ reach-off (negsuc 9223372036854775807) y least-off
     ∙ sym (reach-off (floorℤ (fin s m e)) y
     (offset-far (floorℤ (fin s m e)) (beyond (natAbs (floorℤ (fin s m e))) (floor-far s m e d)))))
@@ -76,7 +76,7 @@ unfolding ofBits lt
 under-edge m e = le-flip true false m 1 e (pos 31)
 
 pub high-refused : (x : Float) (z : ℤ) → (finite x && le x domainEnd) ≡ false
-    → cond (finite x) (reach z (ceilℤ x)) Out ≡ Out
+    → cond (finite x) (fromTo z (ceilℤ x)) Out ≡ Out
 high-refused nan z h = refl
 high-refused (inf s) z h = refl
 high-refused (fin true m e) z h = absurd (true≢false (sym (under-edge m e) ∙ h))
@@ -91,7 +91,7 @@ high-refused (fin false m e) z h =
     beyond n h = omega arith
 
 -- far below: the ceiling is some -q, with q from 2^31 on
-reach-far : (z : ℤ) (q : ℕ) → 2147483648 ≤ q → reach z (negsuc 9223372036854775807) ≡ reach z (negℤ (pos q))
+reach-far : (z : ℤ) (q : ℕ) → 2147483648 ≤ q → fromTo z (negsuc 9223372036854775807) ≡ fromTo z (negℤ (pos q))
 reach-far z zero h = absurd (none h)
   where
     none : 2147483648 ≤ 0 → ⊥
@@ -99,13 +99,13 @@ reach-far z zero h = absurd (none h)
 reach-far z (suc k) h = reach-low z 9223372036854775807 k (lit≤ tt) (omega arith)
 
 pub high-edge : (x : Float) (z : ℤ) → (finite x && le x domainEnd) ≡ true
-    → reach z (ceilI64 x) ≡ cond (finite x) (reach z (ceilℤ x)) Out
+    → fromTo z (ceilI64 x) ≡ cond (finite x) (fromTo z (ceilℤ x)) Out
 high-edge nan z h = absurd (true≢false (sym h))
 high-edge (inf s) z h = absurd (true≢false (sym h))
-high-edge (fin false m e) z h = ap (reach z) (ceil-in (fin false m e) (subst T (sym h ∙ le-edge m e) tt))
+high-edge (fin false m e) z h = ap (fromTo z) (ceil-in (fin false m e) (subst T (sym h ∙ le-edge m e) tt))
 high-edge (fin true m e) z h =
     by-test (inDomain (fin true m e))
-    (λ d. ap (reach z) (ceil-in (fin true m e) d))
-    (λ d. ap (reach z) (ceil-out (fin true m e) d)
+    (λ d. ap (fromTo z) (ceil-in (fin true m e) d))
+    (λ d. ap (fromTo z) (ceil-out (fin true m e) d)
     ∙ (unfold ceilℤ in reach-far z (m * up e / down e)
     (rounded-down (m * up e) (down e) (down-pos e) (outside true m e d))))

@@ -37,8 +37,8 @@ use Rattle.window.specs.declared.window.Placed.the-variants.{Window, Ref
 use Rattle.window.specs.Bestfit.{affineFound, bestfit}
 use Rattle.window.specs.Ceil.{ceilℤ}
 use Rattle.window.specs.Edges.{unbounded, grown, boxed}
-use Rattle.window.specs.Extent.{goodOffset, goodLength, held, atLeastOne, reach, fitted}
-use Rattle.window.specs.Window.{joined, judged, window}
+use Rattle.window.specs.Extent.{goodOffset, goodLength, held, atLeastOne, fromTo, extentOf}
+use Rattle.window.specs.Window.{ofExtents, judged, window}
 
 -- bestfit is asked for; a viewport is given besides, or not
 abbrev at : ℕ → ℕ → ℤ → ℤ → View
@@ -51,7 +51,7 @@ around = record { bestfit = true; given = false; width = 0; height = 0; x = pos 
 pub identity : (rest : Vector)
     → window affineKind (one ∷ nought ∷ nought ∷ nought ∷ one ∷ nought ∷ rest) 4 3 around
     ≡ Window 6 5 (negsuc 0) (negsuc 0)
-unfolding window judged joined fitted reach held atLeastOne goodOffset goodLength bestfit affineFound invertAffine
+unfolding window judged ofExtents extentOf fromTo held atLeastOne goodOffset goodLength bestfit affineFound invertAffine
     unbounded grown boxed floorℤ ceilℤ abs fmin fmax ofBits ofFields ofInt odd lt eq add sub mul div neg isNan sum
     round units size span climb
 identity rest = refl
@@ -60,16 +60,16 @@ identity rest = refl
 pub inverted-identity : (rest : Vector)
     → window affineKind (one ∷ neg nought ∷ neg nought ∷ neg nought ∷ one ∷ neg nought ∷ rest) 4 3 around
     ≡ Window 6 5 (negsuc 0) (negsuc 0)
-unfolding window judged joined fitted reach held atLeastOne goodOffset goodLength bestfit affineFound invertAffine
+unfolding window judged ofExtents extentOf fromTo held atLeastOne goodOffset goodLength bestfit affineFound invertAffine
     unbounded grown boxed floorℤ ceilℤ abs fmin fmax ofBits ofFields ofInt odd lt eq add sub mul div neg isNan sum
     round units size span climb
 inverted-identity rest = refl
 
 pub viewport : (coef : Vector) → window affineKind coef 4 3 (at 7 4096 (pos 1048576) (negsuc 1048575))
     ≡ Window 7 4096 (pos 1048576) (negsuc 1048575)
-unfolding window joined held goodOffset goodLength
+unfolding window ofExtents held goodOffset goodLength
 viewport coef = refl
 
 pub no-side : (coef : Vector) → window affineKind coef 4 3 (at 0 3 (pos 0) (pos 0)) ≡ Refused
-unfolding window joined held goodOffset goodLength
+unfolding window ofExtents held goodOffset goodLength
 no-side coef = refl

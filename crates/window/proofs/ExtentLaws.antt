@@ -9,7 +9,7 @@ use lib.Signed.{leZ}
 use lib.Dec.{T, leb, ltb, leb→le, leb·suc-suc}
 use Rattle.exact.proofs.Booleans.{and-true}
 use Rattle.window.specs.declared.extent.Extent.the-variants.{Of, Out}
-use Rattle.window.specs.Extent.{goodOffset, goodLength, held, atLeastOne, reach}
+use Rattle.window.specs.Extent.{goodOffset, goodLength, held, atLeastOne, fromTo}
 use Rattle.window.proofs.DifferenceLaws.{Count, one-positive, diff-low, diff-high}
 
 -- ---- the tests
@@ -41,8 +41,8 @@ held-long z n h = ap (λ (t : Bool). cond (goodOffset z && (ltb 0 n && t)) (Of z
     go true false = refl
     go true true = refl
 
-pub reach-off : (z y : ℤ) → goodOffset z ≡ false → reach z y ≡ Out
-unfolding reach
+pub reach-off : (z y : ℤ) → goodOffset z ≡ false → fromTo z y ≡ Out
+unfolding fromTo
 reach-off z y h = held-off z (atLeastOne (y -ℤ z)) h
 
 -- where the offset is good, or where it is not
@@ -51,8 +51,8 @@ by-offset true f g = f refl
 by-offset false f g = g refl
 
 -- an end so high that the side is too long
-pub reach-high : (z : ℤ) (q : ℕ) → 1052672 < q → reach z (pos q) ≡ Out
-unfolding reach
+pub reach-high : (z : ℤ) (q : ℕ) → 1052672 < q → fromTo z (pos q) ≡ Out
+unfolding fromTo
 reach-high z q h = by-offset (goodOffset z) (λ g. long g (diff-high (pos q) z (above z (offset-le z g))))
     (reach-off z (pos q))
   where
@@ -66,15 +66,15 @@ reach-high z q h = by-offset (goodOffset z) (λ g. long g (diff-high (pos q) z (
         ap (held z) (ap atLeastOne (c .is) ∙ one-positive (c .d)) ∙ held-long z (suc (c .d)) (omega (arith, c .least))
 
 -- an end so low that the side is 1
-low-end : (z : ℤ) (k : ℕ) → goodOffset z ≡ true → 1048576 ≤ suc k → reach z (negsuc k) ≡ held z 1
-unfolding reach
+low-end : (z : ℤ) (k : ℕ) → goodOffset z ≡ true → 1048576 ≤ suc k → fromTo z (negsuc k) ≡ held z 1
+unfolding fromTo
 low-end z k g h = ap (held z) (diff-low (negsuc k) z (under z (offset-le z g)))
   where
     under : (z : ℤ) → natAbs z ≤ 1048576 → leZ (negsuc k) z ≡ true
     under (pos b) l = refl
     under (negsuc b) l = le-leb b k (omega arith)
 
-pub reach-low : (z : ℤ) (j k : ℕ) → 1048576 ≤ suc j → 1048576 ≤ suc k → reach z (negsuc j) ≡ reach z (negsuc k)
+pub reach-low : (z : ℤ) (j k : ℕ) → 1048576 ≤ suc j → 1048576 ≤ suc k → fromTo z (negsuc j) ≡ fromTo z (negsuc k)
 reach-low z j k h l =
     by-offset (goodOffset z) (λ g. low-end z j g h ∙ sym (low-end z k g l))
     (λ g. reach-off z (negsuc j) g ∙ sym (reach-off z (negsuc k) g))

@@ -18,8 +18,8 @@ use Rattle.window.specs.declared.window.Placed.{Placed}
 use Rattle.window.specs.declared.window.Placed.the-variants.{Window, Refused}
 use Rattle.window.specs.Bestfit.{bestfit}
 use Rattle.window.specs.Ceil.{ceilℤ}
-use Rattle.window.specs.Extent.{half, goodOffset, goodLength, held, atLeastOne, reach, fitted}
-use Rattle.window.specs.Window.{joined, given, judged, window}
+use Rattle.window.specs.Extent.{half, goodOffset, goodLength, held, atLeastOne, fromTo, extentOf}
+use Rattle.window.specs.Window.{ofExtents, given, judged, window}
 
 -- ---- a side
 pub record Side (from : ℤ) (length : ℕ) : Type 0 where
@@ -43,8 +43,8 @@ held-side z n = go (leb (natAbs z) 1048576) (ltb 0 n) (leb n 4096) (leb→le (na
     go true false c f g h = tt
     go false b c f g h = tt
 
-fitted-side : (low high : Float) → Sides (fitted low high)
-unfolding fitted reach
+fitted-side : (low high : Float) → Sides (extentOf low high)
+unfolding extentOf fromTo
 fitted-side low high = go (finite low && finite high)
   where
     go : (b : Bool) → Sides (cond b
@@ -57,8 +57,8 @@ abbrev pub Limits : Placed → Type 0
 Limits (Window width height x y) = Side x width × Side y height
 Limits Refused = Unit {0}
 
-joined-limits : (a d : Extent) → Sides a → Sides d → Limits (joined a d)
-unfolding joined
+joined-limits : (a d : Extent) → Sides a → Sides d → Limits (ofExtents a d)
+unfolding ofExtents
 joined-limits (Of x w) (Of y h) p q = (p, q)
 joined-limits (Of x w) Out p q = tt
 joined-limits Out d p q = tt
@@ -69,7 +69,7 @@ given-limits w h x y = joined-limits (held x w) (held y h) (held-side x w) (held
 judged-limits : (f : Found) (w h : ℕ) → Limits (judged f w h)
 unfolding judged
 judged-limits (Box e) w h =
-    joined-limits (fitted (e .x0) (e .x1)) (fitted (e .y0) (e .y1)) (fitted-side (e .x0) (e .x1))
+    joined-limits (extentOf (e .x0) (e .x1)) (extentOf (e .y0) (e .y1)) (fitted-side (e .x0) (e .x1))
     (fitted-side (e .y0) (e .y1))
 judged-limits Nothing w h = given-limits w h (pos 0) (pos 0)
 

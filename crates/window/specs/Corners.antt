@@ -26,17 +26,17 @@ affineEdges f w h = boxed (affineCorner f nought nought) (affineCorner f w nough
 
 -- ---- u, v by a homography
 
-abbrev pub wq : Vector → Float → Float → Float
-wq f u v = form f 6 u v
+abbrev pub forwardWq : Vector → Float → Float → Float
+forwardWq f u v = form f 6 u v
 
 abbrev pub lost : Vector → Float → Float → Bool
-lost f u v = lt (abs (wq f u v)) leastDivisor
+lost f u v = lt (abs (forwardWq f u v)) leastDivisor
 
 abbrev pub anyLost : Vector → Float → Float → Bool
 anyLost f w h = lost f nought nought || lost f w nought || lost f nought h || lost f w h
 
 abbrev pub perspectiveCorner : Vector → Float → Float → Corner
-perspectiveCorner f u v = record { x = form f 0 u v ⊘ wq f u v; y = form f 3 u v ⊘ wq f u v }
+perspectiveCorner f u v = record { x = form f 0 u v ⊘ forwardWq f u v; y = form f 3 u v ⊘ forwardWq f u v }
 
 abbrev pub perspectiveEdges : Vector → Float → Float → Edges
 perspectiveEdges f w h =

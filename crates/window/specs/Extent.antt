@@ -31,11 +31,11 @@ atLeastOne (pos (suc n)) = suc n
 atLeastOne (negsuc n) = 1
 
 -- from..to
-unfoldable pub reach : ℤ → ℤ → Extent
+unfoldable pub fromTo : ℤ → ℤ → Extent
 unfolding held atLeastOne
-reach from to = held from (atLeastOne (to -ℤ from))
+fromTo from to = held from (atLeastOne (to -ℤ from))
 
 -- from floor(low - 0.5) to ceil(high + 0.5), where both edges are numbers
-unfoldable pub fitted : Float → Float → Extent
-unfolding reach
-fitted low high = cond (finite low && finite high) (reach (floorℤ (low ⊖ half)) (ceilℤ (high ⊕ half))) Out
+unfoldable pub extentOf : Float → Float → Extent
+unfolding fromTo
+extentOf low high = cond (finite low && finite high) (fromTo (floorℤ (low ⊖ half)) (ceilℤ (high ⊕ half))) Out

@@ -15,7 +15,7 @@ use Rattle.window.specs.declared.view.View.{View}
 use Rattle.window.specs.declared.window.Placed.{Placed}
 use Rattle.window.specs.declared.window.Placed.the-variants.{Window, Refused}
 use Rattle.window.specs.Bestfit.{bestfit}
-use Rattle.window.specs.Extent.{held, fitted}
+use Rattle.window.specs.Extent.{held, extentOf}
 
 -- ---- the number and the values of each answer; 0 is no refusal
 
@@ -41,16 +41,16 @@ yOf Refused = pos 0
 
 -- ---- the answer
 
-unfoldable pub joined : Extent → Extent → Placed
-joined (Of x width) (Of y height) = Window width height x y
-joined (Of x width) Out = Refused
-joined Out down = Refused
+unfoldable pub ofExtents : Extent → Extent → Placed
+ofExtents (Of x width) (Of y height) = Window width height x y
+ofExtents (Of x width) Out = Refused
+ofExtents Out down = Refused
 
 abbrev pub given : ℕ → ℕ → ℤ → ℤ → Placed
-given width height x y = joined (held x width) (held y height)
+given width height x y = ofExtents (held x width) (held y height)
 
 abbrev pub around : Edges → Placed
-around e = joined (fitted (e .x0) (e .x1)) (fitted (e .y0) (e .y1))
+around e = ofExtents (extentOf (e .x0) (e .x1)) (extentOf (e .y0) (e .y1))
 
 unfoldable pub judged : Found → ℕ → ℕ → Placed
 judged (Box e) width height = around e

@@ -30,9 +30,9 @@ pub fn held(from: i64, length: u64) -> Extent
 }
 
 // From `from` up to `to`: one pixel at least.
-fn reach(from: i64, to: i64) -> Extent
+fn from_to(from: i64, to: i64) -> Extent
     requires { ⌜ to ≤ℤ pos 2147483648 ⌝ }
-    ensures { λ r. ⌜ r ≡ Side.reach from to ⌝ }
+    ensures { λ r. ⌜ r ≡ Side.fromTo from to ⌝ }
 {
     if !good_offset(from) {
         return Extent::Out;
@@ -51,12 +51,12 @@ fn counts(x: f64) -> bool
 }
 
 // An edge that floor or ceil does not count is beyond the limits, but for a high edge far below the low one.
-pub fn fitted(low: f64, high: f64) -> Extent
-    ensures { λ r. ⌜ r ≡ Side.fitted low high ⌝ }
+pub fn extent_of(low: f64, high: f64) -> Extent
+    ensures { λ r. ⌜ r ≡ Side.extentOf low high ⌝ }
 {
     let top = high + 0.5;
     if !counts(top) {
         return Extent::Out;
     }
-    reach(floor_i64(low - 0.5), ceil_i64(top))
+    from_to(floor_i64(low - 0.5), ceil_i64(top))
 }

@@ -6,7 +6,7 @@ use crate::bestfit::Found;
 use crate::bestfit::bestfit;
 use crate::edges::Edges;
 use crate::extent::Extent;
-use crate::extent::fitted;
+use crate::extent::extent_of;
 use crate::extent::held;
 use crate::view::View;
 
@@ -21,8 +21,8 @@ pub enum Placed {
     Refused,
 }
 
-fn joined(across: Extent, down: Extent) -> Placed
-    ensures { λ r. ⌜ r ≡ Placing.joined across down ⌝ }
+fn of_extents(across: Extent, down: Extent) -> Placed
+    ensures { λ r. ⌜ r ≡ Placing.ofExtents across down ⌝ }
 {
     match across {
         Extent::Of {
@@ -47,13 +47,13 @@ fn joined(across: Extent, down: Extent) -> Placed
 fn given(width: u64, height: u64, x: i64, y: i64) -> Placed
     ensures { λ r. ⌜ r ≡ Placing.given width height x y ⌝ }
 {
-    joined(held(x, width), held(y, height))
+    of_extents(held(x, width), held(y, height))
 }
 
 fn around(e: Edges) -> Placed
     ensures { λ r. ⌜ r ≡ Placing.around e ⌝ }
 {
-    joined(fitted(e.x0, e.x1), fitted(e.y0, e.y1))
+    of_extents(extent_of(e.x0, e.x1), extent_of(e.y0, e.y1))
 }
 
 fn best(kind: u64, coef: &[f64; 256], width: u64, height: u64) -> Placed

@@ -5,18 +5,18 @@ use Prim.Native.Nat.{_^_}
 use borrow.Author.Needs.{needs}
 use mir.Syntax.{w64}
 use mir.Facts.{toZ-ofZ}
-use Rattle.names.specs.Names.{methods}
+use Rattle.names.specs.Names.{methodNames}
 use Rattle.names.proofs.Codes.{lookup-below}
-use Rattle.dihyravo.specs.Answer.{answer}
+use Rattle.dihyravo.specs.Answer.{namedAnswer}
 use Rattle.dihyravo.proofs.dihyravo_method.Statement.{statement}
 use Rattle.dihyravo.proofs.dihyravo_method.Tie as tie
 
 number-requires : tie.Need-number-requires
-number-requires c κs = rw (c .method .ensures) (lookup-below (2 ^ 63) methods _ tt)
+number-requires c κs = rw (c .method .ensures) (lookup-below (2 ^ 63) methodNames _ tt)
 
 returns : tie.Need-returns
 returns c = toZ-ofZ {w = w64} (record { sfits = c .number .ok }) ∙ c .number .ensures
-    ∙ ap answer (c .before .method .ensures)
+    ∙ ap namedAnswer (c .before .method .ensures)
 
 pub dihyravo-method-spec : {M : Type 1} → statement M
 dihyravo-method-spec = tie.close (tie.spec (λ c κs. search needs) number-requires returns)

@@ -7,7 +7,7 @@ use mir.Syntax.{w64}
 use mir.Facts.{toZ-pos}
 use Rattle.names.specs.declared.Named.{Named}
 use Rattle.names.specs.Names.{Below}
-use Rattle.dihyravo.specs.Answer.{answer}
+use Rattle.dihyravo.specs.Answer.{namedAnswer}
 use Rattle.dihyravo.proofs.number.Statement.{statement}
 use Rattle.dihyravo.proofs.number.Tie as tie
 
@@ -18,10 +18,10 @@ cast-result c =
 returns : tie.Need-returns
 returns c =
     toZ-pos w64 (subst (λ (r : Named). Below (2 ^ 63) r) (c .before .r .given .1) (c .before .before .before .pre))
-    ∙ sym (ap answer (c .before .r .given .1))
+    ∙ sym (ap namedAnswer (c .before .r .given .1))
 
 returns-2 : tie.Need-returns-2
-returns-2 c = sym (ap answer (c .enum-told .given .1))
+returns-2 c = sym (ap namedAnswer (c .enum-told .given .1))
 
 pub number-spec : {M : Type 1} → statement M
 number-spec = tie.close (tie.spec (λ c. search needs) cast-result (λ c. search needs) returns returns-2)

@@ -5,13 +5,13 @@ use Prim.Native.Nat.{ℕ, _≤_}
 use native.Mathlib.Omega.{arith}
 use borrow.Author.Needs.{needs}
 use lib.ListN.{length, length-take, length-replicate}
-use Rattle.listing.specs.Print.{put}
+use Rattle.listing.specs.Print.{putText}
 use Rattle.listing.proofs.EndLaws.{answer-length}
 use Rattle.listing.proofs.PrintLaws.{store-length}
 use Rattle.fitprint.proofs.main.Statement.{statement}
 use Rattle.fitprint.proofs.main.Tie as tie
 
-inside : (n : ℕ) (out s text : List ℕ) → n ≡ length text → length text ≤ 124 → length s ≡ 124 → out ≡ put s 0 text
+inside : (n : ℕ) (out s text : List ℕ) → n ≡ length text → length text ≤ 124 → length s ≡ 124 → out ≡ putText s 0 text
     → n ≤ length out
 inside n out s text e h l p = omega (arith, ap length p ∙ store-length s 0 text)
 

@@ -9,7 +9,7 @@ use Rattle.distort.proofs.refusal.bad_number.Tie as tie
 
 returns : tie.Need-returns
 unfolding badNumber
-returns c = rw (← c .before .bad-number .ensures, c .if1 .taken)
+returns c = rw (← c .before .bad-argument .ensures, c .if1 .taken)
 
 mul-large : tie.Need-mul-large
 mul-large c = omega (arith, counted _ _ _ (c .before .before .before .before .before .pre .0))
@@ -23,7 +23,7 @@ large-requires c κs = omega (arith, stock-whole _ _ _ _ (c .before .before .bef
 returns-2 : tie.Need-returns-2
 unfolding badNumber
 returns-2 c = rw (
-  ← c .before .before .before .before .before .bad-number .ensures,
+  ← c .before .before .before .before .before .bad-argument .ensures,
   c .before .before .before .before
       .if1 .left,
   ← c .before .large .ensures,
@@ -34,7 +34,7 @@ returns-3 : tie.Need-returns-3
 unfolding badNumber
 returns-3 c =
     rw (
-      ← c .before .before .before .before .before .before .before .before .bad-number .ensures,
+      ← c .before .before .before .before .before .before .before .before .bad-argument .ensures,
       c .before .before .before .before .before .before .before .if1 .left,
       ← c .before .before .before .before .large .ensures,
       c .before .before .before .if2 .left,
@@ -46,7 +46,7 @@ returns-4 : tie.Need-returns-4
 unfolding badNumber
 returns-4 c =
     rw (
-      ← c .before .before .before .before .before .before .before .before .before .before .bad-number .ensures,
+      ← c .before .before .before .before .before .before .before .before .before .before .bad-argument .ensures,
       c .before .before .before .before .before .before .before .before .before .if1 .left,
       ← c .before .before .before .before .before .before .large .ensures,
       c .before .before .before .before .before .if2 .left,

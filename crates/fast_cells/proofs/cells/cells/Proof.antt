@@ -8,8 +8,8 @@ use lib.Ieee.{Float}
 use Rattle.point.specs.declared.point.Point.{Point}
 use Rattle.point.specs.Point.{Whole}
 use Rattle.point.proofs.WholeLaws.{point-whole}
-use Rattle.fast_cells.specs.Cells.{Cell}
-use Rattle.fast_cells.specs.Inner.{inner}
+use Rattle.fast_cells.specs.Cells.{CellOf}
+use Rattle.fast_cells.specs.Inner.{hasCell}
 use Rattle.fast_cells.proofs.CellsLaws.{Filling, fill-none, fill-more, fill-last, of-point}
 use Rattle.fast_cells.proofs.TestLaws.{Passing, pass-none, pass-more, pass-last}
 use Rattle.fast_cells.proofs.cells.cells.Statement.{statement}
@@ -18,7 +18,7 @@ use Rattle.fast_cells.proofs.cells.cells.Tie as tie
 abbrev Inv-loop : tie.InvT-loop
 Inv-loop us vs n columns₀ rows₀ xs₀ ys₀ wide high good₀ k₀ columns rows xs ys good k =
     (Filling wide k good us columns xs × Filling high k good vs rows ys)
-    × (Passing (inner wide) (inner high) k good us vs × (k ≤ n))
+    × (Passing (hasCell wide) (hasCell high) k good us vs × (k ≤ n))
 
 abbrev μ-loop : tie.MeasureT-loop
 μ-loop us vs n columns₀ rows₀ xs₀ ys₀ wide high good₀ k₀ columns rows xs ys good k = n - k
@@ -41,15 +41,16 @@ loop-again c =
     let reach = head .before .before .before .before .before .before .before .before .before .args .reach in
     let e = c .before .before .point .ensures in
     let r = c .before .cell-of .result in
-    let C = of-point (λ (u : Float). Cell (reach .wide) u (r .column) (r .x))
-    (λ (v : Float). Cell (reach .high) v (r .row) (r .y)) e (c .before .cell-of .ensures .1 .1) in (
+    let C = of-point (λ (u : Float). CellOf (reach .wide) u (r .column) (r .x))
+    (λ (v : Float). CellOf (reach .high) v (r .row) (r .y)) e (c .before .cell-of .ensures .1 .1) in (
       (
         fill-more _ (head .loop .k) (search needs) (λ h. C h .0) (head .loop .inv .0 .0),
         fill-more _ (head .loop .k) (search needs) (λ h. C h .1) (head .loop .inv .0 .1),
       ),
       (
         pass-more _ _ (head .loop .k) (c .before .cell-of .ensures .0
-            ∙ ap (λ (p : Point). inner (reach .wide) (p .u) && inner (reach .high) (p .v)) e) (head .loop .inv .1 .0),
+            ∙ ap (λ (p : Point). hasCell (reach .wide) (p .u) && hasCell (reach .high) (p .v)) e)
+            (head .loop .inv .1 .0),
         search needs,
       ),
     )

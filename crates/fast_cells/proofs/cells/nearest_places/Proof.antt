@@ -10,7 +10,7 @@ use Rattle.point.specs.Point.{Whole}
 use Rattle.point.proofs.WholeLaws.{point-whole}
 use Rattle.taps.specs.Interpolation.{Nearest}
 use Rattle.fast_cells.specs.Cells.{Place}
-use Rattle.fast_cells.specs.Inner.{nearby}
+use Rattle.fast_cells.specs.Inner.{hasPlace}
 use Rattle.fast_cells.proofs.CellsLaws.{of-point}
 use Rattle.fast_cells.proofs.PlacesLaws.{Placing, place-none, place-more, place-last}
 use Rattle.fast_cells.proofs.TestLaws.{Passing, pass-none, pass-more, pass-last}
@@ -20,7 +20,7 @@ use Rattle.fast_cells.proofs.cells.nearest_places.Tie as tie
 abbrev Inv-loop : tie.InvT-loop
 Inv-loop us vs n columns₀ rows₀ wide high good₀ k₀ columns rows good k =
     (Placing Nearest wide k good us columns × Placing Nearest high k good vs rows)
-    × (Passing (nearby wide) (nearby high) k good us vs × (k ≤ n))
+    × (Passing (hasPlace wide) (hasPlace high) k good us vs × (k ≤ n))
 
 abbrev μ-loop : tie.MeasureT-loop
 μ-loop us vs n columns₀ rows₀ wide high good₀ k₀ columns rows good k = n - k
@@ -48,7 +48,8 @@ loop-again c =
       ),
       (
         pass-more _ _ (head .loop .k) (c .before .nearest-of .ensures .0
-            ∙ ap (λ (p : Point). nearby (reach .wide) (p .u) && nearby (reach .high) (p .v)) e) (head .loop .inv .1 .0),
+            ∙ ap (λ (p : Point). hasPlace (reach .wide) (p .u) && hasPlace (reach .high) (p .v)) e)
+            (head .loop .inv .1 .0),
         search needs,
       ),
     )

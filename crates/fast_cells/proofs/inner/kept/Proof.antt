@@ -10,11 +10,11 @@ use Rattle.fast_cells.proofs.inner.kept.Tie as tie
 returns : tie.Need-returns
 returns c =
     let a = c .before .before in
-    kept-in (a .args .reach) (a .pre) (a .args .u) (subst T (sym (a .good .0 .1)) tt) (c .before .inside .ensures)
+    kept-in (a .args .reach) (a .pre) (a .args .u) (subst T (sym (a .good .0 .1)) tt) (c .before .has-cell .ensures)
     (c .if1 .taken)
 
 returns-2 : tie.Need-returns-2
-returns-2 c = kept-out _ _ (c .before .inside .ensures) (c .if1 .left)
+returns-2 c = kept-out _ _ (c .before .has-cell .ensures) (c .if1 .left)
 
 pub kept-spec : {M : Type 1} → statement M
 kept-spec = tie.close (tie.spec (λ c κs. search needs) returns returns-2)

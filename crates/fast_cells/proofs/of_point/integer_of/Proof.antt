@@ -11,11 +11,11 @@ returns c =
     let start = c .before .before .before .before .before .before in
     let p = start .args .p in
     let R = start .pre .1 in
-    of-both p (start .pre .0) (c .before .inside .ensures) (c .inside2 .ensures) (λ h. h .usable) (λ h. h .usable)
+    of-both p (start .pre .0) (c .before .has-cell .ensures) (c .has-cell2 .ensures) (λ h. h .usable) (λ h. h .usable)
     (integer _ (R .0) (p .u) (c .before .before .before .before .before .kept .ensures .0)
-    (c .before .before .before .before .column .ensures) (c .before .inside .ensures))
+    (c .before .before .before .before .column .ensures) (c .before .has-cell .ensures))
     (integer _ (R .1) (p .v) (c .before .before .before .kept2 .ensures .0) (c .before .before .column2 .ensures)
-    (c .inside2 .ensures))
+    (c .has-cell2 .ensures))
 
 pub integer-of-spec : {M : Type 1} → statement M
 integer-of-spec =

@@ -11,11 +11,11 @@ returns c =
     let start = c .before .before .before .before .before .before in
     let p = start .args .p in
     let R = start .pre .1 in
-    of-both p (start .pre .0) (c .before .beside .ensures) (c .beside2 .ensures) (λ h. h .usable) (λ h. h .usable)
-    (nearest _ (R .0) (p .u) (c .before .before .before .before .before .kept-beside .ensures .0)
-    (c .before .before .before .before .column .ensures) (c .before .beside .ensures))
-    (nearest _ (R .1) (p .v) (c .before .before .before .kept-beside2 .ensures .0)
-    (c .before .before .column2 .ensures) (c .beside2 .ensures))
+    of-both p (start .pre .0) (c .before .has-place .ensures) (c .has-place2 .ensures) (λ h. h .usable) (λ h. h .usable)
+    (nearest _ (R .0) (p .u) (c .before .before .before .before .before .kept-place .ensures .0)
+    (c .before .before .before .before .column .ensures) (c .before .has-place .ensures))
+    (nearest _ (R .1) (p .v) (c .before .before .before .kept-place2 .ensures .0)
+    (c .before .before .column2 .ensures) (c .has-place2 .ensures))
 
 pub nearest-of-spec : {M : Type 1} → statement M
 nearest-of-spec =

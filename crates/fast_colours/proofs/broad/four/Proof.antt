@@ -54,10 +54,10 @@ widened-requires-4 c κs = let q = c .before .before .before .before .before .be
 returns : tie.Need-returns
 returns c =
     rw (
-      c .grown4 .ensures,
-      c .before .grown3 .ensures,
-      c .before .before .before .before .grown2 .ensures,
-      c .before .before .before .before .before .grown .ensures,
+      c .added-opaque4 .ensures,
+      c .before .added-opaque3 .ensures,
+      c .before .before .before .before .added-opaque2 .ensures,
+      c .before .before .before .before .before .added-opaque .ensures,
       c .before .before .before .before .before .before .grey .ensures,
       c .before .before .widened4 .ensures,
       c .before .before .before .widened3 .ensures,

@@ -16,7 +16,7 @@ store-three-requires c κs =
           (
             q .pre .1 .1 .1 .0,
             (
-              c .before .before .beside .ensures (c .before .if3 .taken),
+              c .before .before .next-columns-inside .ensures (c .before .if3 .taken),
               (q .pre .1 .1 .1 .1 .0, rw three at (q .pre .1 .1 .1 .1 .1)),
             ),
           ),

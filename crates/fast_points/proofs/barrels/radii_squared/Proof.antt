@@ -18,7 +18,7 @@ loop-holds c = (square-none _ _ _ _ (search needs) (search needs), search needs)
 loop-again : tie.Need-loop-again Inv-loop μ-loop
 loop-again c =
     let head = c .before .before .before .before in (
-      square-more _ _ _ _ (head .loop .k) (c .before .before .middle .ensures) (c .before .across .ensures)
+      square-more _ _ _ _ (head .loop .k) (c .before .before .pixel-middle .ensures) (c .before .across .ensures)
           (c .radius-squared .ensures) (search needs) (head .loop .inv .0),
       search needs,
     )

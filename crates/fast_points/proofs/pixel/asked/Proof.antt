@@ -9,7 +9,7 @@ use Rattle.fast_points.proofs.pixel.asked.Tie as tie
 returns : tie.Need-returns
 returns c =
     let a = c .before .before in
-    c .middle .ensures ∙ rw (c .before .offset .ensures, toZ-ofZ w64 (a .args .x) (a .fits .x))
+    c .pixel-middle .ensures ∙ rw (c .before .offset .ensures, toZ-ofZ w64 (a .args .x) (a .fits .x))
 
 pub asked-spec : {M : Type 1} → statement M
 asked-spec = tie.close (tie.spec (λ c. search needs) (λ c κs. search needs) (λ c κs. search needs) returns)

@@ -3,7 +3,7 @@
 use lib.Ieee.{Float}
 use Rattle.inverse.specs.Affine.{affine}
 use Rattle.point.proofs.WholeLaws.{point-whole}
-use Rattle.fast_points.specs.Points.{middle}
+use Rattle.fast_points.specs.Points.{pixelMiddle}
 use Rattle.fast_points.proofs.FillLaws.{Filling, fill-none, fill-span, fill-last}
 use Prim.Native.Nat.{ℕ, _+_, _-_, _≤_}
 use borrow.Author.Needs.{needs}
@@ -12,7 +12,7 @@ use Rattle.fast_points.proofs.points.affine_points.Tie as tie
 
 abbrev Inv-loop : tie.InvT-loop
 Inv-loop coef x y first n us₀ vs₀ k₀ us vs k =
-    Filling (λ (i : ℕ). affine coef (middle (first + i) x) y) k us vs × (k ≤ n)
+    Filling (λ (i : ℕ). affine coef (pixelMiddle (first + i) x) y) k us vs × (k ≤ n)
 
 abbrev μ-loop : tie.MeasureT-loop
 μ-loop coef x y first n us₀ vs₀ k₀ us vs k = n - k
@@ -25,7 +25,7 @@ loop-again c =
     let head = c .before .before .before in
     let a = head .before .args in (
       fill-span (λ (z : Float). affine (a .coef .now) z (a .y)) (a .x) (a .first) (λ z. point-whole _ _) (head .loop .k)
-          (c .before .middle .ensures) (c .affine .ensures) (search needs) (head .loop .inv .0),
+          (c .before .pixel-middle .ensures) (c .affine .ensures) (search needs) (head .loop .inv .0),
       search needs,
     )
 

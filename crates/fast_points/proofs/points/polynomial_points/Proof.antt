@@ -3,7 +3,7 @@
 use lib.Ieee.{Float}
 use Rattle.inverse.specs.Polynomial.{polynomial}
 use Rattle.inverse.proofs.WholePoints.{polynomial-whole}
-use Rattle.fast_points.specs.Points.{middle}
+use Rattle.fast_points.specs.Points.{pixelMiddle}
 use Rattle.fast_points.proofs.FillLaws.{Filling, fill-none, fill-span, fill-last}
 use Prim.Native.Nat.{ℕ, _+_, _-_, _≤_}
 use borrow.Author.Needs.{needs}
@@ -12,7 +12,7 @@ use Rattle.fast_points.proofs.points.polynomial_points.Tie as tie
 
 abbrev Inv-loop : tie.InvT-loop
 Inv-loop order coef x y first n us₀ vs₀ k₀ us vs k =
-    Filling (λ (i : ℕ). polynomial order coef (middle (first + i) x) y) k us vs
+    Filling (λ (i : ℕ). polynomial order coef (pixelMiddle (first + i) x) y) k us vs
     × (k ≤ n)
 
 abbrev μ-loop : tie.MeasureT-loop
@@ -27,7 +27,7 @@ loop-again c =
     let a = head .before .args in (
       fill-span (λ (z : Float). polynomial (a .order) (a .coef .now) z (a .y))
           (a .x) (a .first) (λ z. polynomial-whole _ _ z _) (head .loop .k)
-          (c .before .middle .ensures) (c .polynomial .ensures) (search needs) (head .loop .inv .0),
+          (c .before .pixel-middle .ensures) (c .polynomial .ensures) (search needs) (head .loop .inv .0),
       search needs,
     )
 

@@ -7,18 +7,19 @@ use Rattle.fit.proofs.build.build.Statement.{statement}
 use Rattle.fit.proofs.build.build.Tie as tie
 
 returns : tie.Need-returns
-returns c = build-refused _ _ (c .before .before .refusal .ensures) _ _ (c .before .if1 .taken) (c .refused .ensures)
+returns c = build-refused _ _ (c .before .before .arguments-refusal .ensures) _ _ (c .before .if1 .taken)
+    (c .refused .ensures)
 
 made-requires : tie.Need-made-requires
 made-requires c κs =
-    let told = c .before .before .before .before .before .before .before .refusal .ensures in
+    let told = c .before .before .before .before .before .before .before .arguments-refusal .ensures in
     let z = c .before .before .before .before .before .before .if1 .left in
     few-pairs _ _ told z (pairs-held _ _ told z (c .before .before .before .before .before .fill .ensures .1)
     (c .before .before .before .pairs-in .ensures))
 
 returns-2 : tie.Need-returns-2
 returns-2 c =
-    let told = c .before .before .before .before .before .before .before .before .refusal .ensures in
+    let told = c .before .before .before .before .before .before .before .before .arguments-refusal .ensures in
     let z = c .before .before .before .before .before .before .before .if1 .left in
     let filled = c .before .before .before .before .before .before .fill .ensures in
     build-made _ _ told _ _ z (filled .0) (filled .1)

@@ -8,12 +8,12 @@ use Rattle.fit.proofs.build.made.Tie as tie
 
 returns : tie.Need-returns
 unfolding made
-returns c = rw (eq-eqb _ _ (c .before .if1 .taken)) (c .affine .ensures)
+returns c = rw (eq-eqb _ _ (c .before .if1 .taken)) (c .fit-affine .ensures)
 
 returns-2 : tie.Need-returns-2
 unfolding made
 returns-2 c = rw (ne-eqb _ _ (c .before .before .if1 .left), eq-eqb _ _ (c .before .if2 .taken))
-    (c .affine-projection .ensures)
+    (c .fit-affine-projection .ensures)
 
 returns-3 : tie.Need-returns-3
 unfolding made
@@ -21,7 +21,7 @@ returns-3 c = rw (
   ne-eqb _ _ (c .before .before .before .if1 .left),
   ne-eqb _ _ (c .before .before .if2 .left),
   eq-eqb _ _ (c .before .if3 .taken),
-) (c .perspective .ensures)
+) (c .fit-perspective .ensures)
 
 returns-4 : tie.Need-returns-4
 unfolding made
@@ -30,7 +30,7 @@ returns-4 c = rw (
   ne-eqb _ _ (c .before .before .before .if2 .left),
   ne-eqb _ _ (c .before .before .if3 .left),
   eq-eqb _ _ (c .before .if4 .taken),
-) (c .perspective-projection .ensures)
+) (c .fit-perspective-projection .ensures)
 
 returns-5 : tie.Need-returns-5
 unfolding made
@@ -40,7 +40,7 @@ returns-5 c = rw (
   ne-eqb _ _ (c .before .before .before .if3 .left),
   ne-eqb _ _ (c .before .before .if4 .left),
   eq-eqb _ _ (c .before .if5 .taken),
-) (c .bilinear-reverse .ensures)
+) (c .fit-bilinear-reverse .ensures)
 
 returns-6 : tie.Need-returns-6
 unfolding made
@@ -51,7 +51,7 @@ returns-6 c = rw (
   ne-eqb _ _ (c .before .before .before .if4 .left),
   ne-eqb _ _ (c .before .before .if5 .left),
   eq-eqb _ _ (c .before .if6 .taken),
-) (c .bilinear-forward .ensures)
+) (c .fit-bilinear-forward .ensures)
 
 returns-7 : tie.Need-returns-7
 unfolding made
@@ -63,7 +63,7 @@ returns-7 c = rw (
   ne-eqb _ _ (c .before .before .before .if5 .left),
   ne-eqb _ _ (c .before .before .if6 .left),
   eq-eqb _ _ (c .before .if7 .taken),
-) (c .polynomial .ensures)
+) (c .fit-polynomial .ensures)
 
 returns-8 : tie.Need-returns-8
 unfolding made
@@ -76,7 +76,7 @@ returns-8 c = rw (
   ne-eqb _ _ (c .before .before .before .if6 .left),
   ne-eqb _ _ (c .before .before .if7 .left),
   eq-eqb _ _ (c .before .if8 .taken),
-) (c .barrel .ensures)
+) (c .fit-barrel .ensures)
 
 returns-9 : tie.Need-returns-9
 unfolding made
@@ -90,7 +90,7 @@ returns-9 c = rw (
   ne-eqb _ _ (c .before .before .before .if7 .left),
   ne-eqb _ _ (c .before .before .if8 .left),
   eq-eqb _ _ (c .before .if9 .taken),
-) (c .barrel2 .ensures)
+) (c .fit-barrel2 .ensures)
 
 returns-10 : tie.Need-returns-10
 unfolding made
@@ -104,7 +104,7 @@ returns-10 c = rw (
   ne-eqb _ _ (c .before .before .before .if7 .left),
   ne-eqb _ _ (c .before .before .if8 .left),
   ne-eqb _ _ (c .before .if9 .left),
-) (c .shepards .ensures)
+) (c .fit-shepards .ensures)
 
 pub made-spec : {M : Type 1} → statement M
 made-spec =

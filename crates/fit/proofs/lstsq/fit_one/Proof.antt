@@ -3,7 +3,7 @@
 use Rattle.fit.proofs.FitLaws.{row-added}
 use Rattle.linear.proofs.NormalLaws.{normal-none, normal-last, normal-solved}
 use Rattle.mappings.specs.Rows.{rowOf, sideOf}
-use Rattle.fit.specs.Fit.{rowsOf, sidesOf}
+use Rattle.fit.specs.Fit.{rowOfPair, sidesOf}
 use Rattle.linear.specs.Normal.{normal}
 use mathlib.Core.Path.{_≡_, ap, _∙_}
 use Prim.Native.Nat.{_-_, _≤_}
@@ -13,7 +13,7 @@ use Rattle.fit.proofs.lstsq.fit_one.Tie as tie
 
 abbrev Inv-loop : tie.InvT-loop
 Inv-loop values skip pairs terms side n a₀ b₀ j₀ a b j =
-    ((a, b) ≡ normal (rowsOf values skip terms) (sidesOf values skip side) n j) × (j ≤ pairs)
+    ((a, b) ≡ normal (rowOfPair values skip terms) (sidesOf values skip side) n j) × (j ≤ pairs)
 
 abbrev μ-loop : tie.MeasureT-loop
 μ-loop values skip pairs terms side n a₀ b₀ j₀ a b j = pairs - j
@@ -24,7 +24,7 @@ loop-holds c = (normal-none _ _ _, search needs)
 loop-again : tie.Need-loop-again Inv-loop μ-loop
 loop-again c = (
   row-added
-      (rowsOf (c .before .before .before .before .before .before .before .before .before .args .values .now)
+      (rowOfPair (c .before .before .before .before .before .before .before .before .before .args .values .now)
       (c .before .before .before .before .before .before .before .before .before .args .skip)
       (c .before .before .before .before .before .before .before .before .before .args .terms))
       (sidesOf (c .before .before .before .before .before .before .before .before .before .args .values .now)

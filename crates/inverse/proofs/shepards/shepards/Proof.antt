@@ -5,7 +5,7 @@ use Rattle.inverse.proofs.shepards.shepards.Statement.{statement}
 use Rattle.inverse.proofs.shepards.shepards.Tie as tie
 
 returns : tie.Need-returns
-returns c = c .of-pairs .ensures ∙ rw (c .before .pairs-of .ensures)
+returns c = c .of-pairs .ensures ∙ rw (c .before .pairs-kept .ensures)
 
 pub shepards-spec : {M : Type 1} → statement M
 shepards-spec = tie.close (tie.spec (λ c κs. search needs) (λ c κs. search needs) returns)

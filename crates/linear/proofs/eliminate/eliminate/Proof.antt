@@ -7,13 +7,13 @@ use borrow.Author.Needs.{needs}
 use borrow.Author.Tests.{not-true, not-false}
 use Rattle.exact.specs.Loop.{upTo}
 use Rattle.exact.proofs.Loop.{upTo-none, upTo-next, upTo-last, upTo-stay}
-use Rattle.linear.specs.Eliminate.{outcome, step}
+use Rattle.linear.specs.Eliminate.{outcome, columnOr}
 use Rattle.linear.proofs.EliminateLaws.{step-stopped, step-done, stopped-stays}
 use Rattle.linear.proofs.eliminate.eliminate.Statement.{statement}
 use Rattle.linear.proofs.eliminate.eliminate.Tie as tie
 
 abbrev Inv-loop : tie.InvT-loop
-Inv-loop a₀ b₀ n col₀ a b col = (some (a, b) ≡ upTo (step n) 0 col (some (a₀, b₀))) × (col ≤ n)
+Inv-loop a₀ b₀ n col₀ a b col = (some (a, b) ≡ upTo (columnOr n) 0 col (some (a₀, b₀))) × (col ≤ n)
 
 abbrev μ-loop : tie.MeasureT-loop
 μ-loop a₀ b₀ n col₀ a b col = n - col

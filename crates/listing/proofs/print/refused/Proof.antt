@@ -2,12 +2,12 @@
 -- nothing.
 use mathlib.Core.Path.{refl}
 use borrow.Author.Needs.{needs}
-use Rattle.listing.specs.Print.{put, refusedText}
+use Rattle.listing.specs.Print.{putText, refusedText}
 use Rattle.listing.proofs.print.refused.Statement.{statement}
 use Rattle.listing.proofs.print.refused.Tie as tie
 
 returns : tie.Need-returns
-unfolding put refusedText
+unfolding putText refusedText
 returns c = rw (c .store-text .ensures .0, c .store-text .ensures .1) (refl, refl)
 
 pub refused-spec : {M : Type 1} → statement M

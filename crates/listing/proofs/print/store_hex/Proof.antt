@@ -6,13 +6,13 @@ use native.Mathlib.Nat.{add-zero}
 use native.Mathlib.Omega.{arith}
 use borrow.Author.Needs.{needs}
 use lib.ListN.{set}
-use Rattle.listing.specs.Print.{put, hexText}
+use Rattle.listing.specs.Print.{putText, hexText}
 use Rattle.listing.proofs.PrintLaws.{hex-next, hex-end}
 use Rattle.listing.proofs.print.store_hex.Statement.{statement}
 use Rattle.listing.proofs.print.store_hex.Tie as tie
 
 abbrev Inv-loop : tie.InvT-loop
-Inv-loop out₀ at n k₀ out k = (put out (at + k) (hexText (16 - k) n) ≡ put out₀ at (hexText 16 n)) × (k ≤ 16)
+Inv-loop out₀ at n k₀ out k = (putText out (at + k) (hexText (16 - k) n) ≡ putText out₀ at (hexText 16 n)) × (k ≤ 16)
 
 abbrev μ-loop : tie.MeasureT-loop
 μ-loop out₀ at n k₀ out k = 16 - k
@@ -24,7 +24,7 @@ loop-again : tie.Need-loop-again Inv-loop μ-loop
 loop-again c =
     let l = c .before .before .loop in
     let a = c .before .before .before .args in (
-      ap (λ (d : ℕ). put (set (l .out) (a .at + l .k) d) (a .at + (l .k + 1)) (hexText (16 - (l .k + 1)) (a .n)))
+      ap (λ (d : ℕ). putText (set (l .out) (a .at + l .k) d) (a .at + (l .k + 1)) (hexText (16 - (l .k + 1)) (a .n)))
           (c .hex-digit .ensures)
           ∙ sym (hex-next (l .out) (a .at) (a .n) (l .k) (omega arith))
           ∙ l .inv .0,

@@ -6,14 +6,15 @@ use Prim.Native.Nat.{ℕ, _+_, _-_, _*_, _≤_}
 use native.Mathlib.Nat.{add-zero}
 use native.Mathlib.Omega.{arith}
 use borrow.Author.Needs.{needs}
-use Rattle.listing.specs.Print.{put, linesText}
+use Rattle.listing.specs.Print.{putText, linesText}
 use Rattle.listing.proofs.PrintLaws.{lines-next, lines-end}
 use Rattle.listing.proofs.print.store_lines.Statement.{statement}
 use Rattle.listing.proofs.print.store_lines.Tie as tie
 
 abbrev Inv-loop : tie.InvT-loop
 Inv-loop out₀ at coefficients k₀ out k =
-    (put out (at + 19 * k) (linesText k (6 - k) coefficients) ≡ put out₀ at (linesText 0 6 coefficients)) × (k ≤ 6)
+    (putText out (at + 19 * k) (linesText k (6 - k) coefficients) ≡ putText out₀ at (linesText 0 6 coefficients))
+    × (k ≤ 6)
 
 abbrev μ-loop : tie.MeasureT-loop
 μ-loop out₀ at coefficients k₀ out k = 6 - k
@@ -25,7 +26,7 @@ loop-again : tie.Need-loop-again Inv-loop μ-loop
 loop-again c =
     let l = c .before .before .before .before .loop in
     let a = c .before .before .before .before .before .args in (
-      ap (λ (s : List ℕ). put s (a .at + 19 * (l .k + 1))
+      ap (λ (s : List ℕ). putText s (a .at + 19 * (l .k + 1))
           (linesText (l .k + 1) (6 - (l .k + 1)) (a .coefficients .now))) (c .store-line .ensures .1)
           ∙ sym (lines-next (l .out) (a .at) (a .coefficients .now) (l .k) (omega arith))
           ∙ l .inv .0,

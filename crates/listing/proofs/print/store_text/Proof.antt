@@ -6,14 +6,14 @@ use native.Mathlib.Nat.{add-zero}
 use native.Mathlib.Omega.{arith}
 use borrow.Author.Needs.{needs}
 use lib.ListN.{length, drop}
-use Rattle.listing.specs.Print.{put}
+use Rattle.listing.specs.Print.{putText}
 use Rattle.listing.proofs.PrintLaws.{store-next, store-end}
 use Rattle.listing.proofs.print.store_text.Statement.{statement}
 use Rattle.listing.proofs.print.store_text.Tie as tie
 
 abbrev Inv-loop : tie.InvT-loop
 Inv-loop out₀ at text k₀ k-end out k =
-    (put out (at + k) (drop k text) ≡ put out₀ at text) × ((k ≤ length text) × (k-end ≡ length text))
+    (putText out (at + k) (drop k text) ≡ putText out₀ at text) × ((k ≤ length text) × (k-end ≡ length text))
 
 abbrev μ-loop : tie.MeasureT-loop
 μ-loop out₀ at text k₀ k-end out k = length text - k

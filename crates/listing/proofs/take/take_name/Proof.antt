@@ -24,7 +24,7 @@ returns-3 c = rw (
   ← c .before .before .column-of .ensures,
   eq-eqb _ _ (c .before .before .before .before .if1 .left),
   eq-eqb _ _ (c .before .if2 .left),
-  c .placed .ensures,
+  c .with-name .ensures,
 )
 
 pub take-name-spec : {M : Type 1} → statement M

@@ -5,7 +5,7 @@ use Prim.Native.Nat.{_+_, _-_, _≤_}
 use native.Mathlib.Omega.{arith}
 use borrow.Author.Needs.{needs}
 use lib.ListN.{length, drop}
-use Rattle.listing.specs.Reader.{State, fed}
+use Rattle.listing.specs.Reader.{ReaderState, fed}
 use Rattle.listing.proofs.Fed.{fed-next, fed-end}
 use Rattle.listing.proofs.text.feed.Statement.{statement}
 use Rattle.listing.proofs.text.feed.Tie as tie
@@ -24,7 +24,7 @@ loop-again : tie.Need-loop-again Inv-loop μ-loop
 loop-again c =
     let l = c .before .before .before .before .loop in
     let chunk = c .before .before .before .before .before .before .args .chunk .now in (
-      ap (λ (t : State). fed t (drop (l .k + 1) chunk)) (c .step .ensures)
+      ap (λ (t : ReaderState). fed t (drop (l .k + 1) chunk)) (c .read-byte .ensures)
           ∙ sym (fed-next _ chunk (l .k) (omega arith)) ∙ l .inv .0,
       search needs,
     )

@@ -19,7 +19,7 @@ returns-2 c = simp (le-ltb _ _ (c .before .if1 .left), lt-ltb _ _ (c .if2 .taken
 returns-3 : tie.Need-returns-3
 unfolding digit
 returns-3 c = simp (le-ltb _ _ (c .before .before .if1 .left), le-ltb _ _ (c .before .if2 .left))
-    (ap (Number (c .before .before .before .args .negative)) (c .grown .ensures))
+    (ap (Number (c .before .before .before .args .negative)) (c .with-digit .ensures))
 
 pub digit-spec : {M : Type 1} → statement M
 digit-spec = tie.close (tie.spec returns returns-2 (λ c κs. search needs) returns-3)

@@ -8,7 +8,7 @@ use Rattle.listing.proofs.word.next.Tie as tie
 
 returns : tie.Need-returns
 unfolding next
-returns c = c .first .ensures
+returns c = c .first-byte .ensures
     ∙ sym (ap (λ (w : Word). next w (c .before .before .before .args .b)) (c .before .enum-told .given .1))
 
 returns-2 : tie.Need-returns-2

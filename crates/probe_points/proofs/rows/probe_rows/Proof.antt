@@ -8,7 +8,7 @@ use mir.Syntax.{w64}
 use mir.ValLaws.{toZ-ofZ}
 use borrow.Author.Tests.{eq-eqb, ne-eqb}
 use borrow.Author.Needs.{needs}
-use Rattle.probe_points.specs.Rows.{wrongRows, rowsOf, probeRows}
+use Rattle.probe_points.specs.Rows.{wrongRows, rowsAnswer, probeRows}
 use Rattle.probe_points.proofs.RowsLaws.{right}
 use Rattle.probe_points.proofs.rows.probe_rows.Statement.{statement}
 use Rattle.probe_points.proofs.rows.probe_rows.Tie as tie
@@ -19,11 +19,11 @@ read : {b t : Bool} (width first rows out : ℕ) {x y : ℤ} (z w : ℤ) → b �
 read width first rows out z w e s u h = rw (← s, ← u) (sym e ∙ h)
 
 returns : tie.Need-returns
-unfolding probeRows rowsOf
+unfolding probeRows rowsAnswer
 returns c = rw (← c .before .sized-fit .ensures, ne-eqb _ _ (c .if1 .taken))
 
 returns-2 : tie.Need-returns-2
-unfolding probeRows rowsOf
+unfolding probeRows rowsAnswer
 returns-2 c =
     let s = c .before .before .before .before .before .before in
     let a = s .args in
@@ -41,7 +41,7 @@ store-rows-requires c κs =
     ∙ c .before .before .before .before .before .if2 .left))
 
 returns-3 : tie.Need-returns-3
-unfolding probeRows rowsOf
+unfolding probeRows rowsAnswer
 returns-3 c =
     let d = c .before .before .before .before .before .before .before .before in
     let s = d .before .before .before .before .before .before in

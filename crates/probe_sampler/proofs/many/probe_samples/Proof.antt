@@ -11,20 +11,21 @@ returns : tie.Need-returns
 unfolding probeSamples
 returns c = rw (ne-eqb _ _ (c .if1 .taken))
 
-outside-requires : tie.Need-outside-requires
-outside-requires c κs = search needs
+unfit-sample-requires : tie.Need-unfit-sample-requires
+unfit-sample-requires c κs = search needs
 
 returns-2 : tie.Need-returns-2
 unfolding probeSamples
-returns-2 c = rw (eq-eqb _ _ (c .before .before .if1 .left), ← c .before .outside .ensures, c .if2 .taken)
+returns-2 c = rw (eq-eqb _ _ (c .before .before .if1 .left), ← c .before .unfit-sample .ensures, c .if2 .taken)
 
 pixel-at-requires : tie.Need-pixel-at-requires
 pixel-at-requires c κs =
-    outside-fit _ _ _ _ _ _ _ (sym (c .before .before .outside .ensures) ∙ c .before .if2 .left) .1 .0 (search needs)
+    outside-fit _ _ _ _ _ _ _ (sym (c .before .before .unfit-sample .ensures) ∙ c .before .if2 .left) .1 .0
+    (search needs)
 
 store-samples-requires : tie.Need-store-samples-requires
 store-samples-requires c κs = (
-  outside-fit _ _ _ _ _ _ _ (sym (c .before .before .before .before .outside .ensures)
+  outside-fit _ _ _ _ _ _ _ (sym (c .before .before .before .before .unfit-sample .ensures)
       ∙ c .before .before .before .if2 .left) .0,
   c .before .before .before .before .before .if1 .left,
 )
@@ -33,7 +34,7 @@ returns-3 : tie.Need-returns-3
 unfolding probeSamples
 returns-3 c = rw (
   eq-eqb _ _ (c .before .before .before .before .before .before .before .before .if1 .left),
-  ← c .before .before .before .before .before .before .before .outside .ensures,
+  ← c .before .before .before .before .before .before .before .unfit-sample .ensures,
   c .before .before .before .before .before .before .if2 .left,
   c .before .before .store-samples .ensures,
   c .before .before .before .before .pixel-at .ensures,
@@ -44,7 +45,7 @@ probe-samples-spec =
     tie.close
     (tie.spec
     returns
-    outside-requires
+    unfit-sample-requires
     returns-2
     pixel-at-requires
     store-samples-requires

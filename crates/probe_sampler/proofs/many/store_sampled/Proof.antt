@@ -8,16 +8,16 @@ use Rattle.probe_sampler.proofs.many.store_sampled.Tie as tie
 
 returns : tie.Need-returns
 unfolding storeSampled
-returns c = rw (← c .before .before .before .u64-at .ensures, ← c .before .beyond .ensures, c .if1 .taken)
+returns c = rw (← c .before .before .before .u64-at .ensures, ← c .before .far-coordinate .ensures, c .if1 .taken)
 
 returns-2 : tie.Need-returns-2
 unfolding storeSampled
 returns-2 c = rw (
   ← c .before .before .before .before .before .u64-at .ensures,
   ← c .before .before .before .before .u64-at2 .ensures,
-  ← c .before .before .before .beyond .ensures,
+  ← c .before .before .before .far-coordinate .ensures,
   c .before .before .if1 .left,
-  ← c .before .beyond2 .ensures,
+  ← c .before .far-coordinate2 .ensures,
   c .if2 .taken,
 )
 
@@ -26,9 +26,9 @@ store-colour-requires c κs = (
   search needs,
   (
     (
-      reached _ (sym (c .before .before .before .before .before .beyond .ensures)
+      reached _ (sym (c .before .before .before .before .before .far-coordinate .ensures)
           ∙ c .before .before .before .before .if1 .left),
-      reached _ (sym (c .before .before .before .beyond2 .ensures) ∙ c .before .before .if2 .left),
+      reached _ (sym (c .before .before .before .far-coordinate2 .ensures) ∙ c .before .before .if2 .left),
     ),
     search needs,
   ),
@@ -41,9 +41,9 @@ returns-3 c =
     rw (
       ← d .before .before .before .before .before .u64-at .ensures,
       ← d .before .before .before .before .u64-at2 .ensures,
-      ← d .before .before .before .beyond .ensures,
+      ← d .before .before .before .far-coordinate .ensures,
       d .before .before .if1 .left,
-      ← d .before .beyond2 .ensures,
+      ← d .before .far-coordinate2 .ensures,
       d .if2 .left,
       c .before .before .store-colour .ensures,
     )

@@ -5,12 +5,12 @@ use mathlib.Core.Bool.{Bool, _||_}
 use Prim.Native.Nat.{_-_, _≤_}
 use borrow.Author.Needs.{needs}
 use Rattle.exact.proofs.Loop.{upTo-none, upTo-next, upTo-last}
-use Rattle.sample_limit.specs.Samples.{parted}
+use Rattle.sample_limit.specs.Samples.{inParts}
 use Rattle.sample_limit.proofs.large.in_parts.Statement.{statement}
 use Rattle.sample_limit.proofs.large.in_parts.Tie as tie
 
 abbrev Inv-loop : tie.InvT-loop
-Inv-loop bytes m found₀ k₀ found k = (found ≡ parted bytes m k) × (k ≤ m)
+Inv-loop bytes m found₀ k₀ found k = (found ≡ inParts bytes m k) × (k ≤ m)
 
 abbrev μ-loop : tie.MeasureT-loop
 μ-loop bytes m found₀ k₀ found k = m - k
@@ -20,7 +20,7 @@ loop-holds c = (upTo-none _ _ _, search needs)
 
 loop-again : tie.Need-loop-again Inv-loop μ-loop
 loop-again c = (
-  ap (λ (t : Bool). c .before .before .loop .found || t) (c .eight .ensures)
+  ap (λ (t : Bool). c .before .before .loop .found || t) (c .one-of-eight .ensures)
       ∙ upTo-next _ _ _ _ (search needs) (c .before .before .loop .inv .0),
   search needs,
 )

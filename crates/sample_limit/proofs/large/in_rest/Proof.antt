@@ -6,13 +6,13 @@ use Prim.Native.Nat.{ℕ, _-_, _≤_}
 use borrow.Author.Needs.{needs}
 use Rattle.exact.specs.Loop.{upTo}
 use Rattle.exact.proofs.Loop.{upTo-none, upTo-next, upTo-last}
-use Rattle.sample_limit.specs.Samples.{beyond}
+use Rattle.sample_limit.specs.Samples.{beyondLimit}
 use Rattle.sample_limit.proofs.large.in_rest.Statement.{statement}
 use Rattle.sample_limit.proofs.large.in_rest.Tie as tie
 
 abbrev Inv-loop : tie.InvT-loop
 Inv-loop bytes first n already found₀ k₀ found k =
-    (found ≡ upTo (λ (k : ℕ) (t : Bool). t || beyond bytes k) first k already) × ((first ≤ k) × (k ≤ n))
+    (found ≡ upTo (λ (k : ℕ) (t : Bool). t || beyondLimit bytes k) first k already) × ((first ≤ k) × (k ≤ n))
 
 abbrev μ-loop : tie.MeasureT-loop
 μ-loop bytes first n already found₀ k₀ found k = n - k
@@ -22,7 +22,7 @@ loop-holds c = (upTo-none _ _ _, search needs)
 
 loop-again : tie.Need-loop-again Inv-loop μ-loop
 loop-again c = (
-  ap (λ (t : Bool). c .before .before .loop .found || t) (c .beyond .ensures)
+  ap (λ (t : Bool). c .before .before .loop .found || t) (c .beyond-limit .ensures)
       ∙ upTo-next _ _ _ _ (search needs) (c .before .before .loop .inv .0),
   search needs,
 )

@@ -20,8 +20,8 @@ below-requires-2 c κs = search needs
 fraction-requires-2 : tie.Need-fraction-requires-2
 fraction-requires-2 c κs = search needs
 
-around-requires : tie.Need-around-requires
-around-requires c κs =
+around-cell-requires : tie.Need-around-cell-requires
+around-cell-requires c κs =
     let a = c .before .before .before .before .before in
     let i = c .before .before .before .below in
     let j = c .before .below2 in (
@@ -43,7 +43,7 @@ returns : tie.Need-returns
 returns c =
     let i = c .before .before .before .before .below in
     let j = c .before .before .below2 in
-    c .around .ensures ∙ rw (
+    c .around-cell .ensures ∙ rw (
       again (i .result) (i .ok) (i .ensures),
       again (j .result) (j .ok) (j .ensures),
       c .before .before .before .fraction .ensures,
@@ -58,5 +58,5 @@ bilinear-spec =
     fraction-requires
     below-requires-2
     fraction-requires-2
-    around-requires
+    around-cell-requires
     returns)

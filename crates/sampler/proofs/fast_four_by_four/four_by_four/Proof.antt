@@ -5,7 +5,7 @@ use Prim.Native.Nat.{_+_, _-_, _*_, _≤_}
 use native.Mathlib.Omega.{arith}
 use lib.IntN.{pos}
 use Rattle.taps.specs.Taps.{taps}
-use Rattle.taps.specs.Weighted.{summed}
+use Rattle.taps.specs.Weighted.{tapSums}
 use Rattle.taps.specs.Weights.{products}
 use Rattle.taps.proofs.TapsLaws.{none-lined, lined-next, finished}
 use Rattle.sampler.specs.FourByFour.{own}
@@ -16,7 +16,7 @@ use Rattle.sampler.proofs.fast_four_by_four.four_by_four.Tie as tie
 
 abbrev Inv-loop : tie.InvT-loop
 Inv-loop picture width height channels i j wx wy s₀ m₀ s m =
-    (s ≡ summed (taps (own picture width channels) (record { column = pos i; row = pos j }) 4) (products wx wy)
+    (s ≡ tapSums (taps (own picture width channels) (record { column = pos i; row = pos j }) 4) (products wx wy)
     (m * 4)) × (m ≤ 4)
 
 abbrev μ-loop : tie.MeasureT-loop

@@ -65,14 +65,14 @@ side-less-requires-2 c κs = search needs
 fraction-requires : tie.Need-fraction-requires
 fraction-requires c κs = search needs
 
-kernel-requires : tie.Need-kernel-requires
-kernel-requires c κs = search needs
+kernel-of-requires : tie.Need-kernel-of-requires
+kernel-of-requires c κs = search needs
 
 fraction-requires-2 : tie.Need-fraction-requires-2
 fraction-requires-2 c κs = search needs
 
-kernel-requires-2 : tie.Need-kernel-requires-2
-kernel-requires-2 c κs = search needs
+kernel-of-requires-2 : tie.Need-kernel-of-requires-2
+kernel-of-requires-2 c κs = search needs
 
 four-by-four-requires : tie.Need-four-by-four-requires
 four-by-four-requires c κs = (
@@ -123,7 +123,7 @@ returns c =
     .before .before .below2 .ensures) hy (a .pre .0 .sizes .height-most))
     (c .before .before .before .before .before .before .fraction .ensures)
     (c .before .before .before .before .fraction2 .ensures)
-    (c .before .before .before .before .before .kernel .ensures) (c .before .before .before .kernel2 .ensures)
+    (c .before .before .before .before .before .kernel-of .ensures) (c .before .before .before .kernel-of2 .ensures)
     (c .four-by-four .ensures)
 
 several-requires : tie.Need-several-requires
@@ -146,9 +146,9 @@ cubic-spec =
     side-less-requires
     side-less-requires-2
     fraction-requires
-    kernel-requires
+    kernel-of-requires
     fraction-requires-2
-    kernel-requires-2
+    kernel-of-requires-2
     four-by-four-requires
     returns
     several-requires

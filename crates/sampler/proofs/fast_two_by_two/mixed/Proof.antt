@@ -18,11 +18,12 @@ sums-requires-2 c κs = let a = c .before .before .before in (rw (c .if2 .taken)
 
 returns-2 : tie.Need-returns-2
 unfolding mixed
-returns-2 c = rw (c .before .before .if2 .taken, c .over .ensures, c .before .sums2 .ensures)
+returns-2 c = rw (c .before .before .if2 .taken, c .over-weight .ensures, c .before .sums2 .ensures)
 
 returns-3 : tie.Need-returns-3
 unfolding mixed
-returns-3 c = rw (ne-eqb _ 4 (c .before .before .before .if1 .left), c .over2 .ensures, c .before .sums3 .ensures)
+returns-3 c = rw
+    (ne-eqb _ 4 (c .before .before .before .if1 .left), c .over-weight2 .ensures, c .before .sums3 .ensures)
 
 pub mixed-spec : {M : Type 1} → statement M
 mixed-spec =

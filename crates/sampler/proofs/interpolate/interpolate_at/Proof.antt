@@ -23,8 +23,8 @@ below n h = omega arith
 bilinear-requires : tie.Need-bilinear-requires
 bilinear-requires c κs = search needs
 
-single-requires : tie.Need-single-requires
-single-requires c κs = search needs
+single-tap-requires : tie.Need-single-tap-requires
+single-tap-requires c κs = search needs
 
 several-requires : tie.Need-several-requires
 several-requires c κs = search needs
@@ -41,7 +41,7 @@ returns c = c .apart .ensures ∙ c .before .bilinear .ensures ∙ rw (c .before
 
 returns-2 : tie.Need-returns-2
 unfolding interpolate
-returns-2 c = c .single .ensures ∙ sym (single-code _ _ _ _ _ (c .before .if1 .taken))
+returns-2 c = c .single-tap .ensures ∙ sym (single-code _ _ _ _ _ (c .before .if1 .taken))
 
 returns-3 : tie.Need-returns-3
 unfolding interpolate
@@ -61,7 +61,7 @@ interpolate-at-spec =
     (tie.spec
     bilinear-requires
     (λ c κs. search needs)
-    single-requires
+    single-tap-requires
     several-requires
     (λ c κs. search needs)
     cubic-requires

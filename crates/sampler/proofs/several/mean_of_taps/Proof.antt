@@ -7,7 +7,7 @@ use mir.Val.{toZ}
 use mir.Facts.{toZ-ofZ}
 use Rattle.picture.specs.At.{at}
 use Rattle.taps.specs.Taps.{taps}
-use Rattle.taps.specs.Weighted.{summed}
+use Rattle.taps.specs.Weighted.{tapSums}
 use Rattle.taps.proofs.SignedCode.{small}
 use Rattle.taps.proofs.TapsLaws.{none-lined, lined-next, finished}
 use borrow.Author.Needs.{needs}
@@ -16,7 +16,7 @@ use Rattle.sampler.proofs.several.mean_of_taps.Tie as tie
 
 abbrev Inv-loop : tie.InvT-loop
 Inv-loop picture width height channels policy background column row n weight s₀ j₀ s j =
-    (s ≡ summed (taps (at picture width height channels policy background)
+    (s ≡ tapSums (taps (at picture width height channels policy background)
     (record { column = toZ w64 column; row = toZ w64 row }) n) weight (j * n)) × (j ≤ n)
 
 abbrev μ-loop : tie.MeasureT-loop

@@ -4,12 +4,12 @@ use mathlib.Core.Path.{_≡_, ap, _∙_}
 use Prim.Native.Nat.{ℕ, _-_, _≤_}
 use borrow.Author.Needs.{needs}
 use Rattle.exact.proofs.Loop.{upTo-none, upTo-next, upTo-last}
-use Rattle.taps.specs.Weighted.{mean, summed, weighted}
+use Rattle.taps.specs.Weighted.{mean, tapSums, weighted}
 use Rattle.taps.proofs.weighted.weighted.Statement.{statement}
 use Rattle.taps.proofs.weighted.weighted.Tie as tie
 
 abbrev Inv-loop : tie.InvT-loop
-Inv-loop count taps weights s₀ k₀ s k = (s ≡ summed taps weights k) × (k ≤ count)
+Inv-loop count taps weights s₀ k₀ s k = (s ≡ tapSums taps weights k) × (k ≤ count)
 
 abbrev μ-loop : tie.MeasureT-loop
 μ-loop count taps weights s₀ k₀ s k = count - k

@@ -5,15 +5,15 @@ use lib.IntN.{ℤ}
 use mir.Syntax.{w64}
 use mir.ValLaws.{toZ-ofZ}
 use Rattle.window.specs.Extent.{held}
-use Rattle.window.specs.Window.{joined}
+use Rattle.window.specs.Window.{ofExtents}
 use Rattle.window.proofs.window.given.Statement.{statement}
 use Rattle.window.proofs.window.given.Tie as tie
 
 returns : tie.Need-returns
 returns c =
     let s = c .before .before .before in
-    c .joined .ensures
-    ∙ (λ i. joined
+    c .of-extents .ensures
+    ∙ (λ i. ofExtents
     ((c .before .before .held .ensures
     ∙ ap (λ (z : ℤ). held z (s .args .width)) (toZ-ofZ w64 (s .args .x) (s .fits .x))) i)
     ((c .before .held2 .ensures ∙ ap (λ (z : ℤ). held z (s .args .height)) (toZ-ofZ w64 (s .args .y) (s .fits .y))) i))

@@ -1,0 +1,6 @@
+-- That a statement holds of each element of a list. Assumes nothing.
+use mathlib.Core.List.{List, [], _∷_}
+
+abbrev pub Each : {A : Type 0} → (A → Type 0) → List A → Type 0
+Each {A} P [] = Unit {0}
+Each {A} P (x ∷ xs) = P x × Each P xs

@@ -13,14 +13,24 @@ use lib.Ieee.Bits.{ofBits-fits}
 use lib.Ieee.Exact.{HasValue}
 use lib.Ieee.Fits.{down-pos, and-l, and-r}
 use lib.Ieee.Order.{round-mono}
+use lib.Ieee.Scale.{finite}
 use Rattle.exact.specs.Double.{_⊕_, _⊖_}
+use Rattle.exact.specs.Fraction.{Fraction, value, _≤F_, negF, _-F_}
 use Rattle.exact.specs.Warp.{half}
 use Rattle.exact.proofs.Held.{round-held}
 use Rattle.exact.proofs.Naturals.{lt-or-le}
+use Rattle.exact.proofs.Monotone.{rounds-mono}
+use Rattle.exact.proofs.Near.{add-mono, le-refl}
 use Rattle.exact.proofs.Operands.{add-values}
+use Rattle.exact.proofs.Operations.{add-rounds, sub-rounds}
+use Rattle.exact.proofs.Signed.{le-value}
 use Rattle.exact.proofs.Value.{rescale}
+use Rattle.number.specs.Floor.{inDomain}
 use Rattle.number.specs.Magnitude.{within}
+use Rattle.number.proofs.MagnitudeLaws.{abs-limited}
 use Rattle.point.specs.Point.{limit}
+use Rattle.taps.proofs.CellLaws.{reached-number, rounded-domain}
+use Rattle.taps.proofs.CellFloor.{usable-reached}
 use Rattle.fast_cells.specs.Inner.{nought, under, hasPlace, Low}
 use Rattle.fast_cells.proofs.OrderLaws.{above, under-finite}
 use Rattle.fast_cells.proofs.HalfLaws.{twice, twice-pos, half-over, large, large-value, large-less, less-half}
@@ -56,6 +66,46 @@ wide-more a d D h =
   where
     far : (a d : ℕ) → 536870912 * d ≤ a * 1 → 268435456 * (d * 2) ≤ (a * 2 + d) * 1
     far a d h = omega arith
+
+-- ---- y is not negative where u is not: both roundings keep the order, and 0 - 0.5 + 0.5 is 0
+sub-order : (a b c : Fraction) → a ≤F b → a -F c ≤F b -F c
+unfolding _-F_
+sub-order a b c h = add-mono a b (negF c) (negF c) h (le-refl (negF c) (negF c))
+
+domain-number : (x : Float) → T (inDomain x) → T (finite x)
+unfolding inDomain
+domain-number nan d = d
+domain-number (inf s) d = d
+domain-number (fin s m e) d = tt
+
+not-below : (u : Float) → T (le nought u) → T (within limit u) → T (le nought (u ⊖ half ⊕ half))
+unfolding within
+not-below u l w =
+    let x = u ⊖ half in
+    let n = abs-limited u limit (unfold ofBits in tt) w in
+    let reached = usable-reached u w in
+    let m = reached-number x reached in
+    let y = domain-number (x ⊕ half) (rounded-domain x reached) in
+    let first = rounds-mono (sub-rounds binary64 nought half zero-number half-number)
+    (sub-rounds binary64 u half n half-number) less-number m
+    (sub-order (value nought) (value u) (value half) (le-value nought u zero-number n .0 l)) in
+    le-value nought (x ⊕ half) zero-number y .1
+    (subst (λ (z : Float). value z ≤F value (x ⊕ half)) back
+    (rounds-mono (add-rounds binary64 (nought ⊖ half) half less-number half-number)
+    (add-rounds binary64 x half m half-number) (subst (λ (z : Float). T (finite z)) (sym back) zero-number) y
+    (add-mono (value (nought ⊖ half)) (value x) (value half) (value half) first (le-refl (value half) (value half)))))
+  where
+    zero-number : T (finite nought)
+    zero-number = unfold ofBits in tt
+
+    half-number : T (finite half)
+    half-number = unfold ofBits in tt
+
+    less-number : T (finite (nought ⊖ half))
+    less-number = unfold sub ofBits in tt
+
+    back : nought ⊖ half ⊕ half ≡ nought
+    back = unfold add sub ofBits in refl
 
 -- ---- u that passes the test
 module _ (reach : ℕ) (R : reach ≤ 65536) where
@@ -99,18 +149,17 @@ module _ (reach : ℕ) (R : reach ≤ 65536) where
       half-below a d h = omega arith
 
   module _ (u : Float) (h : T (hasPlace reach u)) where
-    tests : T (le nought u && le nought (u ⊖ half ⊕ half))
-    tests = and-l (le nought u && le nought (u ⊖ half ⊕ half)) (under reach (u ⊖ half ⊕ half)) h
+    from : T (le nought u)
+    from = and-l (le nought u) (under reach (u ⊖ half ⊕ half)) h
 
     below : T (under reach (u ⊖ half ⊕ half))
-    below = and-r (le nought u && le nought (u ⊖ half ⊕ half)) (under reach (u ⊖ half ⊕ half)) h
+    below = and-r (le nought u) (under reach (u ⊖ half ⊕ half)) h
 
     pub nearby-usable : T (within limit u)
-    nearby-usable = near u (and-l (le nought u) (le nought (u ⊖ half ⊕ half)) tests) below
+    nearby-usable = near u from below
 
     pub nearby-floored : Floored reach (u ⊖ half ⊕ half)
-    nearby-floored = floored-any reach R (u ⊖ half ⊕ half) (and-r (le nought u) (le nought (u ⊖ half ⊕ half)) tests)
-        below
+    nearby-floored = floored-any reach R (u ⊖ half ⊕ half) (not-below u from nearby-usable) below
 
   -- ---- what is worked with in any case
   pub beside-in : (u : Float) {b : Bool} → b ≡ hasPlace reach u → b ≡ true

@@ -22,9 +22,9 @@ under reach x = lt x (ofInt binary64 (pos reach))
 abbrev pub hasCell : ℕ → Float → Bool
 hasCell reach u = le half u && under reach (u ⊖ half)
 
--- u is not negative, and u - 0.5 + 0.5 stands from 0 up to below `reach`
+-- u is not negative, so that u - 0.5 + 0.5 is not either, and that is below `reach`
 abbrev pub hasPlace : ℕ → Float → Bool
-hasPlace reach u = le nought u && le nought (u ⊖ half ⊕ half) && under reach (u ⊖ half ⊕ half)
+hasPlace reach u = le nought u && under reach (u ⊖ half ⊕ half)
 
 -- each of the first n of a list passes
 pub record Every (test : Float → Bool) (n : ℕ) (us : List Float) : Type 0 where

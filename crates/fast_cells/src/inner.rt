@@ -35,8 +35,7 @@ pub fn has_place(u: f64, reach: u64) -> bool
     requires { ⌜ reach ≤ 65536 ⌝ }
     ensures { λ r. ⌜ r ≡ hasPlace reach u ⌝ }
 {
-    let y = u - 0.5 + 0.5;
-    (u >= 0.0) & (y >= 0.0) & (y < reach as f64)
+    (u >= 0.0) & (u - 0.5 + 0.5 < reach as f64)
 }
 
 // What is worked with in any case, by `Nearest`.

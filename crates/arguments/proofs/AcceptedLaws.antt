@@ -32,7 +32,6 @@ use Rattle.arguments.specs.Refusal.{
   badOrder,
   pairsOf,
   fewPairs,
-  argumentsRefusals,
   argumentsRefusal,
 }
 use Rattle.exact.proofs.Booleans.{or-false}

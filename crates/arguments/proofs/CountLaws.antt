@@ -1,6 +1,6 @@
 -- Where refusal 4 does not apply, the number of arguments is what the method asks. A method is one of a few codes, and
 -- at a code the definition computes to that method's test. Assumes nothing.
-use mathlib.Core.Path.{_≡_, refl, sym, ap, _∙_, subst}
+use mathlib.Core.Path.{_≡_, sym, ap, _∙_, subst}
 use mathlib.Core.Logic.{⊎-elim}
 use mathlib.Core.Bool.{Bool, true, false, not, _||_, false≢true}
 use Prim.Native.Nat.{ℕ, _-_, _*_, _/_, _%_, _≤_}

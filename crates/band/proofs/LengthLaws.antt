@@ -1,12 +1,11 @@
 -- How long a row is in bytes, and how many of its pixels can be matte: pixel by pixel. Assumes nothing.
 use mathlib.Core.Path.{_≡_, _∙_, subst}
-use mathlib.Core.Bool.{cond}
 use Prim.Native.Nat.{ℕ, _*_, _≤_}
 use native.Mathlib.Nat.{mul-one}
 use native.Mathlib.Omega.{arith}
 use lib.ListN.{length}
 use Rattle.band.specs.Band.{Mapped, Source, pointAt, colourAt, matteAt, pixelBytes, rowBytes, rowMatte}
-use Rattle.band.specs.Joined.{joined, totalled}
+use Rattle.band.specs.Joined.{totalled}
 use Rattle.band.proofs.JoinedLaws.{joined-length, totalled-most}
 use Rattle.band.proofs.PixelLaws.{pixel-length}
 use Rattle.band.proofs.RowLaws.{bit-most}

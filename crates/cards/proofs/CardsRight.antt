@@ -21,7 +21,6 @@ use Rattle.inverse.specs.Barrel as Points
 use Rattle.fit.specs.Build as Build
 use Rattle.linear.specs.Invert as Invert
 use Rattle.mappings.specs.Mapping as Mappings
-use Rattle.mappings.specs.declared.mapping.Fitted.{Fitted}
 use Rattle.inverse.specs.Inverse as Inverse
 use Rattle.point.specs.Point as Point
 use Rattle.picture.specs.At.{at}

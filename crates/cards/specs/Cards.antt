@@ -11,7 +11,6 @@ use lib.Ieee.{Float, binary32, binary64, ofBits}
 use Rattle.endian.specs.Bytes.{storeU32, storeU64}
 use Rattle.arguments.specs.Method as Method
 use Rattle.fit.specs.Build.{build}
-use Rattle.mappings.specs.declared.mapping.Fitted.{Fitted}
 use Rattle.mappings.specs.declared.mapping.Mapping.{Mapping}
 use Rattle.inverse.specs.Inverse.{inverse}
 use Rattle.point.specs.declared.point.Point.{Point}

@@ -2,7 +2,7 @@
 -- no premise of the laws is empty: 1, 1, 1, 2, 2, 3, 2, 2, 3. Assumes nothing.
 use mathlib.Core.Bool.{false}
 use mathlib.Core.List.{[], _∷_}
-use Prim.Native.Nat.{ℕ, zero, suc, _≤_, _<_}
+use Prim.Native.Nat.{ℕ, zero, suc, _<_}
 use native.Mathlib.Omega.{arith}
 use lib.Dec.{T, lit≤}
 use lib.IntN.{pos}
@@ -10,12 +10,12 @@ use lib.Ieee.{Float, fin}
 use lib.Ieee.Scale.{finite}
 use Rattle.exact.specs.Fraction.{Fraction, frac, value, _≤F_, _+F_, _*F_, _/F_, absF}
 use Rattle.exact.specs.Loop.{upTo, turns}
-use Rattle.exact.specs.Sums.{asked, askedF, Linear}
-use Rattle.exact.specs.Vector.{Vector, at}
+use Rattle.exact.specs.Sums.{asked, askedF}
+use Rattle.exact.specs.Vector.{Vector}
 use Rattle.inverse.specs.Polynomial.{ofU, ofV}
 use Rattle.inverse.specs.Inverse.{inverse}
 use Rattle.chain.specs.ExactPoint.{monomialsF, powerAt, exactPoint}
-use Rattle.chain.specs.Conditions.{PolyTerms, Terms, Meets, Faithful}
+use Rattle.chain.specs.Conditions.{Terms, Meets, Faithful}
 use Rattle.chain.proofs.PointNear.{asked-near}
 
 abbrev one : Float

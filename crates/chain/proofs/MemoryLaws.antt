@@ -7,9 +7,8 @@ use mathlib.Core.List.{List, [], _∷_}
 use Prim.Native.Nat.{ℕ}
 use lib.ListN.{length}
 use Rattle.distort.specs.Job.{Image, Call}
-use Rattle.chain.specs.Demand.{First, Lent, Conditions, Near, ThirdDemand}
+use Rattle.chain.specs.Demand.{First, Lent, Conditions, ThirdDemand}
 use Rattle.exact.specs.Each.{Each}
-use Rattle.chain.specs.Exact.{exactly, exactChain}
 use Rattle.chain.specs.Memory.{
   Memory,
   read,

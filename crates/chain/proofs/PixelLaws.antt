@@ -22,7 +22,6 @@ use Rattle.exact.proofs.Samples.{one-value, sample-along}
 use Rattle.exact.proofs.Scale.{at-eq, at-add, at-ratio}
 use Rattle.exact.proofs.Warp.{exact-unit, exact-opaque}
 use Rattle.fit.specs.Build.{build}
-use Rattle.mappings.specs.declared.mapping.Fitted.{Fitted}
 use Rattle.mappings.specs.declared.mapping.Mapping.{Mapping}
 use Rattle.chain.specs.Conditions as Conditions
 use Rattle.chain.specs.ExactPoint.{exactPoint}

@@ -1,16 +1,15 @@
 -- Under the conditions of the exact chain the source point is usable and near the exact one: each kind by the law of
 -- its sums. Provides: `affine-near`, `perspective-near`, `polynomial-near`; `point-near` (by the kind, at any
 -- coordinates), `asked-near` (at a pixel). Assumes nothing.
-use mathlib.Core.Path.{_≡_, refl, sym, ap, _∙_, subst, subst⁻¹}
-use mathlib.Core.Bool.{false, cond}
-use Prim.Native.Nat.{ℕ, zero, suc, _^_, _≤_, _<_}
+use mathlib.Core.Path.{_≡_, sym, _∙_, subst, subst⁻¹}
+use Prim.Native.Nat.{ℕ, zero, suc, _^_, _≤_}
 use lib.Dec.{lit≤}
 use lib.IntN.{ℤ, natAbs}
 use lib.ListN.{length}
 use lib.Ieee.{Float}
-use Rattle.exact.specs.Fraction.{Fraction, frac, value, _≤F_, _*F_, absF}
+use Rattle.exact.specs.Fraction.{Fraction, frac, _≤F_, absF}
 use Rattle.exact.specs.Rounds.{Close}
-use Rattle.exact.specs.Sums.{PixelCoordinate, Term, asked, askedF}
+use Rattle.exact.specs.Sums.{PixelCoordinate, asked, askedF}
 use Rattle.exact.specs.Warp.{coordinateError}
 use Rattle.exact.proofs.Near.{le-refl}
 use Rattle.exact.proofs.Steps.{close-more}
@@ -21,17 +20,16 @@ use Rattle.exact.proofs.Polynomial.{plus-zero, polynomial-close}
 use Rattle.exact.specs.Vector.{Vector, at}
 use Rattle.linear.specs.Matrix.{nought}
 use Rattle.mappings.specs.Monomials.{monomials}
-use Rattle.point.specs.declared.point.Point.{Point}
-use Rattle.point.specs.Point.{point, none}
+use Rattle.point.specs.Point.{point}
 use Rattle.inverse.specs.Affine.{affine}
 use Rattle.inverse.specs.Perspective.{perspective}
 use Rattle.inverse.specs.Polynomial.{dot, dots, ofU, ofV, polynomial}
 use Rattle.inverse.specs.Inverse.{inverse}
-use Rattle.chain.specs.ExactPoint.{sumU, sumV, denominatorF, monomialsF, powerAt, many, polyF, exactPoint}
+use Rattle.chain.specs.ExactPoint.{sumU, sumV, powerAt, many, polyF, exactPoint}
 use Rattle.chain.specs.Conditions.{AffineTerms, PerspectiveTerms, PolyTerms, Terms, Meets, Faithful}
 use Rattle.point.proofs.UsableLaws.{usable-close}
 use Rattle.inverse.proofs.PolynomialLaws.{monomials-length, terms-few}
-use Rattle.chain.proofs.MonomialsNear.{Alike, alike-length, alike-at, alike-monomials}
+use Rattle.chain.proofs.MonomialsNear.{alike-length, alike-at, alike-monomials}
 
 -- from two coordinates, each within some e below the limit
 faithful : {u v : Float} {U W : Fraction} (e : Fraction) → e ≤F coordinateError → Close u U e (frac 16385 1)

@@ -12,7 +12,6 @@ use Rattle.exact.specs.Fraction.{frac}
 use Rattle.exact.specs.Weighted.{Unit32, Sample}
 use Rattle.endian.specs.Bytes.{sampleAt}
 use Rattle.picture.specs.Colour.{one}
-use Rattle.sampler.specs.Finite.{BoundedPicture}
 use Rattle.picture.specs.Pixel.{Picture}
 use Rattle.picture.specs.declared.colour.Rgba.{Rgba}
 use Rattle.window.specs.Window.{xOf, yOf}

@@ -3,29 +3,25 @@
 use Prim.Native.Nat.{ℕ, _+_, _*_, _<_}
 use mathlib.Core.Path.{_≡_}
 use mathlib.Core.Logic.{_⊎_}
-use mathlib.Core.List.{List, [], _∷_}
+use mathlib.Core.List.{List, []}
 use lib.Dec.{T}
-use lib.IntN.{ℤ}
 use lib.ListN.{length}
 use lib.Ieee.{Float}
 use lib.Ieee.Scale.{finite}
-use Rattle.exact.specs.Fraction.{Fraction, frac, value, Within, Unit01}
+use Rattle.exact.specs.Fraction.{frac, value, Within, Unit01}
 use Rattle.exact.specs.Each.{Each}
 use Rattle.exact.specs.Sums.{askedF}
 use Rattle.endian.specs.Bytes.{sampleAt}
 use Rattle.arguments.specs.Method as Method
-use Rattle.mappings.specs.declared.mapping.Fitted.{Fitted}
-use Rattle.mappings.specs.declared.mapping.Mapping.{Mapping}
 use Rattle.chain.specs.Conditions.{Meets}
 use Rattle.policies.specs.Named.{transparentCode}
 use Rattle.taps.specs.Interpolation.{bilinearCode}
 use Rattle.picture.specs.Colour.{one}
 use Rattle.picture.specs.declared.colour.Rgba.{Rgba}
-use Rattle.distort.specs.Job.{Image, Given, Call, colourOf}
+use Rattle.distort.specs.Job.{Image, Call, colourOf}
 use Rattle.distort.specs.Refusal.{fitOf}
-use Rattle.distort.specs.declared.answer.Answer.{Answer}
 use Rattle.chain.specs.Exact.{ExactImage, place, exactly, exactChain}
-use Rattle.chain.specs.Warps.{Warp, widthIn, heightIn, xIn, yIn, State, after}
+use Rattle.chain.specs.Warps.{Warp, widthIn, heightIn, xIn, yIn, after}
 
 -- ---- the conditions
 -- a number from 0 to 1

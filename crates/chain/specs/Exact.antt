@@ -8,7 +8,6 @@ use Rattle.exact.specs.Sums.{askedF}
 use Rattle.exact.specs.Warp.{exactSample}
 use Rattle.endian.specs.Bytes.{sampleAt}
 use Rattle.fit.specs.Build.{build}
-use Rattle.mappings.specs.declared.mapping.Fitted.{Fitted}
 use Rattle.mappings.specs.declared.mapping.Mapping.{Mapping}
 use Rattle.chain.specs.ExactPoint.{exactPoint}
 use Rattle.picture.specs.Colour as Colour

@@ -1,5 +1,5 @@
 -- Where the four magnitudes lie in their own pieces, the kernel's tests choose those. Assumes nothing.
-use mathlib.Core.Path.{_≡_, refl, sym, ap, _∙_}
+use mathlib.Core.Path.{_≡_, refl, sym, _∙_}
 use mathlib.Core.Bool.{Bool, true, false, not, cond, _&&_, true≢false}
 use mathlib.Core.List.{List, [], _∷_}
 use lib.Ieee.{Float, lt}

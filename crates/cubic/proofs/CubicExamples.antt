@@ -1,8 +1,7 @@
 -- The cubic weights at closed fractions, computed: the code's definition and the formula of 1988. Assumes nothing.
 use mathlib.Core.Path.{_≡_, refl}
 use mathlib.Core.List.{[], _∷_}
-use Prim.Native.Nat.{ℕ}
-use lib.Ieee.{Float, binary32, neg, add, sub, sum, mul, div, round, ofBits, lt}
+use lib.Ieee.{binary32, neg, add, sub, sum, mul, div, round, ofBits, lt}
 use Rattle.exact.specs.Fraction.{frac, ratio, _≈_, negF, _+F_, _-F_, _*F_, absF}
 use Rattle.number.specs.Magnitude.{abs}
 use Rattle.cubic.specs.Cubic.{zero, half, one, pieces, catrom, spline}

@@ -9,7 +9,7 @@ use Rattle.distort.specs.Call.{answer, storeAnswer}
 use Rattle.distort.specs.Job.{Call}
 use Rattle.distort.specs.declared.answer.Answer.{Answer}
 use Rattle.distort.proofs.CallLaws.{answer-number}
-use Rattle.distort.proofs.RowsOfTheWarp.{counting, warp, warpLength, rowsIn, own, RowsOfTheWarp, rows-of-the-warp}
+use Rattle.distort.proofs.RowsOfTheWarp.{counting, warp, warpLength, rowsIn, own, rows-of-the-warp}
 use Rattle.dihyravo.specs.Called.{called}
 
 -- the same of the bytes; the call's answer held `before`, and the warp's held `other`

@@ -1,9 +1,9 @@
 -- What an accepted job and an accepted call are: no row of the table holds, and each test that fails says something of
 -- the picture, the codes, the arguments, the colours, the fit, the window, the rows and the band. Assumes nothing.
-use mathlib.Core.Path.{_≡_, refl, sym, ap, _∙_, subst}
-use mathlib.Core.Logic.{_⊎_, inl, inr, ⊎-elim}
+use mathlib.Core.Path.{_≡_, refl, sym, _∙_}
+use mathlib.Core.Logic.{_⊎_, inr, ⊎-elim}
 use mathlib.Core.Bool.{Bool, true, false, not, _||_, cond, true≢false}
-use mathlib.Core.List.{List, [], _∷_}
+use mathlib.Core.List.{[], _∷_}
 use Prim.Native.Nat.{ℕ, zero, suc, _+_, _*_, _≤_, _<_}
 use native.Mathlib.Omega.{arith}
 use lib.Dec.{eqb, ltb, lit≤}
@@ -17,8 +17,6 @@ use Rattle.exact.proofs.TableLaws.{row-passed, row-failed, no-rows, Numbered, f
 use Rattle.arguments.specs.Method.{present}
 use Rattle.arguments.specs.Refusal as Arguments
 use Rattle.arguments.proofs.AcceptedLaws.{Accepted, accepted}
-use Rattle.mappings.specs.declared.mapping.Fitted.{Fitted}
-use Rattle.mappings.specs.declared.mapping.Mapping.{Mapping}
 use Rattle.fit.proofs.DegenerateLaws.{build-8}
 use Rattle.window.specs.Window.{refusalOf, widthOf, heightOf, xOf, yOf}
 use Rattle.window.specs.declared.window.Placed.{Placed}

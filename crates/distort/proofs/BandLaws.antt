@@ -1,38 +1,19 @@
 -- The laws of a band: its length, a part of its rows, rows in two parts, and how many pixels are matte. A band for some
 -- rows of a job holds those rows of the job's whole output, byte for byte, and its matte pixels add up with the
 -- others'. Assumes nothing.
-use mathlib.Core.Path.{_≡_, sym, ap, _∙_, subst}
+use mathlib.Core.Path.{_≡_, sym, ap, _∙_}
 use mathlib.Core.List.{List, _++_}
 use Prim.Native.Nat.{ℕ, _+_, _*_, _≤_}
-use native.Mathlib.Nat.{add-assoc, zero-add, mul-one}
+use native.Mathlib.Nat.{add-assoc, zero-add}
 use native.Mathlib.Omega.{arith}
 use lib.ListN.{length, take, drop}
-use Rattle.band.specs.Band.{
-  Mapped,
-  Source,
-  pointAt,
-  colourAt,
-  matteAt,
-  pixelBytes,
-  rowBytes,
-  rowsBytes,
-  rowMatte,
-  rowsMatte,
-}
+use Rattle.band.specs.Band.{Mapped, Source, rowBytes, rowsBytes, rowMatte, rowsMatte}
 use Rattle.distort.specs.Call.{outWidth, mappedOf, sourceOf, rowsOf, matteOf, left}
 use Rattle.distort.specs.Job.{Image, Given, Call}
-use Rattle.band.specs.Joined.{joined, totalled}
+use Rattle.band.specs.Joined.{joined}
 use Rattle.distort.specs.Refusal.{channelsOf, refusal}
-use Rattle.band.proofs.JoinedLaws.{
-  joined-length,
-  joined-part,
-  joined-cut,
-  joined-same,
-  totalled-cut,
-  totalled-same,
-  totalled-most,
-}
-use Rattle.band.proofs.LengthLaws.{row-length, row-matte-most}
+use Rattle.band.proofs.JoinedLaws.{joined-length, joined-part, joined-cut, joined-same, totalled-cut, totalled-same}
+use Rattle.band.proofs.LengthLaws.{row-length}
 use Rattle.distort.proofs.CallLaws.{left-accepted}
 
 -- ---- of a source and a frame

@@ -1,23 +1,18 @@
 -- The answer and the band afterwards from what is known of the refusal: a number, or none; and a call whose window is
 -- known is worked as the table's last two rows and the band's definition say. Assumes nothing.
 use mathlib.Core.Path.{_≡_, refl, sym, ap, _∙_}
-use mathlib.Core.Bool.{Bool, true, false, not, cond}
-use mathlib.Core.List.{List, [], _∷_}
-use Prim.Native.Nat.{ℕ, zero, suc, _+_, _*_, _<_}
+use mathlib.Core.Bool.{Bool, true, false, cond}
+use mathlib.Core.List.{List}
+use Prim.Native.Nat.{ℕ, zero, suc, _<_}
 use native.Mathlib.Omega.{arith}
-use lib.Dec.{eqb, ltb, lit≤}
-use lib.ListN.{length}
+use lib.Dec.{lit≤}
 use borrow.Author.Tests.{eq-eqb, ne-eqb}
-use Rattle.exact.specs.Table.{firstOf}
 use Rattle.exact.proofs.TableLaws.{row-holds, row-passed, no-rows}
 use Rattle.window.specs.Window.{xOf, yOf}
 use Rattle.distort.specs.declared.answer.Answer.{Answer}
 use Rattle.distort.specs.declared.answer.Answer.the-variants.{Accepted, Refused}
-use Rattle.band.specs.Band.{rowsBytes, rowsMatte}
-use Rattle.band.specs.declared.rows.Rows.{Rows}
-use Rattle.picture.specs.declared.shape.Shape.{Shape}
 use Rattle.distort.specs.Call.{outWidth, outHeight, mappedOf, sourceOf, rowsOf, matteOf, answer, left, numberOf}
-use Rattle.distort.specs.Job.{Image, Given, Call}
+use Rattle.distort.specs.Job.{Call}
 use Rattle.distort.specs.Placed.{inWindow}
 use Rattle.distort.specs.Refusal.{windowOf, channelsOf, badRows, badTray, jobRefusal, refusal}
 use Rattle.distort.proofs.AcceptedLaws.{rows-call}

@@ -1,13 +1,11 @@
 -- The call stage by stage: refused by the tests that need no fit, by the fit, or worked in its window; over any values
 -- that the code found equal to the definition's. Assumes nothing.
 use mathlib.Core.Path.{_≡_, refl, sym, ap, _∙_, subst⁻¹}
-use mathlib.Core.Logic.{_⊎_, ⊎-elim}
-use mathlib.Core.Bool.{Bool, true, false}
+use mathlib.Core.Logic.{⊎-elim}
 use mathlib.Core.List.{List, [], _∷_}
 use Prim.Native.Nat.{ℕ, _<_}
 use native.Mathlib.Omega.{arith}
 use lib.Dec.{eqb, lit≤}
-use lib.IntN.{ℤ}
 use lib.ListN.{length}
 use borrow.Author.Tests.{eq-eqb, ne-eqb}
 use Rattle.exact.specs.Table.{firstOf}
@@ -27,7 +25,6 @@ use Rattle.distort.specs.declared.answer.Answer.the-variants.{Refused}
 use Rattle.distort.specs.Call.{sourceOf, answer, left}
 use Rattle.band.specs.Band.{Source, mapped}
 use Rattle.band.specs.declared.rows.Rows.{Rows}
-use Rattle.picture.specs.declared.shape.Shape.{Shape}
 use Rattle.window.specs.declared.view.View.{View}
 use Rattle.distort.specs.Job.{Image, Given, Call, colourOf}
 use Rattle.distort.specs.Placed.{inWindow, windowed}

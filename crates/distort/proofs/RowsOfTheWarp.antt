@@ -10,7 +10,7 @@ use lib.ListN.{length, take, drop}
 use Rattle.distort.specs.declared.answer.Answer.{Answer}
 use Rattle.distort.specs.declared.answer.Answer.the-variants.{Accepted, Refused}
 use Rattle.distort.specs.Call.{outWidth, outHeight, matteOf, answer, left}
-use Rattle.distort.specs.Job.{Image, Given, Call}
+use Rattle.distort.specs.Job.{Call}
 use Rattle.distort.specs.Refusal.{channelsOf, refusal}
 use Rattle.distort.proofs.AcceptedLaws.{job-of-call, accepted-call}
 use Rattle.distort.proofs.BandLaws.{rowLength, mattes-add, left-part}

@@ -6,7 +6,6 @@ use Prim.Native.Nat.{ℕ}
 use lib.IntN.{ℤ, pos}
 use Rattle.exact.specs.Vector.{Vector}
 use Rattle.window.specs.Window.{window}
-use Rattle.window.specs.declared.view.View.{View}
 use Rattle.window.specs.declared.window.Placed.{Placed}
 use Rattle.distort.specs.Job.{givenBy}
 use Rattle.window.specs.View.{yes, flag}

@@ -6,8 +6,6 @@ use mathlib.Core.Bool.{cond}
 use mathlib.Core.List.{List}
 use lib.Dec.{eqb}
 use Rattle.endian.specs.Bytes.{storeU64, storeI64}
-use Rattle.mappings.specs.declared.mapping.Fitted.{Fitted}
-use Rattle.mappings.specs.declared.mapping.Mapping.{Mapping}
 use Rattle.window.specs.Window.{widthOf, heightOf, xOf, yOf}
 use Rattle.distort.specs.declared.answer.Answer.{Answer}
 use Rattle.distort.specs.declared.answer.Answer.the-variants.{Accepted, Refused}

@@ -6,10 +6,7 @@ use mathlib.Core.List.{List}
 use lib.IntN.{ℤ, pos}
 use Rattle.picture.specs.Pixel.{pixelAt}
 use Rattle.picture.specs.declared.colour.Rgba.{Rgba}
-use Rattle.picture.specs.declared.shape.Shape.{Shape}
-use Rattle.band.specs.declared.rows.Rows.{Rows}
 use Rattle.window.specs.View.{yes, flag}
-use Rattle.window.specs.declared.view.View.{View}
 use Rattle.distort.specs.declared.job.Job.{Job}
 pub use Rattle.band.specs.Image.{Image, imageOf, shapedImage}
 

@@ -13,7 +13,6 @@ use Rattle.arguments.specs.Method.{present}
 use Rattle.arguments.specs.Refusal as Arguments
 use Rattle.fit.specs.Build.{build}
 use Rattle.mappings.specs.declared.mapping.Fitted.{Fitted}
-use Rattle.mappings.specs.declared.mapping.Mapping.{Mapping}
 use Rattle.policies.specs.Named.{transparentCode, randomCode}
 use Rattle.picture.specs.Colour.{one}
 use Rattle.picture.specs.declared.colour.Rgba.{Rgba}

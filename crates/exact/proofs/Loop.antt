@@ -1,7 +1,7 @@
 -- The laws of the counted loops, by opening `turns` once: no turn, one turn more, the end, an early way out;
 -- then what holds of a whole loop: a property that each turn keeps, equal steps, and a range cut in two.
 -- Assumes nothing.
-use mathlib.Core.Path.{_≡_, refl, sym, ap, _∙_, subst}
+use mathlib.Core.Path.{_≡_, refl, sym, ap, _∙_}
 use Prim.Native.Nat.{ℕ, zero, suc, _+_, _-_, _≤_, _<_}
 use native.Mathlib.Nat.{le-antisymm, add-zero, add-suc, add-assoc}
 use native.Mathlib.Omega.{arith}

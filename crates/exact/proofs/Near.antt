@@ -2,47 +2,16 @@
 -- Provides: `within-at`, `at-within` (the working form, both ways); `within-open`, `within-close` (as two inequalities
 -- of fractions); `within-same`, `within-sym`, `within-trans`, `within-more`, `within-add`, `within-sub`, and the
 -- order's own laws. Assumes nothing.
-use mathlib.Core.Path.{_≡_, refl, sym, ap, _∙_, subst}
-use mathlib.Core.List.{List, [], _∷_}
+use mathlib.Core.Path.{_≡_, sym, ap, _∙_}
+use mathlib.Core.List.{[], _∷_}
 use mathlib.Core.Logic.{_⊎_, inl, inr, ⊎-elim}
 use mathlib.Core.Bool.{Bool, true, false, not, cond}
-use Prim.Native.Nat.{ℕ, suc, _+_, _-_, _*_, _≤_, _<_}
-use native.Mathlib.Nat.{le-of-mul-le-mul-right, mul-le-mul-right, le-of-lt, zero-lt-suc}
+use Prim.Native.Nat.{ℕ, _+_, _-_, _*_, _≤_, _<_}
+use native.Mathlib.Nat.{le-of-mul-le-mul-right, mul-le-mul-right, le-of-lt}
 use native.Mathlib.Omega.{arith}
 use lib.Dec.{T, leb, leb→le, nleb→lt}
-use Rattle.exact.specs.Fraction.{
-  Fraction,
-  over,
-  ratio,
-  frac,
-  _≤F_,
-  _<F_,
-  _≈_,
-  negF,
-  _+F_,
-  _-F_,
-  _*F_,
-  absF,
-  distance,
-  Within,
-}
-use Rattle.exact.proofs.Scale.{
-  At,
-  at-le,
-  le-at,
-  at-lt,
-  lt-at,
-  at-eq,
-  eq-at,
-  at-ratio,
-  turn,
-  at-neg,
-  at-add,
-  at-sub,
-  over-pos,
-  AllAt,
-  common,
-}
+use Rattle.exact.specs.Fraction.{Fraction, over, frac, _≤F_, _<F_, _≈_, _+F_, _-F_, absF, distance, Within}
+use Rattle.exact.proofs.Scale.{At, at-le, le-at, lt-at, at-eq, eq-at, turn, at-add, at-sub, over-pos, common}
 
 -- ---- the absolute value is x or -x
 same : (a b d D p n : ℕ) → b ≤ a → a * D + n * d ≡ p * d + b * D → (a - b) * D + n * d ≡ p * d + 0 * D

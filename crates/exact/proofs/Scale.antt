@@ -3,13 +3,12 @@
 -- naturals. Provides: `at-le`, `le-at`, `at-lt`, `lt-at`, `at-eq`, `eq-at` (both ways), `at-own`, `at-more`,
 -- `at-ratio`, `at-change`, `at-neg`, `at-add`, `at-sub`, `at-mul`, and `common`, one scale for a list of fractions;
 -- `turn`. Assumes nothing.
-use mathlib.Core.Path.{_≡_, refl, sym, ap, _∙_, subst}
+use mathlib.Core.Path.{_≡_, sym, ap, _∙_, subst}
 use mathlib.Core.List.{List, [], _∷_}
 use Prim.Native.Nat.{ℕ, suc, _+_, _-_, _*_, _≤_, _<_}
 use native.Mathlib.Nat.{
   mul-pos,
   mul-le-mul-right,
-  mul-lt-mul-of-pos-right,
   le-of-mul-le-mul-right,
   eq-of-mul-eq-mul-right,
   zero-lt-suc,
@@ -18,8 +17,6 @@ use native.Mathlib.Nat.{
   le-antisymm,
   lt-of-not-le,
   not-le-of-lt,
-  lt-irrefl,
-  le-trans,
 }
 use native.Mathlib.Omega.{arith}
 use Rattle.exact.specs.Fraction.{Fraction, over, ratio, _≤F_, _<F_, _≈_, underBoth, negF, _+F_, _-F_, _*F_}

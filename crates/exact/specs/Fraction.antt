@@ -2,7 +2,7 @@
 -- whole number above 0, and two are compared by cross-multiplying. The whole number is the difference `plus - minus` of
 -- two naturals, so that no sum or product goes by cases on signs; the denominator is `under + 1`, above 0 by its form.
 -- Nothing is brought to lowest terms. Specification 11.2. Assumes nothing.
-use Prim.Native.Nat.{ℕ, suc, _+_, _-_, _*_, _/_, _≤_, _<_}
+use Prim.Native.Nat.{ℕ, suc, _+_, _-_, _*_, _≤_, _<_}
 use mathlib.Core.Path.{_≡_}
 use mathlib.Core.Bool.{cond}
 use lib.Dec.{leb, ltb}

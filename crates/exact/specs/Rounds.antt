@@ -6,7 +6,7 @@ use mathlib.Core.Bool.{Bool, _&&_, cond}
 use lib.Dec.{T, leb, ltb, eqb}
 use lib.Ieee.{Float, Format, prec, emax, low, round}
 use lib.Ieee.Scale.{finite}
-use Rattle.exact.specs.Fraction.{Fraction, ratio, frac, value, _≤F_, _≈_, _*F_, absF, Within}
+use Rattle.exact.specs.Fraction.{Fraction, ratio, frac, value, _≤F_, _≈_, absF, Within}
 
 -- a / c with its sign, for a c above 0
 abbrev pub signedF : Bool → ℕ → ℕ → Fraction

@@ -1,6 +1,6 @@
 -- The exact surface between values at whole numbers: linear in one dimension, bilinear in two. Each index names one
 -- value for good, so the surface is defined over the whole plane and is continuous across cells. Assumes nothing.
-use Prim.Native.Nat.{ℕ, _+_, _-_, _/_}
+use Prim.Native.Nat.{_+_, _-_, _/_}
 use mathlib.Core.Bool.{cond}
 use lib.Dec.{leb}
 use lib.IntN.{ℤ, pos, negℤ, sucℤ}

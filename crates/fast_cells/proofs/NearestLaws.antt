@@ -4,7 +4,7 @@ use mathlib.Core.Path.{_≡_, refl, sym, ap, _∙_, subst}
 use mathlib.Core.Logic.{inl, inr}
 use mathlib.Core.Bool.{Bool, true, false, cond, _&&_}
 use Prim.Native.Nat.{ℕ, _+_, _*_, _≤_, _<_}
-use native.Mathlib.Nat.{mul-pos, one-mul, zero-lt-suc}
+use native.Mathlib.Nat.{mul-pos, zero-lt-suc}
 use native.Mathlib.Omega.{arith}
 use lib.Dec.{T, lit≤}
 use lib.IntN.{ℤ}
@@ -24,7 +24,6 @@ use Rattle.exact.proofs.Near.{add-mono, le-refl}
 use Rattle.exact.proofs.Operands.{add-values}
 use Rattle.exact.proofs.Operations.{add-rounds, sub-rounds}
 use Rattle.exact.proofs.Signed.{le-value}
-use Rattle.exact.proofs.Value.{rescale}
 use Rattle.number.specs.Floor.{inDomain}
 use Rattle.number.specs.Magnitude.{within}
 use Rattle.number.proofs.MagnitudeLaws.{abs-limited}

@@ -1,12 +1,12 @@
 -- What is put over is gone: a number put at a pixel where another stood leaves no trace of it. So a band that differs
 -- from a clean one in the next pixel's first sample alone is clean again with the next pixel. Provides: `store-over`;
 -- `covered-start`, `covered-next`, `covered-last` (the loop over pixels). Assumes nothing.
-use mathlib.Core.Path.{_≡_, refl, sym, ap, _∙_, subst}
+use mathlib.Core.Path.{_≡_, refl, ap, _∙_, subst}
 use mathlib.Core.Logic.{inl, inr}
 use mathlib.Core.List.{List, _++_}
 use Prim.Native.Nat.{ℕ, zero, suc, _+_, _*_, _/_, _%_, _≤_, _<_, zero-le}
 use native.Mathlib.Omega.{arith}
-use lib.Ieee.{Float, binary32, toBits}
+use lib.Ieee.{binary32, toBits}
 use lib.ListN.{length, set, take, replicate, length-append, length-replicate}
 use lib.Seq.{set-set, length-take-le}
 use Rattle.endian.specs.Bytes.{storeNumber}

@@ -1,8 +1,7 @@
 -- No NaN is put. The samples of a picture are at most 65,536 in magnitude and the weights of fractions from 0 to 1 at
 -- most 1, so that the weighted mean is bounded. Provides: `picture-bounded`, `bounded-numbers`, `pixel-numbers`,
 -- `blend-numbers`. Assumes nothing.
-use mathlib.Core.Path.{_≡_, refl, subst}
-use mathlib.Core.Bool.{Bool, true, false}
+use mathlib.Core.Path.{_≡_, subst}
 use mathlib.Core.List.{List, [], _∷_}
 use Prim.Native.Nat.{ℕ, zero, suc, _+_, _*_, _^_, _≤_, _<_}
 use native.Mathlib.Omega.{arith}
@@ -19,7 +18,7 @@ use Rattle.number.proofs.MagnitudeTests.{within-bits}
 use Rattle.picture.specs.Colour.{luma}
 use Rattle.picture.specs.Pixel.{Limited, Picture, pixelAt}
 use Rattle.picture.specs.declared.colour.Rgba.{Rgba}
-use Rattle.taps.specs.Weighted.{Bounded, BoundedBy, tapAt, weightAt, weighted}
+use Rattle.taps.specs.Weighted.{Bounded, BoundedBy, tapAt, weightAt}
 use Rattle.taps.specs.Weights.{fourWeights}
 use Rattle.taps.proofs.CellFloor.{finite-number}
 use Rattle.taps.proofs.WeightedFinite.{most, weighted-bounded}

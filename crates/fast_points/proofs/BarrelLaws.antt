@@ -1,6 +1,6 @@
 -- The laws of the barrels' lists: a store more makes each longer by one, and the three steps together are the points.
 -- Assumes nothing.
-use mathlib.Core.Path.{_≡_, ap, _∙_, refl}
+use mathlib.Core.Path.{_≡_, ap, _∙_}
 use mathlib.Core.Logic.{_≢_}
 use mathlib.Core.List.{List}
 use Prim.Native.Nat.{ℕ, _+_, _≤_, _<_}
@@ -11,8 +11,6 @@ use lib.ListN.{length, set, length-set}
 use lib.Ieee.{Float}
 use Rattle.number.specs.Root.{root}
 use Rattle.exact.specs.Vector.{Vector, at}
-use Rattle.point.specs.declared.point.Point.{Point}
-use Rattle.point.specs.Point.{point, Whole}
 use Rattle.mappings.specs.Mapping.{barrelKind}
 use Rattle.inverse.specs.Barrel.{across, down, radiusSquared, barrelFrom, barrelInverseFrom}
 use Rattle.fast_points.specs.Points.{pixelMiddle, PointsOf}

@@ -3,7 +3,7 @@
 use Prim.Native.Nat.{ℕ, _+_}
 use mathlib.Core.List.{[], _∷_}
 use lib.IntN.{pos}
-use lib.Ieee.{Float, binary64, ofBits, ofInt}
+use lib.Ieee.{Float, binary64, ofInt}
 use Rattle.exact.specs.Double.{_⊕_, _⊗_, _⊘_, two}
 use Rattle.exact.specs.Loop.{upTo}
 use Rattle.number.specs.Power.{one}

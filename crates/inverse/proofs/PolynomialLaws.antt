@@ -11,7 +11,7 @@ use borrow.Author.Tests.{ne-eqb}
 use Rattle.exact.specs.Double.{_⊕_, _⊗_}
 use Rattle.exact.specs.Loop.{upTo, turns}
 use Rattle.exact.proofs.Loop.{upTo-same}
-use Rattle.exact.specs.Vector.{Vector, at}
+use Rattle.exact.specs.Vector.{Vector}
 use Rattle.linear.specs.Matrix.{nought}
 use Rattle.mappings.specs.Padded.{padded}
 use Rattle.mappings.specs.Monomials.{push, ofDegree, upToDegree, monomials}

@@ -9,7 +9,6 @@ use Rattle.exact.specs.Double.{_⊕_, _⊖_, _⊗_, leastDivisor}
 use Rattle.exact.specs.Loop.{upTo}
 use Rattle.exact.proofs.Loop.{upTo-next, upTo-last, upTo-stay}
 use Rattle.exact.specs.Vector.{Vector, at}
-use Rattle.point.specs.declared.point.Point.{Point}
 use Rattle.point.specs.Point.{point}
 use Rattle.point.specs.Course.{Course, on, out, turn, ended}
 use Rattle.inverse.specs.Shepards.{Sums, d2, wgt, addPair, pairTurn, zeroSums, movedBy, ofPairs}

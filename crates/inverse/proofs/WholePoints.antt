@@ -1,6 +1,5 @@
 -- Every mapping's point is `point` of its own coordinates: each mapping ends in `point` or in `none`, and so does a
 -- loop that is left in the middle. Assumes nothing.
-use mathlib.Core.Bool.{Bool}
 use Prim.Native.Nat.{ℕ, _+_, _*_, zero-le}
 use lib.Dec.{eqb}
 use lib.Ieee.{Float, le, lt}

@@ -1,7 +1,6 @@
 // Polynomial and BilinearReverse: the monomials times their coefficients. Assumes nothing.
 ghost use mathlib.Core.Path.{_≡_};
 ghost use Prim.Native.Nat.{_≤_};
-ghost use lib.ListN.{length};
 ghost use Rattle.mappings.specs.Monomials.{monomials};
 ghost use Rattle.inverse.specs.Polynomial as Polynomial;
 use mappings::monomials::monomials;

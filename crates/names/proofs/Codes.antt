@@ -5,7 +5,7 @@ use mathlib.Core.List.{List, [], _∷_}
 use Prim.Native.Nat.{ℕ}
 use lib.Dec.{T, ltb, ltb→lt}
 use Rattle.names.specs.declared.Named.{Named}
-use Rattle.names.specs.declared.Named.the-variants.{Code, Refused}
+use Rattle.names.specs.declared.Named.the-variants.{Code}
 use Rattle.names.specs.Names.{sameName, lookup, Below}
 
 -- every code of the table is below m

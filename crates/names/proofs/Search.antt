@@ -1,6 +1,6 @@
 -- A search through a text of names, one byte a turn: what is left of the table at a byte, after a name's first bytes,
 -- is the table left at the next byte, with the name in front where it ends. Assumes nothing.
-use mathlib.Core.Path.{_≡_, refl, ap, _∙_}
+use mathlib.Core.Path.{_≡_, refl, ap}
 use mathlib.Core.Bool.{Bool, true, false, cond, true≢false}
 use mathlib.Core.List.{List, [], _∷_, _++_}
 use Prim.Native.Nat.{ℕ, suc, _+_, _-_, _≤_, _<_}

@@ -2,7 +2,7 @@
 -- with the sign's bit taken off. By the cases of a value. Assumes nothing.
 use mathlib.Core.Path.{_≡_, refl, sym, ap, _∙_}
 use mathlib.Core.Bool.{Bool, true, false, cond}
-use Prim.Native.Nat.{ℕ, zero, suc, _+_, _-_, _/_, _%_}
+use Prim.Native.Nat.{ℕ, zero, suc, _+_, _/_, _%_}
 use native.Mathlib.Nat.{mod-lt, mod-eq-of-lt, mod-mod-of-dvd, dvd-mul-right}
 use lib.Dec.{T, leb, eqb}
 use lib.Ieee.{Float, nan, inf, fin, Format, neg, le, fits, isNan, prec, low, odd, hid, ones, top, ofFields, ofBits}

@@ -2,9 +2,9 @@
 -- count; where the test of the samples fails, too, the bytes are a picture. Provides: `side-fit`, `channels-fit`,
 -- `channels-range`, `size-fit`, `stock-whole` (what each test leaves); `area-small`, `samples-small`, `counted`
 -- (the products); `picture-fit`, `one-pixel`. Assumes nothing.
-use mathlib.Core.Path.{_≡_, refl}
+use mathlib.Core.Path.{_≡_}
 use mathlib.Core.Logic.{inl, inr, ⊎-elim}
-use mathlib.Core.Bool.{Bool, true, false, not, _||_}
+use mathlib.Core.Bool.{false, _||_}
 use mathlib.Core.List.{List}
 use Prim.Native.Nat.{ℕ, _*_, _≤_, _<_}
 use native.Mathlib.Nat.{mul-le-mul}

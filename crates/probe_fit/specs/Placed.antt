@@ -7,7 +7,6 @@ use lib.Dec.{eqb}
 use lib.IntN.{ℤ}
 use Rattle.endian.specs.Bytes.{storeU64, storeI64}
 use Rattle.mappings.specs.declared.mapping.Fitted.{Fitted}
-use Rattle.mappings.specs.declared.mapping.Mapping.{Mapping}
 use Rattle.window.specs.View.{yes}
 use Rattle.window.specs.Window.{window}
 use Rattle.window.specs.declared.view.View.{View}

@@ -3,7 +3,6 @@ ghost use mathlib.Core.Path.{_≡_};
 ghost use Prim.Native.Nat.{_+_, _*_, _≤_, min};
 ghost use lib.ListN.{length};
 ghost use Rattle.exact.specs.Loop.{upTo};
-ghost use Rattle.endian.specs.Bytes.{storeU64};
 ghost use Rattle.probe_fit.specs.Fitted.{storeCoefficient, probeFit};
 use crate::sized::sized_fit;
 use endian::bytes::store_f64;

@@ -3,7 +3,6 @@
 ghost use mathlib.Core.Path.{_≡_};
 ghost use Prim.Native.Nat.{_+_, _*_, _/_, _≤_};
 ghost use lib.ListN.{length};
-ghost use Rattle.exact.specs.Loop.{upTo};
 ghost use Rattle.probe_sampler.specs.Many.{storeSampled, storeSamples, probeSamples};
 ghost use Rattle.picture.specs.Pixel.{Shaped};
 use crate::sampled::far_coordinate;

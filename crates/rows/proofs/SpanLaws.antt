@@ -2,13 +2,12 @@
 -- counts its matte pixel; and a row that is done up to a pixel, with a span put behind it, is done up to the
 -- span's end. Assumes nothing.
 use mathlib.Core.Path.{_≡_, refl, sym, ap, ap₂, _∙_, subst, subst⁻¹}
-use mathlib.Core.Bool.{Bool, true, false, cond}
+use mathlib.Core.Bool.{cond}
 use mathlib.Core.List.{List, _++_, append-assoc}
 use Prim.Native.Nat.{ℕ, _+_, _-_, _*_, _≤_, _<_}
 use native.Mathlib.Nat.{le-trans, mul-one, mul-le-mul-right}
 use native.Mathlib.Omega.{arith}
 use lib.Ieee.{Float}
-use lib.IntN.{ℤ}
 use lib.ListN.{length, take, drop}
 use Rattle.exact.specs.Vector.{Vector, at}
 use Rattle.inverse.specs.declared.frame.Frame.{Frame}
@@ -20,7 +19,6 @@ use Rattle.band.specs.Band.{
   Source,
   framed,
   shown,
-  pointAt,
   colourAt,
   matteAt,
   keptColour,
@@ -32,7 +30,7 @@ use Rattle.band.specs.Band.{
 use Rattle.band.specs.Joined.{joined, totalled}
 use Rattle.band.proofs.InnerLaws.{put-same}
 use Rattle.band.proofs.JoinedLaws.{joined-cut, joined-length, totalled-same, totalled-cut, totalled-most}
-use Rattle.band.proofs.PixelLaws.{Channels, SoFar, so-far-next, pixel-length}
+use Rattle.band.proofs.PixelLaws.{SoFar, so-far-next, pixel-length}
 use Rattle.band.proofs.RowLaws.{RowHolds}
 
 -- ---- the points read back

@@ -1,7 +1,7 @@
 -- Where the samples of a picture and its background are numbers of at most 65,536, so are those of every colour that is
 -- named; and every sample that is read is an f32 value. Provides: `within-bounded` (from the test of a sample),
 -- `bounded-more`, `pixel-bounded`, `at-bounded`, `at-fits`. Assumes nothing.
-use mathlib.Core.Path.{_≡_, refl, ap, _∙_}
+use mathlib.Core.Path.{_≡_, refl}
 use mathlib.Core.Bool.{Bool, true, false, cond}
 use mathlib.Core.List.{List}
 use Prim.Native.Nat.{ℕ, _+_, _*_, _≤_, _<_}
@@ -11,7 +11,6 @@ use lib.Dec.{T, eqb, lit≤}
 use lib.IntN.{ℤ}
 use lib.Ieee.{Float, binary32, ofBits, fits}
 use lib.Ieee.Bits.{ofBits-fits}
-use lib.Ieee.Fits.{cond-fits}
 use lib.Ieee.Scale.{finite}
 use borrow.Author.Tests.{eqb-true}
 use Rattle.exact.specs.Fraction.{Fraction, frac, value, _≤F_, _≈_, absF}

@@ -4,7 +4,7 @@
 use mathlib.Core.Path.{_≡_, refl, sym, subst}
 use mathlib.Core.Bool.{Bool, true, false, cond, _&&_}
 use mathlib.Core.List.{List}
-use mathlib.Core.Logic.{_⊎_, ⊎-elim}
+use mathlib.Core.Logic.{⊎-elim}
 use Prim.Native.Nat.{ℕ, _+_, _*_, _%_, _≤_, _<_}
 use native.Mathlib.Nat.{mul-le-mul-right}
 use native.Mathlib.Omega.{arith}
@@ -13,7 +13,6 @@ use lib.IntN.{ℤ}
 use lib.Signed.{mag}
 use lib.Ieee.{ofBits, fits}
 use Rattle.exact.specs.Weighted.{Unit32}
-use Rattle.endian.specs.Bytes.{sampleAt, twosComplement}
 use Rattle.picture.specs.At.{at}
 use Rattle.picture.specs.Colour.{zero, half, one}
 use Rattle.policies.specs.Index.{inRange, tile, parity}

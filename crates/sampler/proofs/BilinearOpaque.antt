@@ -2,14 +2,14 @@
 -- laws' own quotients at the four taps, the point lies in the cell that the code gives it, and so the law of one warp
 -- applies: coordinates in, sample out. Provides: `bilinear-is` (the four taps by name), `bilinear-opaque` (their
 -- colours), `sampled-near` (from coordinates to a sample). Assumes nothing.
-use mathlib.Core.Path.{_≡_, refl, sym, ap, _∙_, subst}
+use mathlib.Core.Path.{_≡_, sym, ap, _∙_, subst}
 use mathlib.Core.List.{List, [], _∷_}
 use Prim.Native.Nat.{ℕ}
-use lib.IntN.{ℤ, pos, sucℤ, _+ℤ_, +ℤ-idr, +ℤ-one}
+use lib.IntN.{ℤ, sucℤ, +ℤ-idr, +ℤ-one}
 use lib.Dec.{lit≤}
 use lib.Ieee.{Float}
 use Rattle.exact.specs.Double.{_⊖_}
-use Rattle.exact.specs.Fraction.{Fraction, frac, value, _≤F_, _+F_, _-F_, absF, Unit01}
+use Rattle.exact.specs.Fraction.{Fraction, frac, _+F_, _-F_, Unit01}
 use Rattle.exact.specs.Warp.{half, InCell, Coordinate, exactSample}
 use Rattle.exact.specs.Weighted.{w00, w10, w01, w11, colour, alpha, Unit32, Sample}
 use Rattle.exact.proofs.Weighted.{alpha-one}
@@ -17,13 +17,12 @@ use Rattle.exact.proofs.Warp.{warp-demand}
 use Rattle.number.specs.Floor.{floorI64}
 use Rattle.picture.specs.At.{at}
 use Rattle.taps.specs.Cell.{Reached, fraction, cell}
-use Rattle.picture.specs.Colour.{one}
 use Rattle.sampler.specs.Interpolate.{several, interpolate}
 use Rattle.taps.specs.Interpolation.{Bilinear, interpolation, bilinearCode}
 use Rattle.sampler.specs.Opaque.{OpaquePlace, Exact, UnitExact, NearExact, NearColour}
-use Rattle.taps.specs.Taps.{Plane, tap, taps}
+use Rattle.taps.specs.Taps.{Plane}
 use Rattle.taps.specs.Weighted.{mean, weighted, Opaque}
-use Rattle.taps.specs.Weights.{fourWeights, weights}
+use Rattle.taps.specs.Weights.{fourWeights}
 use Rattle.picture.specs.declared.colour.Rgba.{Rgba}
 use Rattle.sampler.proofs.AtOpaque.{at-opaque}
 use Rattle.taps.proofs.CellFloor.{cell-law, less-half-reached}

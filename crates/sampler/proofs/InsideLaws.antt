@@ -1,6 +1,6 @@
 -- One pixel, or four, are what the definition takes at a point whose cell lies inside. Provides: `single-inside`,
 -- `bilinear-inside`. Assumes nothing.
-use mathlib.Core.Path.{_≡_, refl, sym, ap, _∙_}
+use mathlib.Core.Path.{_≡_, sym, _∙_}
 use mathlib.Core.List.{List, [], _∷_}
 use Prim.Native.Nat.{ℕ, _+_, _<_}
 use lib.IntN.{ℤ, pos}
@@ -10,7 +10,7 @@ use Rattle.picture.specs.At.{at}
 use Rattle.picture.specs.Pixel.{pixelAt}
 use Rattle.picture.specs.declared.colour.Rgba.{Rgba}
 use Rattle.picture.proofs.AtLaws.{at-inside}
-use Rattle.taps.specs.Cell.{cell, first, fraction}
+use Rattle.taps.specs.Cell.{first, fraction}
 use Rattle.taps.specs.Interpolation.{interpolation, Bilinear, bilinearCode, Single}
 use Rattle.taps.specs.Taps.{taps}
 use Rattle.taps.specs.Weighted.{weighted}

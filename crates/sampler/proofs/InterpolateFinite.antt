@@ -2,24 +2,23 @@
 -- most 65,536: one tap alone is a colour that is named, and the weights of several are at most 1 in magnitude, so that
 -- the law of the weighted mean applies. Provides: `weights-each` (every interpolation's weights), `several-bounded`,
 -- `interpolate-bounded`, `interpolate-fits`. Assumes nothing.
-use mathlib.Core.Path.{_≡_, refl, sym, subst}
-use mathlib.Core.Bool.{Bool, true, false, cond}
+use mathlib.Core.Path.{sym, subst}
 use mathlib.Core.List.{List, [], _∷_}
-use Prim.Native.Nat.{ℕ, zero, suc, _*_, _/_, _%_, _^_, _≤_, _<_}
+use Prim.Native.Nat.{ℕ, zero, suc, _/_, _%_, _≤_, _<_}
 use native.Mathlib.Nat.{mod-lt, div-lt-iff-lt-mul, lt-of-lt-of-le}
 use native.Mathlib.Omega.{arith}
 use lib.Dec.{T, lit≤}
 use lib.IntN.{ℤ, pos, _+ℤ_}
 use lib.ListN.{getD}
-use lib.Ieee.{Float, nan, binary32, ofBits, fits, lt}
+use lib.Ieee.{Float, nan, binary32, fits, lt}
 use lib.Ieee.Bits.{ofBits-fits}
 use lib.Ieee.Fits.{cond-fits, div-fits}
-use Rattle.exact.specs.Fraction.{frac, _≤F_}
+use Rattle.exact.specs.Fraction.{frac}
 use Rattle.exact.specs.Single.{_⊗_, _⊘_}
 use Rattle.exact.specs.Weighted.{Unit32}
 use Rattle.number.specs.Magnitude.{abs}
 use Rattle.picture.specs.At.{at}
-use Rattle.taps.specs.Cell.{Cell, Reached, fraction, cell}
+use Rattle.taps.specs.Cell.{Reached, fraction, cell}
 use Rattle.picture.specs.Colour as Colour
 use Rattle.cubic.specs.Cubic.{catrom, spline}
 use Rattle.sampler.specs.Finite.{BoundedPicture, FitsBy}
@@ -38,8 +37,8 @@ use Rattle.taps.specs.Interpolation.{
   interpolation,
 }
 use Rattle.picture.specs.Pixel.{Picture}
-use Rattle.taps.specs.Taps.{Plane, side, count, sixteen, tap, taps}
-use Rattle.taps.specs.Weighted.{least, quotient, mean, tapAt, weightAt, tapSums, weighted, Bounded, BoundedBy}
+use Rattle.taps.specs.Taps.{Plane, side, count, sixteen, taps}
+use Rattle.taps.specs.Weighted.{least, quotient, mean, weightAt, tapSums, weighted, Bounded, BoundedBy}
 use Rattle.taps.specs.Weights.{fourWeights, products, alikeWeights, weights}
 use Rattle.picture.specs.declared.colour.Rgba.{Rgba}
 use Rattle.taps.specs.declared.weighted.Sums.{Sums}

@@ -7,7 +7,7 @@ use lib.Ieee.{binary32, fits}
 use Rattle.exact.specs.Fraction.{frac}
 use Rattle.endian.specs.Bytes.{sampleAt}
 use Rattle.picture.specs.Pixel.{Picture}
-use Rattle.taps.specs.Weighted.{Bounded, BoundedBy}
+use Rattle.taps.specs.Weighted.{Bounded}
 use Rattle.picture.specs.declared.colour.Rgba.{Rgba}
 
 pub record BoundedPicture (bytes : List ℕ) (width height channels : ℕ) : Type 0 where

@@ -2,7 +2,6 @@
 // background. Assumes that the bytes are a picture's, and that the point can be used.
 ghost use mathlib.Core.Path.{_≡_};
 ghost use mathlib.Core.Bool.{true};
-ghost use Prim.Native.Nat.{_≤_, _<_};
 ghost use Rattle.exact.specs.Double.{_⊖_};
 ghost use Rattle.exact.specs.Warp.{half};
 ghost use Rattle.point.specs.Point as Points;

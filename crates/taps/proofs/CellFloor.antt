@@ -5,16 +5,16 @@
 -- nothing.
 use mathlib.Core.Path.{_≡_, refl, sym, ap, _∙_, subst}
 use mathlib.Core.Bool.{Bool, true, false, not, cond}
-use Prim.Native.Nat.{ℕ, zero, suc, _+_, _*_, _^_, _≤_, _<_}
+use Prim.Native.Nat.{ℕ, _+_, _*_, _^_, _≤_, _<_}
 use native.Mathlib.Nat.{le-trans, zero-mul}
 use native.Mathlib.Omega.{arith}
 use lib.IntN.{ℤ, pos, negsuc, natAbs, sucℤ}
 use lib.Dec.{T, le→leb, lt→ltb, eqb→eq, lit≤}
-use lib.Ieee.{Float, nan, inf, fin, binary32, binary64, up, down, round, ofInt, inFloat, isNan, ofBits}
+use lib.Ieee.{Float, nan, inf, fin, binary32, binary64, up, down, ofInt, inFloat, isNan, ofBits}
 use lib.Ieee.Fits.{down-pos}
 use lib.Ieee.Scale.{finite}
 use Rattle.exact.specs.Double.{_⊖_, usableLimit}
-use Rattle.exact.specs.Fraction.{Fraction, frac, whole, value, _≤F_, _<F_, _≈_, _+F_, _-F_, absF}
+use Rattle.exact.specs.Fraction.{frac, whole, value, _≤F_, _<F_, _≈_, _+F_, _-F_, absF}
 use Rattle.exact.specs.Rounds.{Rounds, Close}
 use Rattle.exact.specs.Surface.{floorF}
 use Rattle.exact.specs.Warp.{half, InCell}

@@ -2,25 +2,25 @@
 -- the coordinate plus 0.5, since half an ulp there is tiny; a floor there is at most 2^31 in size, and one is taken
 -- from it at most. Provides: `reached-number`, `reached-domain`, `rounded-domain`, `floor-small`, `rounded-small`,
 -- `first-small`; `moved-small`, `before-small` (an index plus or less a few). Assumes nothing.
-use mathlib.Core.Path.{_≡_, refl, sym, ap, _∙_, subst}
+use mathlib.Core.Path.{refl, sym, subst}
 use mathlib.Core.Bool.{Bool, true, false, cond}
-use Prim.Native.Nat.{ℕ, zero, suc, _+_, _-_, _*_, _^_, _≤_, _<_}
+use Prim.Native.Nat.{ℕ, zero, suc, _+_, _-_, _*_, _^_, _≤_}
 use native.Mathlib.Nat.{le-trans}
 use native.Mathlib.Omega.{arith}
-use lib.IntN.{ℤ, pos, negsuc, predℤ, subℕ, _+ℤ_, _-ℤ_, -ℤ-one}
+use lib.IntN.{ℤ, pos, negsuc, predℤ, _+ℤ_, _-ℤ_, -ℤ-one}
 use lib.Signed.{mag}
 use lib.Dec.{T, ltb, le→leb, lit≤}
 use lib.Ieee.{Float, nan, inf, fin, binary64, up, down, ofBits}
 use lib.Ieee.Fits.{down-pos}
 use lib.Ieee.Scale.{finite}
 use Rattle.exact.specs.Double.{_⊕_}
-use Rattle.exact.specs.Fraction.{Fraction, frac, value, _≤F_, _≈_, _+F_, absF}
+use Rattle.exact.specs.Fraction.{frac, value, _≤F_, _≈_, _+F_, absF}
 use Rattle.exact.specs.Rounds.{Close}
 use Rattle.exact.specs.Warp.{half}
 use Rattle.exact.proofs.Integer.{mag-le}
 use Rattle.exact.proofs.Near.{eq-le}
 use Rattle.exact.proofs.Near as Near
-use Rattle.exact.proofs.Products.{eq-refl, back, le-same}
+use Rattle.exact.proofs.Products.{le-same}
 use Rattle.exact.proofs.Signed.{le-signed, le-value}
 use Rattle.exact.proofs.Operations.{add-rounds}
 use Rattle.exact.proofs.Bounds.{rounds-bound}

@@ -3,7 +3,7 @@
 -- `bilinear-bounded`. Assumes nothing.
 use lib.Dec.{lit≤}
 use lib.Ieee.{Float, ofBits}
-use Rattle.exact.specs.Fraction.{frac, value, _≤F_, absF}
+use Rattle.exact.specs.Fraction.{frac, value, absF}
 use Rattle.exact.specs.Weighted.{w00, w10, w01, w11, Unit32}
 use Rattle.exact.proofs.Products.{unit-rest}
 use Rattle.exact.proofs.NearProducts.{abs-unit}

@@ -2,7 +2,7 @@
 // point's coordinates are at most 2^30 + 1 in magnitude, so that no floor has to test its domain.
 ghost use mathlib.Core.Path.{_≡_};
 ghost use Prim.Native.Nat.{_≤_};
-ghost use lib.IntN.{pos, _+ℤ_, _-ℤ_};
+ghost use lib.IntN.{pos, _-ℤ_};
 ghost use lib.Signed.{mag};
 ghost use Rattle.number.specs.Floor.{floorI64};
 ghost use Rattle.taps.specs.Cell.{Reached, fraction, rounded, first};

@@ -1,6 +1,6 @@
 -- `dihyravo::dihyravo_method` meets its contract: the reader's answer has a small code, and its number is the answer.
 -- Assumes nothing.
-use mathlib.Core.Path.{_≡_, ap, _∙_}
+use mathlib.Core.Path.{ap, _∙_}
 use Prim.Native.Nat.{_^_}
 use borrow.Author.Needs.{needs}
 use mir.Syntax.{w64}

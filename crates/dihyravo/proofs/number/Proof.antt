@@ -1,6 +1,6 @@
 -- `dihyravo::number` meets its contract: each case of the enum is that of the definition, and a code that is small
 -- enough is the signed number's value. Assumes nothing.
-use mathlib.Core.Path.{_≡_, sym, ap, subst, _∙_}
+use mathlib.Core.Path.{sym, ap, subst, _∙_}
 use Prim.Native.Nat.{_^_}
 use borrow.Author.Needs.{needs}
 use mir.Syntax.{w64}

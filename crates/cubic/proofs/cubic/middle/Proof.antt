@@ -1,7 +1,4 @@
 -- `cubic::cubic::middle` meets its contract: each piece, divided by 6. Assumes nothing.
-use mathlib.Core.Path.{_≡_, refl, sym, ap, _∙_}
-use Prim.Native.Nat.{ℕ, _+_, _-_, _≤_, _<_}
-use native.Mathlib.Omega.{arith}
 use borrow.Author.Needs.{needs}
 use Rattle.cubic.proofs.cubic.middle.Statement.{statement}
 use Rattle.cubic.proofs.cubic.middle.Tie as tie

@@ -2,9 +2,6 @@
 -- choose. Assumes nothing.
 use Rattle.cubic.specs.Cubic.{zero, one}
 use Rattle.cubic.proofs.CubicCode.{middle-weights}
-use mathlib.Core.Path.{_≡_, refl, sym, ap, _∙_}
-use Prim.Native.Nat.{ℕ, _+_, _-_, _≤_, _<_}
-use native.Mathlib.Omega.{arith}
 use borrow.Author.Needs.{needs}
 use Rattle.cubic.proofs.cubic.spline.Statement.{statement}
 use Rattle.cubic.proofs.cubic.spline.Tie as tie

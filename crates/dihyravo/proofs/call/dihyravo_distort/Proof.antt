@@ -8,12 +8,8 @@ use lib.IntN.{ℤ}
 use mir.Syntax.{w64}
 use mir.Val.{ofZ, toZ}
 use mir.ValLaws.{toZ-ofZ}
-use Rattle.band.specs.declared.rows.Rows.{Rows}
 use Rattle.distort.specs.Job.{Call, callBy}
 use Rattle.window.specs.View.{yes}
-use Rattle.distort.specs.declared.job.Job.{Job}
-use Rattle.picture.specs.declared.shape.Shape.{Shape}
-use Rattle.window.specs.declared.view.View.{View}
 use Rattle.dihyravo.proofs.EntryLaws.{all-of}
 use Rattle.dihyravo.proofs.call.dihyravo_distort.Statement.{statement}
 use Rattle.dihyravo.proofs.call.dihyravo_distort.Tie as tie

@@ -4,7 +4,6 @@ use mathlib.Core.Path.{_≡_}
 use mir.Syntax.{w64}
 use mir.Val.{toZ, ofZ}
 use borrow.Author.Needs.{needs}
-use Rattle.distort.specs.Call.{numberOf, storeAnswer}
 use Rattle.distort.proofs.answer.store_answer.Statement.{statement}
 use Rattle.distort.proofs.answer.store_answer.Tie as tie
 

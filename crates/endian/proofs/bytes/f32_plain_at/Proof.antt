@@ -1,6 +1,5 @@
 -- `endian::bytes::f32_plain_at` meets its contract: a pattern that is at most the infinity's may be made a float as it
 -- is. Assumes nothing.
-use mathlib.Core.Path.{_∙_}
 use borrow.Author.Needs.{needs}
 use lib.Ieee.{binary32}
 use Rattle.exact.proofs.Patterns.{pattern-number}

@@ -1,5 +1,4 @@
 -- `fast_colours::broad::broad` meets its contract: four quotients of the sums. Assumes nothing.
-use mathlib.Core.Path.{_∙_}
 use borrow.Author.Needs.{needs}
 use Rattle.fast_colours.proofs.FourLaws.{four-broad}
 use Rattle.fast_colours.proofs.broad.broad.Statement.{statement}

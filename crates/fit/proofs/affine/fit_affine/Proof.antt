@@ -2,7 +2,6 @@
 use Rattle.fit.proofs.FitLaws.{affine-terms}
 use Rattle.fit.specs.Affine.{fitAffine}
 use borrow.Author.Tests.{eq-eqb, ne-eqb}
-use Prim.Native.Nat.{_-_}
 use borrow.Author.Needs.{needs}
 use Rattle.fit.proofs.affine.fit_affine.Statement.{statement}
 use Rattle.fit.proofs.affine.fit_affine.Tie as tie

@@ -7,7 +7,6 @@ use Rattle.fit.proofs.FitLaws.{none-8, some-8}
 use borrow.Author.Tests.{not-true, not-false}
 use Rattle.mappings.specs.Mapping.{fitted}
 use mathlib.Core.Path.{_≡_, ap, _∙_}
-use Prim.Native.Nat.{_-_}
 use borrow.Author.Needs.{needs}
 use Rattle.fit.proofs.affine.fit_affine_projection.Statement.{statement}
 use Rattle.fit.proofs.affine.fit_affine_projection.Tie as tie

@@ -2,7 +2,6 @@
 use Rattle.fit.specs.Affine.{shifted, shift}
 use Rattle.mappings.specs.Mapping.{affineKind, mapping, fitted}
 use mathlib.Core.Path.{ap, _∙_}
-use Prim.Native.Nat.{_-_}
 use borrow.Author.Needs.{needs}
 use Rattle.fit.proofs.affine.shift.Statement.{statement}
 use Rattle.fit.proofs.affine.shift.Tie as tie

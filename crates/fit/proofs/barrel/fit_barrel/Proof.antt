@@ -2,7 +2,6 @@
 use Rattle.fit.specs.Barrel.{fitBarrel}
 use Rattle.mappings.specs.Mapping.{fitted}
 use mathlib.Core.Path.{ap, _∙_}
-use Prim.Native.Nat.{_-_}
 use borrow.Author.Needs.{needs}
 use Rattle.fit.proofs.barrel.fit_barrel.Statement.{statement}
 use Rattle.fit.proofs.barrel.fit_barrel.Tie as tie

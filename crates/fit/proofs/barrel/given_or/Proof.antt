@@ -1,7 +1,6 @@
 -- `fit::barrel::given_or` meets its contract: by its test. Assumes nothing.
 use Rattle.fit.specs.Barrel.{givenOr}
 use borrow.Author.Tests.{lt-ltb, le-ltb}
-use Prim.Native.Nat.{_-_}
 use borrow.Author.Needs.{needs}
 use Rattle.fit.proofs.barrel.given_or.Statement.{statement}
 use Rattle.fit.proofs.barrel.given_or.Tie as tie

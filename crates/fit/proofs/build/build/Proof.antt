@@ -1,7 +1,6 @@
 -- `fit::build::build` meets its contract: the refusal that the table gives, or else what the maker ensures. Assumes
 -- nothing.
 use Rattle.fit.proofs.BuildLaws.{few-pairs, pairs-held, order-held, build-refused, build-made}
-use Prim.Native.Nat.{_-_}
 use borrow.Author.Needs.{needs}
 use Rattle.fit.proofs.build.build.Statement.{statement}
 use Rattle.fit.proofs.build.build.Tie as tie

@@ -1,7 +1,6 @@
 -- `fit::build::made` meets its contract: by the tests that led to each maker. Assumes nothing.
 use Rattle.fit.specs.Build.{made}
 use borrow.Author.Tests.{eq-eqb, ne-eqb}
-use Prim.Native.Nat.{_-_}
 use borrow.Author.Needs.{needs}
 use Rattle.fit.proofs.build.made.Statement.{statement}
 use Rattle.fit.proofs.build.made.Tie as tie

@@ -4,7 +4,6 @@ use borrow.Author.Tests.{not-true, not-false}
 use Rattle.mappings.specs.Mapping.{fitted}
 use Rattle.fit.proofs.FitLaws.{both-first, both-second, both-found}
 use mathlib.Core.Path.{ap, _∙_}
-use Prim.Native.Nat.{_-_}
 use borrow.Author.Needs.{needs}
 use Rattle.fit.proofs.lstsq.fit_both.Statement.{statement}
 use Rattle.fit.proofs.lstsq.fit_both.Tie as tie

@@ -5,7 +5,6 @@ use Rattle.fit.proofs.FitLaws.{none-8, some-8}
 use borrow.Author.Tests.{not-true, not-false}
 use Rattle.mappings.specs.Mapping.{perspectiveKind, mapping, fitted}
 use mathlib.Core.Path.{ap, _∙_}
-use Prim.Native.Nat.{_-_}
 use borrow.Author.Needs.{needs}
 use Rattle.fit.proofs.perspective.fit_perspective_projection.Statement.{statement}
 use Rattle.fit.proofs.perspective.fit_perspective_projection.Tie as tie

@@ -1,6 +1,5 @@
 -- `fit::polynomial::fit_polynomial` meets its contract: by what the calls ensure. Assumes nothing.
 use Rattle.fit.proofs.FitLaws.{polynomial-terms}
-use Prim.Native.Nat.{_-_}
 use borrow.Author.Needs.{needs}
 use Rattle.fit.proofs.polynomial.fit_polynomial.Statement.{statement}
 use Rattle.fit.proofs.polynomial.fit_polynomial.Tie as tie

@@ -1,7 +1,6 @@
 -- `fit::polynomial::order_number` meets its contract: by the test of the order. Assumes nothing.
 use Rattle.fit.specs.Polynomial.{orderNumber}
 use mathlib.Core.Path.{_∙_}
-use Prim.Native.Nat.{_-_}
 use borrow.Author.Needs.{needs}
 use Rattle.fit.proofs.polynomial.order_number.Statement.{statement}
 use Rattle.fit.proofs.polynomial.order_number.Tie as tie

@@ -2,7 +2,6 @@
 use Rattle.fit.specs.Shepards.{fitShepards}
 use Rattle.mappings.specs.Mapping.{fitted}
 use mathlib.Core.Path.{ap, _∙_}
-use Prim.Native.Nat.{_-_}
 use borrow.Author.Needs.{needs}
 use Rattle.fit.proofs.shepards.fit_shepards.Statement.{statement}
 use Rattle.fit.proofs.shepards.fit_shepards.Tie as tie

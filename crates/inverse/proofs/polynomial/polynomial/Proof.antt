@@ -1,6 +1,6 @@
 -- `inverse::polynomial::polynomial` meets its contract: there are as many monomials as it counts, and zeros after them
 -- are not read. Assumes nothing.
-use mathlib.Core.Path.{_≡_, _∙_, subst⁻¹}
+use mathlib.Core.Path.{_∙_, subst⁻¹}
 use Prim.Native.Nat.{ℕ, _≤_}
 use borrow.Author.Needs.{needs}
 use Rattle.inverse.proofs.PolynomialLaws.{terms-few, dots-monomials}

@@ -2,7 +2,6 @@
 use lib.Seq.{take-length}
 use Rattle.mappings.specs.Mapping.{mapping}
 use mathlib.Core.Path.{ap, _∙_}
-use Prim.Native.Nat.{_-_}
 use borrow.Author.Needs.{needs}
 use Rattle.mappings.proofs.mapping.mapping_of.Statement.{statement}
 use Rattle.mappings.proofs.mapping.mapping_of.Tie as tie

@@ -1,7 +1,6 @@
 -- `mappings::mapping::mapping_of_first` meets its contract: the copy into the blank array is the padded list. Assumes
 -- nothing.
 use Rattle.mappings.proofs.MappingLaws.{mapping-one}
-use Prim.Native.Nat.{_-_}
 use borrow.Author.Needs.{needs}
 use Rattle.mappings.proofs.mapping.mapping_of_first.Statement.{statement}
 use Rattle.mappings.proofs.mapping.mapping_of_first.Tie as tie

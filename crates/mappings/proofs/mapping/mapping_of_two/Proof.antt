@@ -1,6 +1,5 @@
 -- `mappings::mapping::mapping_of_two` meets its contract: the second copy comes after the first. Assumes nothing.
 use Rattle.mappings.proofs.MappingLaws.{mapping-two, one-length}
-use Prim.Native.Nat.{_-_}
 use borrow.Author.Needs.{needs}
 use Rattle.mappings.proofs.mapping.mapping_of_two.Statement.{statement}
 use Rattle.mappings.proofs.mapping.mapping_of_two.Tie as tie

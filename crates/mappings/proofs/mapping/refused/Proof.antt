@@ -1,6 +1,5 @@
 use Rattle.mappings.specs.Mapping.{mapping, refused}
 use mathlib.Core.Path.{refl}
-use Prim.Native.Nat.{_-_}
 use Rattle.mappings.proofs.mapping.refused.Statement.{statement}
 use Rattle.mappings.proofs.mapping.refused.Tie as tie
 

@@ -3,7 +3,6 @@
 use borrow.Author.Tests.{ne-eqb}
 use Rattle.mappings.specs.Monomials.{monomials}
 use mathlib.Core.Path.{_∙_}
-use Prim.Native.Nat.{_-_}
 use borrow.Author.Needs.{needs}
 use Rattle.mappings.proofs.monomials.monomials.Statement.{statement}
 use Rattle.mappings.proofs.monomials.monomials.Tie as tie

@@ -1,5 +1,4 @@
 -- `mappings::rows::second_row` meets its contract: each way is the row of the variant that was told. Assumes nothing.
-use Prim.Native.Nat.{_-_}
 use borrow.Author.Needs.{needs}
 use Rattle.mappings.proofs.rows.second_row.Statement.{statement}
 use Rattle.mappings.proofs.rows.second_row.Tie as tie

@@ -5,7 +5,7 @@ use Prim.Native.Nat.{_+_, _*_, _/_, _%_, _<_}
 use native.Mathlib.Omega.{arith}
 use borrow.Author.Needs.{needs}
 use lib.Dec.{T}
-use lib.Ieee.{binary32, binary64, toBits, fits}
+use lib.Ieee.{binary64, toBits, fits}
 use lib.Ieee.Bits.{toBits-lt}
 use Rattle.number.proofs.NarrowBits.{bits-le, bits-number, narrow-bits, narrow-no-nan}
 use Rattle.number.proofs.narrow.signed.Statement.{statement}

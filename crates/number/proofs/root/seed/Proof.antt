@@ -1,9 +1,8 @@
 -- `number::root::seed` meets its contract: a number above 0 is no NaN, and its pattern is at most the infinity's.
 -- Assumes nothing.
-use mathlib.Core.Path.{refl, sym, subst}
+use mathlib.Core.Path.{sym, subst}
 use lib.Dec.{T, lit≤}
 use lib.Ieee.{binary64, fits, ofBits, toBits, isNan}
-use borrow.Author.Needs.{needs}
 use Rattle.number.proofs.RootCases.{above-no-nan, above-bits}
 use Rattle.number.proofs.root.seed.Statement.{statement}
 use Rattle.number.proofs.root.seed.Tie as tie

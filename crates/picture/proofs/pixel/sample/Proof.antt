@@ -1,6 +1,5 @@
 -- `picture::pixel::sample` meets its contract: what is at most the pattern of 65,536 is no NaN's. Assumes nothing.
 use native.Mathlib.Nat.{le-trans}
-use native.Mathlib.Omega.{arith}
 use borrow.Author.Needs.{needs}
 use lib.Dec.{lit≤}
 use Rattle.picture.proofs.pixel.sample.Statement.{statement}

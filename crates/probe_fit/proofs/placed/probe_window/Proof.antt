@@ -2,7 +2,6 @@
 -- and the offsets are read back from their bits. Assumes nothing.
 use Rattle.probe_fit.specs.Placed.{placed, probeWindow}
 use borrow.Author.Tests.{eq-eqb, ne-eqb}
-use Prim.Native.Nat.{_-_}
 use mir.Syntax.{w64}
 use mir.ValLaws.{toZ-ofZ}
 use borrow.Author.Needs.{needs}

@@ -1,7 +1,6 @@
 -- `probe_points::many::probe_points` meets its contract: each way out is the case of the definition that its tests
 -- took. Assumes nothing.
 use mathlib.Core.Path.{sym, _∙_}
-use Prim.Native.Nat.{_-_}
 use Rattle.probe_points.specs.Points.{pointsOf, probePoints}
 use Rattle.probe_points.proofs.PointsLaws.{lengths-fit}
 use borrow.Author.Tests.{eq-eqb, ne-eqb}

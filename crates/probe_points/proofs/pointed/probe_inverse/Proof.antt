@@ -2,7 +2,6 @@
 -- took. Assumes nothing.
 use Rattle.probe_points.specs.Pointed.{pointed, probeInverse}
 use borrow.Author.Tests.{eq-eqb, ne-eqb}
-use Prim.Native.Nat.{_-_}
 use borrow.Author.Needs.{needs}
 use Rattle.probe_points.proofs.pointed.probe_inverse.Statement.{statement}
 use Rattle.probe_points.proofs.pointed.probe_inverse.Tie as tie

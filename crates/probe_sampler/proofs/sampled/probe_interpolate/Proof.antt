@@ -1,7 +1,6 @@
 -- `probe_sampler::sampled::probe_interpolate` meets its contract: the test of the domain, then the colour, stored.
 -- Assumes nothing.
 use mathlib.Core.Path.{sym, _∙_}
-use lib.Dec.{T}
 use Rattle.probe_sampler.specs.Sampled.{probeInterpolate}
 use Rattle.probe_sampler.proofs.SampledLaws.{outside-fit}
 use borrow.Author.Needs.{needs}

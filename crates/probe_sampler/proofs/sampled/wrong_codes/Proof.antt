@@ -1,7 +1,6 @@
 -- `probe_sampler::sampled::wrong_codes` meets its contract: the tests are the definition's. Assumes nothing.
 use mathlib.Core.Path.{refl}
 use Rattle.probe_sampler.specs.Sampled.{wrongCodes}
-use borrow.Author.Needs.{needs}
 use Rattle.probe_sampler.proofs.sampled.wrong_codes.Statement.{statement}
 use Rattle.probe_sampler.proofs.sampled.wrong_codes.Tie as tie
 

@@ -1,7 +1,6 @@
 -- `probe_sampler::weights::no_fraction` meets its contract: the tests are the definition's. Assumes nothing.
 use mathlib.Core.Path.{refl}
 use Rattle.probe_sampler.specs.Weights.{noFraction}
-use borrow.Author.Needs.{needs}
 use Rattle.probe_sampler.proofs.weights.no_fraction.Statement.{statement}
 use Rattle.probe_sampler.proofs.weights.no_fraction.Tie as tie
 

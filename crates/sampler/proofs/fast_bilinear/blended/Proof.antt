@@ -1,5 +1,5 @@
 -- `sampler::fast_bilinear::blended` meets its contract: a loop over four taps is the sums written out. Assumes nothing.
-use mathlib.Core.Path.{sym, ap, _∙_}
+use mathlib.Core.Path.{sym, ap}
 use mathlib.Core.List.{[], _∷_}
 use Rattle.taps.specs.Weighted.{mean, weighted}
 use Rattle.taps.specs.Weights.{fourWeights}

@@ -13,7 +13,7 @@ use Rattle.policies.proofs.IndexCode.{argument, bits-inside}
 use Rattle.taps.proofs.CellLaws.{floor-small}
 use Rattle.taps.proofs.SignedCode.{again, asked}
 use Rattle.sampler.proofs.SixteenCode.{cubic-inside, cubic-anywhere}
-use mathlib.Core.Path.{_≡_, refl, sym, ap, _∙_}
+use mathlib.Core.Path.{_≡_, sym, ap, _∙_}
 use Prim.Native.Nat.{ℕ, _+_, _-_, _≤_, _<_}
 use native.Mathlib.Omega.{arith}
 use borrow.Author.Needs.{needs}

@@ -2,9 +2,6 @@
 use borrow.Author.Tests.{ne-eqb}
 use Rattle.taps.specs.Interpolation.{catromCode}
 use Rattle.sampler.specs.Sixteen.{kernelOf}
-use mathlib.Core.Path.{_≡_, refl, sym, ap, _∙_}
-use Prim.Native.Nat.{ℕ, _+_, _-_, _≤_, _<_}
-use native.Mathlib.Omega.{arith}
 use borrow.Author.Needs.{needs}
 use Rattle.sampler.proofs.fast_sixteen.kernel_of.Statement.{statement}
 use Rattle.sampler.proofs.fast_sixteen.kernel_of.Tie as tie

@@ -1,5 +1,4 @@
 -- `sampler::fast_two_by_two::mixed` meets its contract: by the test of the channels. Assumes nothing.
-use mathlib.Core.Path.{_≡_}
 use borrow.Author.Tests.{ne-eqb}
 use borrow.Author.Needs.{needs}
 use Rattle.sampler.specs.TwoByTwo.{mixed}

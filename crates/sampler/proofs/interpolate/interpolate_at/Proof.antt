@@ -7,8 +7,8 @@ use Rattle.taps.specs.Interpolation.{interpolation, bilinearCode, catromCode, b
 use Rattle.taps.proofs.InterpolationCode.{background-code}
 use Rattle.sampler.specs.Interpolate.{interpolate}
 use Rattle.sampler.proofs.InterpolateCode.{single-code, several-code}
-use mathlib.Core.Path.{_≡_, refl, sym, ap, _∙_}
-use Prim.Native.Nat.{ℕ, _+_, _-_, _≤_, _<_}
+use mathlib.Core.Path.{_≡_, sym, _∙_}
+use Prim.Native.Nat.{ℕ, _≤_, _<_}
 use native.Mathlib.Omega.{arith}
 use borrow.Author.Needs.{needs}
 use Rattle.sampler.proofs.interpolate.interpolate_at.Statement.{statement}

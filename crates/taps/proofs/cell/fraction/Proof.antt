@@ -1,8 +1,5 @@
 -- `taps::cell::fraction` meets its contract: the floor, the difference, which is a number, the narrowing. Assumes
 -- nothing.
-use mathlib.Core.Bool.{not}
-use lib.Dec.{T}
-use lib.Ieee.{isNan}
 use Rattle.taps.proofs.CellFloor.{rest-number}
 use Rattle.taps.proofs.CellLaws.{reached-domain}
 use Rattle.taps.proofs.cell.fraction.Statement.{statement}

@@ -1,7 +1,7 @@
 -- `taps::weighted::weighted` meets its contract. The loop's invariant: the sums are the definition's over the taps
 -- passed. Assumes nothing.
 use mathlib.Core.Path.{_≡_, ap, _∙_}
-use Prim.Native.Nat.{ℕ, _-_, _≤_}
+use Prim.Native.Nat.{_-_, _≤_}
 use borrow.Author.Needs.{needs}
 use Rattle.exact.proofs.Loop.{upTo-none, upTo-next, upTo-last}
 use Rattle.taps.specs.Weighted.{mean, tapSums, weighted}

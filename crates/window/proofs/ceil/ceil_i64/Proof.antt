@@ -1,7 +1,7 @@
 -- `window::ceil::ceil_i64` meets its contract. The floor of -x is i64::MIN outside the domain and nowhere in it, where
 -- it has at most 31 digits, so that its negation fits; and that is the ceiling. Assumes nothing.
 use mathlib.Core.Path.{_≡_, sym, ap, _∙_, subst}
-use Prim.Native.Nat.{_-_, _≤_}
+use Prim.Native.Nat.{_≤_}
 use native.Mathlib.Omega.{arith}
 use borrow.Author.Needs.{needs}
 use mathlib.Core.Bool.{Bool, not}

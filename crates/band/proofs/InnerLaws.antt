@@ -17,7 +17,7 @@ use Rattle.band.specs.Band.{
   sourceBy,
   shown,
   keptColour,
-  keptMatte,
+  keptMattePixels,
   pixelBytes,
   putPixels,
   InnerOrUntouched,
@@ -35,9 +35,9 @@ put-same channels f g n pixel bytes h =
 
 -- ---- points that can be used
 no-mattes : (n : ℕ) (us vs : List Float) → ((k : ℕ) → k < n → usable (at us k) (at vs k) ≡ true)
-    → 0 ≡ totalled (λ (k : ℕ). keptMatte (at us k) (at vs k)) n
+    → 0 ≡ totalled (λ (k : ℕ). keptMattePixels (at us k) (at vs k)) n
 no-mattes n us vs h =
-    sym (totalled-same (λ (k : ℕ). keptMatte (at us k) (at vs k)) (λ (k : ℕ). 0) n
+    sym (totalled-same (λ (k : ℕ). keptMattePixels (at us k) (at vs k)) (λ (k : ℕ). 0) n
     (λ k l. ap (λ (t : Bool). cond t 0 1) (h k l))
     ∙ none n (totalled-most (λ (k : ℕ). 0) 0 (λ k. omega arith) n))
   where

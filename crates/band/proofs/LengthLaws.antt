@@ -4,7 +4,16 @@ use Prim.Native.Nat.{ℕ, _*_, _≤_}
 use native.Mathlib.Nat.{mul-one}
 use native.Mathlib.Omega.{arith}
 use lib.ListN.{length}
-use Rattle.band.specs.Band.{Mapped, Source, pointAt, colourAt, matteAt, pixelBytes, rowBytes, rowMatte}
+use Rattle.band.specs.Band.{
+  Mapped,
+  Source,
+  pointAt,
+  colourAt,
+  mattePixelsAt,
+  pixelBytes,
+  rowBytes,
+  rowMattePixels,
+}
 use Rattle.band.specs.Joined.{totalled}
 use Rattle.band.proofs.JoinedLaws.{joined-length, totalled-most}
 use Rattle.band.proofs.PixelLaws.{pixel-length}
@@ -20,8 +29,8 @@ row-length s f channels width j =
     grouped : (w c : ℕ) → w * (c * 4) ≡ w * c * 4
     grouped w c = omega arith
 
-pub row-matte-most : (f : Mapped) (width j : ℕ) → rowMatte f width j ≤ width
-unfolding rowMatte
+pub row-matte-most : (f : Mapped) (width j : ℕ) → rowMattePixels f width j ≤ width
+unfolding rowMattePixels
 row-matte-most f width j =
-    subst (λ (n : ℕ). totalled (λ (i : ℕ). matteAt f i j) width ≤ n) (mul-one width)
-    (totalled-most (λ (i : ℕ). matteAt f i j) 1 (λ i. bit-most (pointAt f i j .usable)) width)
+    subst (λ (n : ℕ). totalled (λ (i : ℕ). mattePixelsAt f i j) width ≤ n) (mul-one width)
+    (totalled-most (λ (i : ℕ). mattePixelsAt f i j) 1 (λ i. bit-most (pointAt f i j .usable)) width)

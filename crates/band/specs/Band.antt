@@ -79,54 +79,55 @@ shown s p =
 abbrev pub colourAt : Source → Mapped → ℕ → ℕ → Rgba
 colourAt s f i j = shown s (pointAt f i j)
 
-abbrev pub matteAt : Mapped → ℕ → ℕ → ℕ
-matteAt f i j = cond (pointAt f i j .usable) 0 1
+abbrev pub mattePixelsAt : Mapped → ℕ → ℕ → ℕ
+mattePixelsAt f i j = cond (pointAt f i j .usable) 0 1
 
 -- both by the coordinates of its source point
 abbrev pub keptColour : Source → Float → Float → Rgba
 keptColour s u v = shown s (point u v)
 
-abbrev pub keptMatte : Float → Float → ℕ
-keptMatte u v = cond (usable u v) 0 1
+abbrev pub keptMattePixels : Float → Float → ℕ
+keptMattePixels u v = cond (usable u v) 0 1
 
 -- its bytes, four a sample
 abbrev pub pixelBytes : ℕ → Rgba → List ℕ
-pixelBytes channels c = storePixel (replicate (channels * 4) 0) channels 0 c
+pixelBytes out-channels c = storePixel (replicate (out-channels * 4) 0) out-channels 0 c
 
 -- ---- a span of n pixels, put from the pixel numbered `pixel` on
 -- what bytes become by it, where the k-th pixel has the colour `colour k`
 abbrev pub putPixels : ℕ → (ℕ → Rgba) → ℕ → ℕ → List ℕ → List ℕ
-putPixels channels colour n pixel bytes =
-    take (pixel * channels * 4) bytes ++ joined (λ (k : ℕ). pixelBytes channels (colour k)) n
-    ++ drop ((pixel + n) * channels * 4) bytes
+putPixels out-channels colour n pixel bytes =
+    take (pixel * out-channels * 4) bytes ++ joined (λ (k : ℕ). pixelBytes out-channels (colour k)) n
+    ++ drop ((pixel + n) * out-channels * 4) bytes
 
 -- and where the source points have the coordinates us and vs
 abbrev pub spanBytes : Source → ℕ → List Float → List Float → ℕ → ℕ → List ℕ → List ℕ
-spanBytes s channels us vs n pixel bytes =
-    putPixels channels (λ (k : ℕ). keptColour s (at us k) (at vs k)) n pixel bytes
+spanBytes s out-channels us vs n pixel bytes =
+    putPixels out-channels (λ (k : ℕ). keptColour s (at us k) (at vs k)) n pixel bytes
 
 -- where all of it lies inside: whatever the colours outside, and none is matte
 abbrev pub Inner : Image → ℕ → ℕ → List Float → List Float → ℕ → ℕ → List ℕ → List ℕ → Type 0
-Inner image interpolation channels us vs n pixel before after =
+Inner image interpolation out-channels us vs n pixel before after =
     (policy : ℕ) (background matte : Rgba)
-    → (0 ≡ totalled (λ (k : ℕ). keptMatte (at us k) (at vs k)) n)
-    × (after ≡ spanBytes (sourceBy image policy interpolation background matte) channels us vs n pixel before)
+    → (0 ≡ totalled (λ (k : ℕ). keptMattePixels (at us k) (at vs k)) n)
+    × (after ≡ spanBytes (sourceBy image policy interpolation background matte) out-channels us vs n pixel before)
 
 -- what the answer of a way that puts such spans alone says: true, it was one; false, nothing was put
 abbrev pub InnerOrUntouched : Bool → Image → ℕ → ℕ → List Float → List Float → ℕ → ℕ → List ℕ → List ℕ → Type 0
-InnerOrUntouched answer image interpolation channels us vs n pixel before after =
-    (answer ≡ true → Inner image interpolation channels us vs n pixel before after)
+InnerOrUntouched answer image interpolation out-channels us vs n pixel before after =
+    (answer ≡ true → Inner image interpolation out-channels us vs n pixel before after)
     × (answer ≡ false → after ≡ before)
 
 -- ---- row j, and then rows from `first` on, of a window of this width
 unfoldable pub rowBytes : Source → Mapped → ℕ → ℕ → ℕ → List ℕ
-rowBytes s f channels width j = joined (λ (i : ℕ). pixelBytes channels (colourAt s f i j)) width
+rowBytes s f out-channels out-width j = joined (λ (i : ℕ). pixelBytes out-channels (colourAt s f i j)) out-width
 
 unfoldable pub rowsBytes : Source → Mapped → ℕ → ℕ → ℕ → ℕ → List ℕ
-rowsBytes s f channels width first rows = joined (λ (r : ℕ). rowBytes s f channels width (first + r)) rows
+rowsBytes s f out-channels out-width first rows = joined
+    (λ (r : ℕ). rowBytes s f out-channels out-width (first + r)) rows
 
-unfoldable pub rowMatte : Mapped → ℕ → ℕ → ℕ
-rowMatte f width j = totalled (λ (i : ℕ). matteAt f i j) width
+unfoldable pub rowMattePixels : Mapped → ℕ → ℕ → ℕ
+rowMattePixels f out-width j = totalled (λ (i : ℕ). mattePixelsAt f i j) out-width
 
-unfoldable pub rowsMatte : Mapped → ℕ → ℕ → ℕ → ℕ
-rowsMatte f width first rows = totalled (λ (r : ℕ). rowMatte f width (first + r)) rows
+unfoldable pub rowsMattePixels : Mapped → ℕ → ℕ → ℕ → ℕ
+rowsMattePixels f out-width first rows = totalled (λ (r : ℕ). rowMattePixels f out-width (first + r)) rows

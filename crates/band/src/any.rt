@@ -5,7 +5,7 @@ ghost use Prim.Native.Nat.{ℕ, _+_, _*_, _≤_};
 ghost use lib.ListN.{length};
 ghost use Rattle.exact.specs.Vector as Vectors;
 ghost use Rattle.picture.specs.Pixel.{Shaped, Channels};
-ghost use Rattle.band.specs.Band.{sourced, spanBytes, keptMatte};
+ghost use Rattle.band.specs.Band.{sourced, spanBytes, keptMattePixels};
 ghost use Rattle.band.specs.Joined.{totalled};
 use crate::look::Look;
 use crate::pixel::store_one;
@@ -29,7 +29,7 @@ pub fn store_any(
     requires { ⌜ span .n ≤ 64 ⌝ }
     requires { ⌜ (span .pixel + span .n) * «out_channels» * 4 ≤ length (now band) ⌝ }
     ensures { λ r.
-        ⌜ (r ≡ totalled (λ (k : ℕ). keptMatte (Vectors.at (now (us .entry)) k) (Vectors.at (now (vs .entry)) k))
+        ⌜ (r ≡ totalled (λ (k : ℕ). keptMattePixels (Vectors.at (now (us .entry)) k) (Vectors.at (now (vs .entry)) k))
         (span .n))
         × (now (band .exit) ≡ spanBytes (sourced (now (picture .entry)) shape look) «out_channels» (now (us .entry))
         (now (vs .entry)) (span .n) (span .pixel) (now (band .entry))) ⌝ }

@@ -8,7 +8,7 @@ ghost use Rattle.picture.specs.Pixel.{Picture};
 ghost use Rattle.picture.specs.Store.{storePixel};
 ghost use Rattle.point.specs.Point as Points;
 ghost use Rattle.band.specs.Band as Band;
-ghost use Rattle.band.specs.Band.{sourceBy, keptColour, keptMatte};
+ghost use Rattle.band.specs.Band.{sourceBy, keptColour, keptMattePixels};
 ghost use Rattle.band.specs.Image.{imageOf};
 use picture::colour::Rgba;
 use picture::store::store_pixel;
@@ -50,7 +50,7 @@ fn shown(
 }
 
 // What a source point adds to the matte pixels.
-fn matte_of(p: Point) -> u64
+fn matte_pixels_of(p: Point) -> u64
     ensures { λ r. ⌜ r ≡ cond (p .usable) 0 1 ⌝ }
 {
     if p.usable { 0 } else { 1 }
@@ -76,7 +76,7 @@ pub fn store_one(
     requires { ⌜ Picture (now picture) width height channels ⌝ }
     requires { ⌜ (0 < «out_channels») × ((pixel * «out_channels» + «out_channels») * 4 ≤ length (now band)) ⌝ }
     ensures { λ r.
-        ⌜ (r ≡ keptMatte u v) × (now (band .exit) ≡ storePixel (now (band .entry)) «out_channels» pixel
+        ⌜ (r ≡ keptMattePixels u v) × (now (band .exit) ≡ storePixel (now (band .entry)) «out_channels» pixel
         (keptColour (sourceBy (imageOf (now (picture .entry)) width height channels) policy interpolation background
         matte) u v)) ⌝ }
 {
@@ -97,5 +97,5 @@ pub fn store_one(
             p,
         ),
     );
-    matte_of(p)
+    matte_pixels_of(p)
 }

@@ -11,7 +11,7 @@ use lib.Dec.{eqb}
 use lib.ListN.{length, length-append}
 use borrow.Author.Tests.{eqb-true}
 use Rattle.exact.proofs.Booleans.{both}
-use Rattle.distort.specs.Call.{outHeight, rowsOf, matteOf, answer, left}
+use Rattle.distort.specs.Call.{outHeight, rowsOf, mattePixelsOf, answer, left}
 use Rattle.distort.specs.Job.{Image, Call}
 use Rattle.distort.specs.Refusal.{refusal}
 use Rattle.distort.specs.declared.answer.Answer.{Answer}
@@ -74,7 +74,7 @@ module _ (first : Image) where
     whole = rowsOf (c .image) (c .given) 0 (outHeight (c .image) (c .given))
 
     abbrev count : ℕ
-    count = matteOf (c .image) (c .given) (c .first) (c .rows)
+    count = mattePixelsOf (c .image) (c .given) (c .first) (c .rows)
 
     warped-sound : (bytes : List ℕ) → bytes ≡ whole → Sound (warped s c bytes)
     warped-sound bytes is = record {

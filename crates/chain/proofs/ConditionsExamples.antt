@@ -15,7 +15,7 @@ use Rattle.exact.specs.Vector.{Vector}
 use Rattle.inverse.specs.Polynomial.{ofU, ofV}
 use Rattle.inverse.specs.Inverse.{inverse}
 use Rattle.chain.specs.ExactPoint.{monomialsF, powerAt, exactPoint}
-use Rattle.chain.specs.Conditions.{Terms, Meets, Faithful}
+use Rattle.chain.specs.Conditions.{TermsMeet, Meets, Faithful}
 use Rattle.chain.proofs.PointNear.{asked-near}
 
 abbrev one : Float
@@ -37,7 +37,7 @@ abbrev Y : Fraction
 Y = askedF 1 (pos 0)
 
 pub affine-meets : Meets 1 0 m X Y
-unfolding Terms exactPoint absF _*F_ _+F_
+unfolding TermsMeet exactPoint absF _*F_ _+F_
 affine-meets = record {
   terms = record {
     u = record {
@@ -62,7 +62,7 @@ affine-meets = record {
 }
 
 pub perspective-meets : Meets 2 0 m X Y
-unfolding Terms exactPoint absF _*F_ _+F_ _/F_
+unfolding TermsMeet exactPoint absF _*F_ _+F_ _/F_
 perspective-meets = record {
   terms = record {
     u = record {
@@ -107,7 +107,7 @@ four P a b c d (suc (suc (suc (suc k)))) h = absurd (past k h)
     past k h = omega arith
 
 pub polynomial-meets : Meets 3 0 m X Y
-unfolding Terms exactPoint absF _*F_ _+F_ monomialsF upTo turns
+unfolding TermsMeet exactPoint absF _*F_ _+F_ monomialsF upTo turns
 polynomial-meets = record {
   terms = (
     record {

@@ -12,7 +12,7 @@ use Rattle.exact.specs.Vector.{Vector, at}
 use Rattle.exact.proofs.Booleans.{both-pass}
 use Rattle.mappings.specs.declared.mapping.Fitted.{Fitted}
 use Rattle.inverse.specs.Polynomial.{ofU, ofV}
-use Rattle.chain.specs.Conditions.{Terms, Meets}
+use Rattle.chain.specs.Conditions.{TermsMeet, Meets}
 use Rattle.chain.specs.ExactPoint.{denominatorF, pushF, ofDegreeF, monomialsF, many, exactPoint}
 use Rattle.distort.specs.Job.{colourOf}
 use Rattle.policies.specs.Named.{transparentCode}
@@ -43,8 +43,8 @@ termwise (suc (suc (suc zero))) order m X Y =
     polynomially order X Y (ofU m) && polynomially order X Y (ofV m (many order X Y))
 termwise (suc (suc (suc (suc n)))) order m X Y = false
 
-terms : (kind order : ℕ) (m : Vector) (X Y : Fraction) → T (termwise kind order m X Y) → Terms kind order m X Y
-unfolding termwise Terms
+terms : (kind order : ℕ) (m : Vector) (X Y : Fraction) → T (termwise kind order m X Y) → TermsMeet kind order m X Y
+unfolding termwise TermsMeet
 terms zero order m X Y t = absurd t
 terms (suc zero) order m X Y t =
     let a = both-pass (linearly (at m 0) (at m 1) (at m 2) X Y (frac 16384 1)) _ t in

@@ -16,7 +16,7 @@ use Rattle.band.specs.Band.{rowBytes, rowsBytes}
 use Rattle.distort.specs.Call.{outWidth, outHeight, mappedOf, sourceOf, rowsOf, answer, left}
 use Rattle.distort.specs.Job.{Image, Given, Call}
 use Rattle.band.specs.Joined.{joined}
-use Rattle.distort.specs.Refusal.{channelsOf, refusal}
+use Rattle.distort.specs.Refusal.{outChannels, refusal}
 use Rattle.distort.specs.declared.answer.Answer.{Answer}
 use Rattle.band.proofs.LengthLaws.{row-length}
 use Rattle.distort.proofs.BandLaws.{rowLength}
@@ -94,7 +94,7 @@ held n cs e = all-held (λ (r : ℕ). anyHolds r cs) n
 
 -- ---- the rows of a job
 abbrev rowAt : Image → Given → ℕ → List ℕ
-rowAt p g r = rowBytes (sourceOf p g) (mappedOf p g) (channelsOf p g) (outWidth p g) r
+rowAt p g r = rowBytes (sourceOf p g) (mappedOf p g) (outChannels p g) (outWidth p g) r
 
 -- row r out of some rows from `first` on
 rows-at : (p : Image) (g : Given) (first rows r : ℕ) → first ≤ r → r < first + rows
@@ -104,7 +104,7 @@ rows-at p g first rows r h l =
     ap (λ (n : ℕ). take n (drop ((r - first) * rowLength p g) (joined (λ (k : ℕ). rowAt p g (first + k)) rows)))
     (sym (one-mul (rowLength p g)))
     ∙ joined-part (λ (k : ℕ). rowAt p g (first + k)) (rowLength p g)
-    (λ (k : ℕ). row-length (sourceOf p g) (mappedOf p g) (channelsOf p g) (outWidth p g) (first + k)) (r - first) 1
+    (λ (k : ℕ). row-length (sourceOf p g) (mappedOf p g) (outChannels p g) (outWidth p g) (first + k)) (r - first) 1
     rows (inside first rows r h l)
     ∙ joined-next (λ (k : ℕ). rowAt p g (first + (r - first + k))) 0
     ∙ ap (λ (xs : List ℕ). xs ++ rowAt p g (first + (r - first + 0)))

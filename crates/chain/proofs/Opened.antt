@@ -46,11 +46,12 @@ use Rattle.taps.specs.Weighted as Weighted
 use Rattle.band.specs.Band as Band
 use Rattle.band.specs.Joined as Joined
 use Rattle.distort.specs.Refusal as Refusal
-use Rattle.distort.specs.Call.{left, answer, rowsOf, matteOf}
+use Rattle.distort.specs.Call.{left, answer, rowsOf, mattePixelsOf}
 use Rattle.distort.specs.Refusal.{refusal}
 
 unfoldable pub opened : Unit {0}
-unfolding left answer matteOf Joined.totalled Band.rowMatte Band.rowsMatte rowsOf refusal Table.firstOf Refusal.badSize
+unfolding left answer mattePixelsOf Joined.totalled Band.rowMattePixels Band.rowsMattePixels rowsOf refusal
+    Table.firstOf Refusal.badSize
     Refusal.badSide Refusal.badChannels Refusal.badStock Refusal.badCode Method.present Arguments.badCount
     Arguments.badFor Arguments.badValues Refusal.badNumber Arguments.badArgument Loop.upTo Arguments.stillGood
     Arguments.goodNumber Magnitude.within Ieee.le Magnitude.abs Ieee.ofBits Bytes.numberAt Refusal.large

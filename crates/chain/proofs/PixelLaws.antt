@@ -38,7 +38,7 @@ use Rattle.window.specs.Window.{xOf, yOf}
 use Rattle.band.specs.Band.{pointAt, shown, colourAt}
 use Rattle.distort.specs.Call.{outWidth, outHeight, mappedOf, sourceOf}
 use Rattle.distort.specs.Job.{Image, Given, colourOf}
-use Rattle.distort.specs.Refusal.{fitOf, windowOf, widest, channelsOf}
+use Rattle.distort.specs.Refusal.{fitOf, windowOf, widest, outChannels}
 use Rattle.distort.proofs.SampleLaws.{part as component}
 use Rattle.distort.specs.declared.answer.Answer.{Answer}
 use Rattle.distort.specs.declared.answer.Answer.the-variants.{Accepted}
@@ -58,7 +58,7 @@ not-below : (x : Float) → x ≡ one → lt x one ≡ false
 not-below x e = subst (λ (z : Float). lt z one ≡ false) (sym e) closed
 
 pub channels-kept : (p : Image) (g : Given) → (p .channels ≡ 3) ⊎ (p .channels ≡ 4) → (g .policy ≡ transparentCode → ⊥)
-    → OpaqueColour (colourOf (g .background)) → channelsOf p g ≡ p .channels
+    → OpaqueColour (colourOf (g .background)) → outChannels p g ≡ p .channels
 unfolding widest
 channels-kept p g s f o = ⊎-elim (λ (e : p .channels ≡ 3). along 3 e refl) (λ (e : p .channels ≡ 4). along 4 e refl) s
   where
@@ -100,7 +100,7 @@ module _ (p : Image) (q : ExactImage) (n : ℕ) (F : Faithful p q n)
   oy = yOf (windowOf p g)
 
   abbrev answered : ℕ → Answer
-  answered count = Accepted (outWidth p g) (outHeight p g) ox oy (channelsOf p g) count
+  answered count = Accepted (outWidth p g) (outHeight p g) ox oy (outChannels p g) count
 
   module _ (i j : ℕ) (count : ℕ) where
     abbrev there : Fraction × Fraction

@@ -26,7 +26,7 @@ use Rattle.inverse.specs.Perspective.{perspective}
 use Rattle.inverse.specs.Polynomial.{dot, dots, ofU, ofV, polynomial}
 use Rattle.inverse.specs.Inverse.{inverse}
 use Rattle.chain.specs.ExactPoint.{sumU, sumV, powerAt, many, polyF, exactPoint}
-use Rattle.chain.specs.Conditions.{AffineTerms, PerspectiveTerms, PolyTerms, Terms, Meets, Faithful}
+use Rattle.chain.specs.Conditions.{AffineTerms, PerspectiveTerms, PolyTerms, TermsMeet, Meets, Faithful}
 use Rattle.point.proofs.UsableLaws.{usable-close}
 use Rattle.inverse.proofs.PolynomialLaws.{monomials-length, terms-few}
 use Rattle.chain.proofs.MonomialsNear.{alike-length, alike-at, alike-monomials}
@@ -84,7 +84,7 @@ module _ {x y : Float} {X Y : Fraction} (c : PixelCoordinate x X) (d : PixelCoor
   -- ---- by the kind
   pub point-near : (kind order count : ℕ) (m : Vector) → Meets kind order m X Y
       → Faithful (inverse kind order count m x y) (exactPoint kind order m X Y)
-  unfolding inverse exactPoint Terms
+  unfolding inverse exactPoint TermsMeet
   point-near zero order count m M = absurd (M .terms)
   point-near (suc zero) order count m M = affine-near m (M .terms) (M .u) (M .v)
   point-near (suc (suc zero)) order count m M = perspective-near m (M .terms) (M .u) (M .v)

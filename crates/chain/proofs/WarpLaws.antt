@@ -18,7 +18,7 @@ use Rattle.window.specs.Window.{xOf, yOf}
 use Rattle.band.specs.Band.{colourAt}
 use Rattle.distort.specs.Call.{outWidth, outHeight, mappedOf, sourceOf, rowsOf}
 use Rattle.distort.specs.Job.{Image, Given}
-use Rattle.distort.specs.Refusal.{windowOf, channelsOf}
+use Rattle.distort.specs.Refusal.{windowOf, outChannels}
 use Rattle.distort.specs.declared.answer.Answer.{Answer}
 use Rattle.distort.specs.declared.answer.Answer.the-variants.{Accepted}
 use Rattle.distort.proofs.AcceptedLaws.{AcceptedJob}
@@ -36,7 +36,7 @@ unit-of u = record { number = u .number; unit = u .unit }
 
 -- the answer of an accepted call, whose band has so many matte pixels
 abbrev pub answerOf : Image → Given → ℕ → Answer
-answerOf p g count = Accepted (outWidth p g) (outHeight p g) (xOf (windowOf p g)) (yOf (windowOf p g)) (channelsOf p g)
+answerOf p g count = Accepted (outWidth p g) (outHeight p g) (xOf (windowOf p g)) (yOf (windowOf p g)) (outChannels p g)
     count
 
 -- a warp that is lent the chain's picture
@@ -55,7 +55,7 @@ module _ (p : Image) (g : Given) (count : ℕ) (J : AcceptedJob p g) (C : Condit
   H = outHeight p g
 
   abbrev D : ℕ
-  D = channelsOf p g
+  D = outChannels p g
 
   abbrev bytes : List ℕ
   bytes = rowsOf p g 0 H

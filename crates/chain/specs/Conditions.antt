@@ -31,15 +31,16 @@ pub record PolyTerms (order : ℕ) (X Y : Fraction) (c : ℕ → Float) : Type 0
   pub size : (k : ℕ) → k < many order X Y → absF (powerAt order X Y k *F value (c k)) ≤F frac 16384 1
 
 -- by the kind: 1 affine, 2 perspective, 3 polynomial, and no other
-unfoldable pub Terms : ℕ → ℕ → Vector → Fraction → Fraction → Type 0
-Terms zero order m X Y = ⊥
-Terms (suc zero) order m X Y = AffineTerms m X Y
-Terms (suc (suc zero)) order m X Y = PerspectiveTerms m X Y
-Terms (suc (suc (suc zero))) order m X Y = PolyTerms order X Y (ofU m) × PolyTerms order X Y (ofV m (many order X Y))
-Terms (suc (suc (suc (suc n)))) order m X Y = ⊥
+unfoldable pub TermsMeet : ℕ → ℕ → Vector → Fraction → Fraction → Type 0
+TermsMeet zero order m X Y = ⊥
+TermsMeet (suc zero) order m X Y = AffineTerms m X Y
+TermsMeet (suc (suc zero)) order m X Y = PerspectiveTerms m X Y
+TermsMeet (suc (suc (suc zero))) order m X Y = PolyTerms order X Y (ofU m)
+    × PolyTerms order X Y (ofV m (many order X Y))
+TermsMeet (suc (suc (suc (suc n)))) order m X Y = ⊥
 
 pub record Meets (kind order : ℕ) (m : Vector) (X Y : Fraction) : Type 0 where
-  pub terms : Terms kind order m X Y
+  pub terms : TermsMeet kind order m X Y
   pub u : absF (exactPoint kind order m X Y .0) ≤F frac 16384 1
   pub v : absF (exactPoint kind order m X Y .1) ≤F frac 16384 1
 

@@ -53,23 +53,23 @@ alike c d = sameImage (c .image) (d .image) && sameGiven (c .given) (d .given)
 
 -- ---- what an answer says of the output; nothing, where the call is refused
 abbrev pub widthIn : Answer → ℕ
-widthIn (Accepted width height x y channels matte) = width
+widthIn (Accepted width height x y channels matte-pixels) = width
 widthIn (Refused number) = 0
 
 abbrev pub heightIn : Answer → ℕ
-heightIn (Accepted width height x y channels matte) = height
+heightIn (Accepted width height x y channels matte-pixels) = height
 heightIn (Refused number) = 0
 
 abbrev pub xIn : Answer → ℤ
-xIn (Accepted width height x y channels matte) = x
+xIn (Accepted width height x y channels matte-pixels) = x
 xIn (Refused number) = pos 0
 
 abbrev pub yIn : Answer → ℤ
-yIn (Accepted width height x y channels matte) = y
+yIn (Accepted width height x y channels matte-pixels) = y
 yIn (Refused number) = pos 0
 
 abbrev pub channelsIn : Answer → ℕ
-channelsIn (Accepted width height x y channels matte) = channels
+channelsIn (Accepted width height x y channels matte-pixels) = channels
 channelsIn (Refused number) = 0
 
 -- these bytes as the picture that the answer speaks of

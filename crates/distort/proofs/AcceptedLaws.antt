@@ -35,7 +35,7 @@ use Rattle.distort.specs.Refusal.{
   viewOf,
   windowOf,
   widest,
-  channelsOf,
+  outChannels,
   badSize,
   badStock,
   badCode,
@@ -157,7 +157,7 @@ pub record AcceptedJob (p : Image) (g : Given) : Type 0 where
   pub placed : windowOf p g ≡ Window (outWidth p g) (outHeight p g) (xOf (windowOf p g)) (yOf (windowOf p g))
   pub across : Side (xOf (windowOf p g)) (outWidth p g)
   pub down : Side (yOf (windowOf p g)) (outHeight p g)
-  pub out-channels : Channels (channelsOf p g)
+  pub out-channels : Channels (outChannels p g)
 
 module _ (p : Image) (g : Given) where
   -- the numbers of the rows of a job
@@ -215,7 +215,7 @@ module _ (p : Image) (g : Given) where
 pub record AcceptedCall (c : Call) : Type 0 where
   pub job : AcceptedJob (c .image) (c .given)
   pub rows : c .first + c .rows ≤ outHeight (c .image) (c .given)
-  pub band : length (c .band) ≡ c .rows * outWidth (c .image) (c .given) * channelsOf (c .image) (c .given) * 4
+  pub band : length (c .band) ≡ c .rows * outWidth (c .image) (c .given) * outChannels (c .image) (c .given) * 4
 
 module _ (c : Call) where
   -- where one of the rows 1 to 9 holds it is the call's, and else 10 and 11 are left

@@ -7,11 +7,11 @@ use Prim.Native.Nat.{ℕ, _+_, _*_, _≤_}
 use native.Mathlib.Nat.{add-assoc, zero-add}
 use native.Mathlib.Omega.{arith}
 use lib.ListN.{length, take, drop}
-use Rattle.band.specs.Band.{Mapped, Source, rowBytes, rowsBytes, rowMatte, rowsMatte}
-use Rattle.distort.specs.Call.{outWidth, mappedOf, sourceOf, rowsOf, matteOf, left}
+use Rattle.band.specs.Band.{Mapped, Source, rowBytes, rowsBytes, rowMattePixels, rowsMattePixels}
+use Rattle.distort.specs.Call.{outWidth, mappedOf, sourceOf, rowsOf, mattePixelsOf, left}
 use Rattle.distort.specs.Job.{Image, Given, Call}
 use Rattle.band.specs.Joined.{joined}
-use Rattle.distort.specs.Refusal.{channelsOf, refusal}
+use Rattle.distort.specs.Refusal.{outChannels, refusal}
 use Rattle.band.proofs.JoinedLaws.{joined-length, joined-part, joined-cut, joined-same, totalled-cut, totalled-same}
 use Rattle.band.proofs.LengthLaws.{row-length}
 use Rattle.distort.proofs.CallLaws.{left-accepted}
@@ -52,40 +52,41 @@ module _ (s : Source) (f : Mapped) (channels width : ℕ) where
       ∙ ap (λ (x : List ℕ). rowsBytes s f channels width first m ++ x) (moved first m n)
 
   matte-join : (first m n : ℕ)
-      → rowsMatte f width first (m + n) ≡ rowsMatte f width first m + rowsMatte f width (first + m) n
-  unfolding rowsMatte
+      → rowsMattePixels f width first (m + n) ≡ rowsMattePixels f width first m + rowsMattePixels f width (first + m) n
+  unfolding rowsMattePixels
   matte-join first m n =
-      totalled-cut (λ (r : ℕ). rowMatte f width (first + r)) m n
-      ∙ ap (λ (z : ℕ). rowsMatte f width first m + z)
-      (totalled-same (λ (r : ℕ). rowMatte f width (first + (m + r))) (λ (r : ℕ). rowMatte f width (first + m + r)) n
-      (λ k h. ap (rowMatte f width) (sym (add-assoc first m k))))
+      totalled-cut (λ (r : ℕ). rowMattePixels f width (first + r)) m n
+      ∙ ap (λ (z : ℕ). rowsMattePixels f width first m + z)
+      (totalled-same (λ (r : ℕ). rowMattePixels f width (first + (m + r)))
+      (λ (r : ℕ). rowMattePixels f width (first + m + r)) n
+      (λ k h. ap (rowMattePixels f width) (sym (add-assoc first m k))))
 
 -- ---- of a job
 module _ (p : Image) (g : Given) where
   -- the bytes of a row
   abbrev pub rowLength : ℕ
-  rowLength = outWidth p g * channelsOf p g * 4
+  rowLength = outWidth p g * outChannels p g * 4
 
-  pub rows-length : (first rows : ℕ) → length (rowsOf p g first rows) ≡ rows * outWidth p g * channelsOf p g * 4
+  pub rows-length : (first rows : ℕ) → length (rowsOf p g first rows) ≡ rows * outWidth p g * outChannels p g * 4
   unfolding rowsOf
-  rows-length first rows = bytes-length (sourceOf p g) (mappedOf p g) (channelsOf p g) (outWidth p g) first rows
+  rows-length first rows = bytes-length (sourceOf p g) (mappedOf p g) (outChannels p g) (outWidth p g) first rows
 
   -- rows r to r + k of the warp
   pub rows-part : (r k n : ℕ) → r + k ≤ n
       → take (k * rowLength) (drop (r * rowLength) (rowsOf p g 0 n)) ≡ rowsOf p g r k
   unfolding rowsOf
   rows-part r k n h =
-      bytes-part (sourceOf p g) (mappedOf p g) (channelsOf p g) (outWidth p g) 0 r k n h
-      ∙ ap (λ (m : ℕ). rowsBytes (sourceOf p g) (mappedOf p g) (channelsOf p g) (outWidth p g) m k) (zero-add r)
+      bytes-part (sourceOf p g) (mappedOf p g) (outChannels p g) (outWidth p g) 0 r k n h
+      ∙ ap (λ (m : ℕ). rowsBytes (sourceOf p g) (mappedOf p g) (outChannels p g) (outWidth p g) m k) (zero-add r)
 
   -- rows in two parts
   pub rows-join : (r k l : ℕ) → rowsOf p g r (k + l) ≡ rowsOf p g r k ++ rowsOf p g (r + k) l
   unfolding rowsOf
-  rows-join r k l = bytes-join (sourceOf p g) (mappedOf p g) (channelsOf p g) (outWidth p g) r k l
+  rows-join r k l = bytes-join (sourceOf p g) (mappedOf p g) (outChannels p g) (outWidth p g) r k l
 
-  pub mattes-add : (r k l : ℕ) → matteOf p g r (k + l) ≡ matteOf p g r k + matteOf p g (r + k) l
-  unfolding matteOf
-  mattes-add r k l = matte-join (sourceOf p g) (mappedOf p g) (channelsOf p g) (outWidth p g) r k l
+  pub mattes-add : (r k l : ℕ) → mattePixelsOf p g r (k + l) ≡ mattePixelsOf p g r k + mattePixelsOf p g (r + k) l
+  unfolding mattePixelsOf
+  mattes-add r k l = matte-join (sourceOf p g) (mappedOf p g) (outChannels p g) (outWidth p g) r k l
 
 -- ---- of calls: what an accepted call for some rows leaves are those rows of what the accepted call for all of them,
 -- from row 0 on, leaves

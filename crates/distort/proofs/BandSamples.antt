@@ -14,7 +14,7 @@ use Rattle.picture.specs.declared.colour.Rgba.{Rgba}
 use Rattle.band.specs.Band.{Mapped, Source, colourAt, pixelBytes, rowBytes, rowsBytes}
 use Rattle.distort.specs.Call.{outWidth, mappedOf, sourceOf, rowsOf}
 use Rattle.distort.specs.Job.{Image, Given}
-use Rattle.distort.specs.Refusal.{channelsOf}
+use Rattle.distort.specs.Refusal.{outChannels}
 use Rattle.band.proofs.LengthLaws.{row-length}
 use Rattle.band.proofs.PixelLaws.{pixel-length}
 use Rattle.distort.proofs.SampleLaws.{sample-joined, part, pixel-sample, pixel-grey, colour-of-fits, colour-fits}
@@ -140,20 +140,20 @@ module _ (p : Image) (g : Given) where
         (colour-of-fits (g .matte)) i j
 
     module _ (first rows i j : ℕ) (a : i < outWidth p g) (b : j < rows) where
-      pub sample-at : (channelsOf p g ≡ 3) ⊎ (channelsOf p g ≡ 4) → (k : ℕ) → k < channelsOf p g
-          → sampleAt (rowsOf p g first rows) ((j * outWidth p g + i) * channelsOf p g + k) ≡ part
+      pub sample-at : (outChannels p g ≡ 3) ⊎ (outChannels p g ≡ 4) → (k : ℕ) → k < outChannels p g
+          → sampleAt (rowsOf p g first rows) ((j * outWidth p g + i) * outChannels p g + k) ≡ part
           (colourOut i (first + j)) k
       unfolding rowsOf
-      sample-at C k c = band-part (sourceOf p g) (mappedOf p g) (channelsOf p g) (outWidth p g) first rows out-fits C i
+      sample-at C k c = band-part (sourceOf p g) (mappedOf p g) (outChannels p g) (outWidth p g) first rows out-fits C i
           j k a b c
 
-      pub grey-at : channelsOf p g ≡ 1
+      pub grey-at : outChannels p g ≡ 1
           → sampleAt (rowsOf p g first rows) (j * outWidth p g + i) ≡ luma (colourOut i (first + j))
       unfolding rowsOf
       grey-at e =
-          ap (sampleAt (rowsBytes (sourceOf p g) (mappedOf p g) (channelsOf p g) (outWidth p g) first rows))
-          (alone (j * outWidth p g + i) (channelsOf p g) e)
-          ∙ band-sample (sourceOf p g) (mappedOf p g) (channelsOf p g) (outWidth p g) first rows i j 0 a b
+          ap (sampleAt (rowsBytes (sourceOf p g) (mappedOf p g) (outChannels p g) (outWidth p g) first rows))
+          (alone (j * outWidth p g + i) (outChannels p g) e)
+          ∙ band-sample (sourceOf p g) (mappedOf p g) (outChannels p g) (outWidth p g) first rows i j 0 a b
           (subst (λ (n : ℕ). 0 < n) (sym e) (omega arith))
           ∙ ap (λ (n : ℕ). sampleAt (pixelBytes n (colourOut i (first + j))) 0) e
           ∙ pixel-grey (colourOut i (first + j))
@@ -162,17 +162,17 @@ module _ (p : Image) (g : Given) where
           alone n c e = sym (ap (λ (z : ℕ). n * z + 0) e ∙ (omega arith))
 
       -- the pixel read back is the colour
-      pub pixel-back : (channelsOf p g ≡ 3) ⊎ (channelsOf p g ≡ 4)
-          → (channelsOf p g ≡ 3 → colourOut i (first + j) .a ≡ one)
-          → pixelAt (rowsOf p g first rows) (outWidth p g) (channelsOf p g) i j ≡ colourOut i (first + j)
+      pub pixel-back : (outChannels p g ≡ 3) ⊎ (outChannels p g ≡ 4)
+          → (outChannels p g ≡ 3 → colourOut i (first + j) .a ≡ one)
+          → pixelAt (rowsOf p g first rows) (outWidth p g) (outChannels p g) i j ≡ colourOut i (first + j)
       unfolding rowsOf
       pixel-back C o = band-back (sourceOf p g) (mappedOf p g) (outWidth p g) first rows out-fits i j a b
-          (channelsOf p g) C o
+          (outChannels p g) C o
 
     -- whatever holds of every component of every pixel's colour holds of every sample
-    pub samples-all : (first rows : ℕ) → (channelsOf p g ≡ 3) ⊎ (channelsOf p g ≡ 4) → (Q : Float → Type 0)
-        → ((i j k : ℕ) → i < outWidth p g → j < rows → k < channelsOf p g → Q (part (colourOut i (first + j)) k))
-        → (n : ℕ) → n < rows * outWidth p g * channelsOf p g → Q (sampleAt (rowsOf p g first rows) n)
+    pub samples-all : (first rows : ℕ) → (outChannels p g ≡ 3) ⊎ (outChannels p g ≡ 4) → (Q : Float → Type 0)
+        → ((i j k : ℕ) → i < outWidth p g → j < rows → k < outChannels p g → Q (part (colourOut i (first + j)) k))
+        → (n : ℕ) → n < rows * outWidth p g * outChannels p g → Q (sampleAt (rowsOf p g first rows) n)
     unfolding rowsOf
     samples-all first rows C Q h n l =
-        band-all (sourceOf p g) (mappedOf p g) (channelsOf p g) (outWidth p g) first rows out-fits C Q h n l
+        band-all (sourceOf p g) (mappedOf p g) (outChannels p g) (outWidth p g) first rows out-fits C Q h n l

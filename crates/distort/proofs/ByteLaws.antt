@@ -14,7 +14,7 @@ use Rattle.band.specs.Band.{colourAt, pixelBytes, rowBytes, rowsBytes}
 use Rattle.distort.specs.Call.{outWidth, mappedOf, sourceOf, rowsOf}
 use Rattle.distort.specs.Job.{Image, Given}
 use Rattle.band.specs.Joined.{joined}
-use Rattle.distort.specs.Refusal.{channelsOf}
+use Rattle.distort.specs.Refusal.{outChannels}
 use Rattle.band.proofs.PixelLaws.{Channels, digits, sampleBytes, rgbBytes, bytes-one, bytes-three, bytes-four}
 
 abbrev pub Bytes : List ℕ → Type 0
@@ -59,9 +59,9 @@ pixel-bytes channels (inr (inr e)) c =
     (subst Bytes (sym (bytes-four c))
     (both-bytes (rgbBytes c) (sampleBytes (c .a)) (rgb-bytes c) (sample-bytes (c .a))))
 
-pub rows-bytes : (p : Image) (g : Given) → Channels (channelsOf p g) → (first rows : ℕ) → Bytes (rowsOf p g first rows)
+pub rows-bytes : (p : Image) (g : Given) → Channels (outChannels p g) → (first rows : ℕ) → Bytes (rowsOf p g first rows)
 unfolding rowsOf rowsBytes rowBytes
 rows-bytes p g C first rows =
-    joined-bytes (λ (r : ℕ). rowBytes (sourceOf p g) (mappedOf p g) (channelsOf p g) (outWidth p g) (first + r))
-    (λ r. joined-bytes (λ (i : ℕ). pixelBytes (channelsOf p g) (colourAt (sourceOf p g) (mappedOf p g) i (first + r)))
-    (λ i. pixel-bytes (channelsOf p g) C (colourAt (sourceOf p g) (mappedOf p g) i (first + r))) (outWidth p g)) rows
+    joined-bytes (λ (r : ℕ). rowBytes (sourceOf p g) (mappedOf p g) (outChannels p g) (outWidth p g) (first + r))
+    (λ r. joined-bytes (λ (i : ℕ). pixelBytes (outChannels p g) (colourAt (sourceOf p g) (mappedOf p g) i (first + r)))
+    (λ i. pixel-bytes (outChannels p g) C (colourAt (sourceOf p g) (mappedOf p g) i (first + r))) (outWidth p g)) rows

@@ -11,10 +11,20 @@ use Rattle.exact.proofs.TableLaws.{row-holds, row-passed, no-rows}
 use Rattle.window.specs.Window.{xOf, yOf}
 use Rattle.distort.specs.declared.answer.Answer.{Answer}
 use Rattle.distort.specs.declared.answer.Answer.the-variants.{Accepted, Refused}
-use Rattle.distort.specs.Call.{outWidth, outHeight, mappedOf, sourceOf, rowsOf, matteOf, answer, left, numberOf}
+use Rattle.distort.specs.Call.{
+  outWidth,
+  outHeight,
+  mappedOf,
+  sourceOf,
+  rowsOf,
+  mattePixelsOf,
+  answer,
+  left,
+  numberOf,
+}
 use Rattle.distort.specs.Job.{Call}
 use Rattle.distort.specs.Placed.{inWindow}
-use Rattle.distort.specs.Refusal.{windowOf, channelsOf, badRows, badTray, jobRefusal, refusal}
+use Rattle.distort.specs.Refusal.{windowOf, outChannels, badRows, badTray, jobRefusal, refusal}
 use Rattle.distort.proofs.AcceptedLaws.{rows-call}
 
 pair : {A B : Type 0} {a c : A} {b d : B} → a ≡ c → b ≡ d → _≡_ {A = A × B} (a, b) (c, d)
@@ -26,7 +36,7 @@ module _ (c : Call) where
   size =
       Accepted (outWidth (c .image) (c .given)) (outHeight (c .image) (c .given))
       (xOf (windowOf (c .image) (c .given))) (yOf (windowOf (c .image) (c .given)))
-      (channelsOf (c .image) (c .given)) (matteOf (c .image) (c .given) (c .first) (c .rows))
+      (outChannels (c .image) (c .given)) (mattePixelsOf (c .image) (c .given) (c .first) (c .rows))
 
   -- the answer and the band of this call
   abbrev pub done : Answer × List ℕ
@@ -72,10 +82,10 @@ module _ (c : Call) where
       (record {
         width = outWidth (c .image) (c .given);
         height = outHeight (c .image) (c .given);
-        channels = channelsOf (c .image) (c .given);
+        channels = outChannels (c .image) (c .given);
       })
       (record { first = c .first; count = c .rows }) (c .band) ≡ done
-  unfolding inWindow badRows badTray rowsOf matteOf
+  unfolding inWindow badRows badTray rowsOf mattePixelsOf
   placed-answer j = go (badRows c) (badTray c) refl refl
     where
       go : (a b : Bool) → badRows c ≡ a → badTray c ≡ b

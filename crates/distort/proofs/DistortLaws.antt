@@ -33,7 +33,7 @@ use Rattle.distort.specs.Refusal.{
   viewOf,
   windowOf,
   widest,
-  channelsOf,
+  outChannels,
   degenerate,
   badWindow,
   large,
@@ -148,15 +148,15 @@ module _ (c : Call) where
               eight a b = omega arith
 
           -- ---- 9, and the window
-          at-window : windowed (windowOf p g) (sourceOf p g) m (channelsOf p g) asked (c .band) ≡ done c
+          at-window : windowed (windowOf p g) (sourceOf p g) m (outChannels p g) asked (c .band) ≡ done c
           unfolding windowed badWindow
           at-window = go (windowOf p g) refl
             where
               go : (w : Placed) → windowOf p g ≡ w
-                  → windowed w (sourceOf p g) m (channelsOf p g) asked (c .band) ≡ done c
+                  → windowed w (sourceOf p g) m (outChannels p g) asked (c .band) ≡ done c
               go (Window w h x y) e =
                   (λ i. inWindow (sourceOf p g) (mapped m (xOf (sym e i)) (yOf (sym e i)))
-                  (record { width = widthOf (sym e i); height = heightOf (sym e i); channels = channelsOf p g }) asked
+                  (record { width = widthOf (sym e i); height = heightOf (sym e i); channels = outChannels p g }) asked
                   (c .band))
                   ∙ placed-answer c (window-left
                   ∙ sym (row-passed 9 _ _ (ap (λ (q : Placed). eqb (refusalOf q) 9) e) no-rows))

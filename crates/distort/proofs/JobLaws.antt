@@ -12,7 +12,7 @@ use lib.ListN.{length}
 use Rattle.exact.specs.Table.{firstOf}
 use Rattle.exact.proofs.TableLaws.{row-passed, no-rows}
 use Rattle.distort.specs.Job.{Image, Given, Call}
-use Rattle.distort.specs.Refusal.{channelsOf, badRows, badTray, jobRefusal, refusal}
+use Rattle.distort.specs.Refusal.{outChannels, badRows, badTray, jobRefusal, refusal}
 use Rattle.distort.specs.Call.{outWidth, outHeight}
 use Rattle.distort.proofs.AcceptedLaws.{job-call, rows-call, job-of-call}
 
@@ -66,7 +66,7 @@ module _ (c d : Call) (pictures : c .image ≡ d .image) (gifts : c .given ≡ d
 
 -- ---- rows and band that are fit
 pub fitting : (c : Call) → c .first + c .rows ≤ outHeight (c .image) (c .given)
-    → length (c .band) ≡ c .rows * outWidth (c .image) (c .given) * channelsOf (c .image) (c .given) * 4
+    → length (c .band) ≡ c .rows * outWidth (c .image) (c .given) * outChannels (c .image) (c .given) * 4
     → refusal c ≡ jobRefusal (c .image) (c .given)
 fitting c h e = go (jobRefusal (c .image) (c .given)) refl
   where
@@ -89,7 +89,7 @@ module _ (p : Image) (g : Given) where
   abbrev pub asking : ℕ → Call
   asking first = record { image = p; given = g; first = first; rows = 0; band = [] }
 
-  pub whole-refusal : (band : List ℕ) → length band ≡ outHeight p g * outWidth p g * channelsOf p g * 4
+  pub whole-refusal : (band : List ℕ) → length band ≡ outHeight p g * outWidth p g * outChannels p g * 4
       → refusal (whole band) ≡ jobRefusal p g
   whole-refusal band e = fitting (whole band) (omega arith) e
 
@@ -97,6 +97,6 @@ module _ (p : Image) (g : Given) where
   asking-refusal first h = fitting (asking first) (omega arith) (omega arith)
 
   -- so that who asks for the size learns whether the whole is accepted, and if not why
-  pub asked-whole : (band : List ℕ) → length band ≡ outHeight p g * outWidth p g * channelsOf p g * 4
+  pub asked-whole : (band : List ℕ) → length band ≡ outHeight p g * outWidth p g * outChannels p g * 4
       → refusal (asking 0) ≡ refusal (whole band)
   asked-whole band e = asking-refusal 0 (omega arith) ∙ sym (whole-refusal band e)

@@ -16,7 +16,7 @@ use Rattle.window.specs.declared.window.Placed.the-variants as Placed
 use Rattle.window.proofs.WindowLaws.{Side, Limits, window-limits}
 use Rattle.distort.specs.declared.answer.Answer.{Answer}
 use Rattle.distort.specs.declared.answer.Answer.the-variants.{Accepted, Refused}
-use Rattle.band.specs.Band.{Mapped, Source, framed, mapped, rowsBytes, rowsMatte}
+use Rattle.band.specs.Band.{Mapped, Source, framed, mapped, rowsBytes, rowsMattePixels}
 use Rattle.band.specs.declared.rows.Rows.{Rows}
 use Rattle.inverse.specs.Frame.{frameOf}
 use Rattle.inverse.specs.declared.frame.Frame.{Frame}
@@ -44,7 +44,7 @@ module _ (s : Source) (f : Mapped) (out : Shape) (rows : Rows) (band : List ℕ)
   abbrev accepted : Answer × List ℕ
   accepted = (
     Accepted (out .width) (out .height) (f .x) (f .y) (out .channels)
-        (rowsMatte f (out .width) (rows .first) (rows .count)),
+        (rowsMattePixels f (out .width) (rows .first) (rows .count)),
     rowsBytes s f (out .channels) (out .width) (rows .first) (rows .count),
   )
 
@@ -68,7 +68,7 @@ module _ (s : Source) (f : Mapped) (out : Shape) (rows : Rows) (band : List ℕ)
 
     -- the rows worked
     pub worked : u ≡ false → {x y : ℤ} {m : ℕ} {written : List ℕ} → x ≡ f .x → y ≡ f .y
-        → m ≡ rowsMatte f (out .width) (rows .first) (rows .count)
+        → m ≡ rowsMattePixels f (out .width) (rows .first) (rows .count)
         → written ≡ rowsBytes s f (out .channels) (out .width) (rows .first) (rows .count)
         → _≡_ {A = Answer × List ℕ} (Accepted (out .width) (out .height) x y (out .channels) m, written)
         (inWindow s f out rows band)

@@ -9,9 +9,9 @@ use native.Mathlib.Omega.{arith}
 use lib.ListN.{length, take, drop}
 use Rattle.distort.specs.declared.answer.Answer.{Answer}
 use Rattle.distort.specs.declared.answer.Answer.the-variants.{Accepted, Refused}
-use Rattle.distort.specs.Call.{outWidth, outHeight, matteOf, answer, left}
+use Rattle.distort.specs.Call.{outWidth, outHeight, mattePixelsOf, answer, left}
 use Rattle.distort.specs.Job.{Call}
-use Rattle.distort.specs.Refusal.{channelsOf, refusal}
+use Rattle.distort.specs.Refusal.{outChannels, refusal}
 use Rattle.distort.proofs.AcceptedLaws.{job-of-call, accepted-call}
 use Rattle.distort.proofs.BandLaws.{rowLength, mattes-add, left-part}
 use Rattle.distort.proofs.CallLaws.{size, answer-accepted}
@@ -29,7 +29,7 @@ module _ (c : Call) where
 
   -- how many bytes that band is to have
   abbrev pub warpLength : ℕ
-  warpLength = outHeight (c .image) (c .given) * outWidth (c .image) (c .given) * channelsOf (c .image) (c .given) * 4
+  warpLength = outHeight (c .image) (c .given) * outWidth (c .image) (c .given) * outChannels (c .image) (c .given) * 4
 
   -- the rows that c asks for, out of the bytes of all
   abbrev pub rowsIn : List ℕ → List ℕ
@@ -38,21 +38,21 @@ module _ (c : Call) where
 
   -- the matte pixels of the rows above them, of them, and of the rows below
   abbrev pub above : ℕ
-  above = matteOf (c .image) (c .given) 0 (c .first)
+  above = mattePixelsOf (c .image) (c .given) 0 (c .first)
 
   abbrev pub own : ℕ
-  own = matteOf (c .image) (c .given) (c .first) (c .rows)
+  own = mattePixelsOf (c .image) (c .given) (c .first) (c .rows)
 
   abbrev pub below : ℕ
   below =
-      matteOf (c .image) (c .given) (c .first + c .rows) (outHeight (c .image) (c .given) - (c .first + c .rows))
+      mattePixelsOf (c .image) (c .given) (c .first + c .rows) (outHeight (c .image) (c .given) - (c .first + c .rows))
 
   all-mattes : c .first + c .rows ≤ outHeight (c .image) (c .given)
-      → matteOf (c .image) (c .given) 0 (outHeight (c .image) (c .given)) ≡ above + (own + below)
+      → mattePixelsOf (c .image) (c .given) 0 (outHeight (c .image) (c .given)) ≡ above + (own + below)
   all-mattes h =
-      ap (matteOf (c .image) (c .given) 0) (cut (c .first) (c .rows) (outHeight (c .image) (c .given)) h)
+      ap (mattePixelsOf (c .image) (c .given) 0) (cut (c .first) (c .rows) (outHeight (c .image) (c .given)) h)
       ∙ mattes-add (c .image) (c .given) 0 (c .first) rest
-      ∙ ap (λ (r : ℕ). above + matteOf (c .image) (c .given) r rest) (zero-add (c .first))
+      ∙ ap (λ (r : ℕ). above + mattePixelsOf (c .image) (c .given) r rest) (zero-add (c .first))
       ∙ ap (λ (n : ℕ). above + n) (mattes-add (c .image) (c .given) (c .first) (c .rows) _)
     where
       rest : ℕ

@@ -9,9 +9,9 @@ use Rattle.endian.specs.Bytes.{storeU64, storeI64}
 use Rattle.window.specs.Window.{widthOf, heightOf, xOf, yOf}
 use Rattle.distort.specs.declared.answer.Answer.{Answer}
 use Rattle.distort.specs.declared.answer.Answer.the-variants.{Accepted, Refused}
-use Rattle.band.specs.Band.{Mapped, Source, mapped, rowsBytes, rowsMatte}
+use Rattle.band.specs.Band.{Mapped, Source, mapped, rowsBytes, rowsMattePixels}
 use Rattle.distort.specs.Job.{Image, Given, Call, colourOf}
-use Rattle.distort.specs.Refusal.{fitOf, windowOf, channelsOf, refusal}
+use Rattle.distort.specs.Refusal.{fitOf, windowOf, outChannels, refusal}
 
 -- ---- the output of a job
 abbrev pub outWidth : Image → Given → ℕ
@@ -34,18 +34,18 @@ sourceOf p g = record {
 
 -- the bytes of its rows from `first` on
 unfoldable pub rowsOf : Image → Given → ℕ → ℕ → List ℕ
-rowsOf p g first rows = rowsBytes (sourceOf p g) (mappedOf p g) (channelsOf p g) (outWidth p g) first rows
+rowsOf p g first rows = rowsBytes (sourceOf p g) (mappedOf p g) (outChannels p g) (outWidth p g) first rows
 
-unfoldable pub matteOf : Image → Given → ℕ → ℕ → ℕ
-matteOf p g first rows = rowsMatte (mappedOf p g) (outWidth p g) first rows
+unfoldable pub mattePixelsOf : Image → Given → ℕ → ℕ → ℕ
+mattePixelsOf p g first rows = rowsMattePixels (mappedOf p g) (outWidth p g) first rows
 
 -- ---- the call
 unfoldable pub answer : Call → Answer
 answer c =
     cond (eqb (refusal c) 0)
     (Accepted (outWidth (c .image) (c .given)) (outHeight (c .image) (c .given)) (xOf (windowOf (c .image) (c .given)))
-    (yOf (windowOf (c .image) (c .given))) (channelsOf (c .image) (c .given))
-    (matteOf (c .image) (c .given) (c .first) (c .rows)))
+    (yOf (windowOf (c .image) (c .given))) (outChannels (c .image) (c .given))
+    (mattePixelsOf (c .image) (c .given) (c .first) (c .rows)))
     (Refused (refusal c))
 
 -- the band's bytes afterwards
@@ -54,11 +54,12 @@ left c = cond (eqb (refusal c) 0) (rowsOf (c .image) (c .given) (c .first) (c .r
 
 -- ---- the number and the values of each answer (specification 1.1); 0 is no refusal
 abbrev pub numberOf : Answer → ℕ
-numberOf (Accepted width height x y channels matte) = 0
+numberOf (Accepted width height x y channels matte-pixels) = 0
 numberOf (Refused number) = number
 
 -- in the bytes lent for them
 abbrev pub storeAnswer : Answer → List ℕ → List ℕ
-storeAnswer (Accepted width height x y channels matte) out =
-    storeU64 (storeU64 (storeI64 (storeI64 (storeU64 (storeU64 out 0 width) 8 height) 16 x) 24 y) 32 channels) 40 matte
+storeAnswer (Accepted width height x y channels matte-pixels) out =
+    storeU64 (storeU64 (storeI64 (storeI64 (storeU64 (storeU64 out 0 width) 8 height) 16 x) 24 y) 32 channels) 40
+    matte-pixels
 storeAnswer (Refused number) out = out

@@ -10,7 +10,7 @@ use Rattle.window.specs.declared.window.Placed.the-variants.{Window}
 use Rattle.window.specs.declared.window.Placed.the-variants as Placed
 use Rattle.distort.specs.declared.answer.Answer.{Answer}
 use Rattle.distort.specs.declared.answer.Answer.the-variants.{Accepted, Refused}
-use Rattle.band.specs.Band.{Mapped, Source, mapped, rowsBytes, rowsMatte}
+use Rattle.band.specs.Band.{Mapped, Source, mapped, rowsBytes, rowsMattePixels}
 use Rattle.band.specs.declared.rows.Rows.{Rows}
 use Rattle.mappings.specs.declared.mapping.Mapping.{Mapping}
 use Rattle.picture.specs.declared.shape.Shape.{Shape}
@@ -21,7 +21,7 @@ inWindow s f out rows band =
     cond (ltb (out .height) (rows .first + rows .count)) (Refused 10, band)
     (cond (not (eqb (length band) (rows .count * out .width * out .channels * 4))) (Refused 11, band) (
       Accepted (out .width) (out .height) (f .x) (f .y) (out .channels)
-          (rowsMatte f (out .width) (rows .first) (rows .count)),
+          (rowsMattePixels f (out .width) (rows .first) (rows .count)),
       rowsBytes s f (out .channels) (out .width) (rows .first) (rows .count),
     ))
 

@@ -46,8 +46,8 @@ unfoldable pub widest : ℕ → ℕ → Rgba → ℕ
 widest channels policy background =
     cond (eqb channels 4 || (eqb policy transparentCode || lt (background .a) one)) 4 channels
 
-abbrev pub channelsOf : Image → Given → ℕ
-channelsOf p g = widest (p .channels) (g .policy) (colourOf (g .background))
+abbrev pub outChannels : Image → Given → ℕ
+outChannels p g = widest (p .channels) (g .policy) (colourOf (g .background))
 
 -- ---- 1, size, and 2, stock: `badSize` and `badStock` of picture/specs/Size
 
@@ -77,7 +77,7 @@ badRows c = ltb (heightOf (windowOf (c .image) (c .given))) (c .first + c .rows)
 -- ---- 11, tray: the band's length is not rows × output width × output channels samples of four bytes
 unfoldable pub badTray : Call → Bool
 badTray c = not (eqb (length (c .band))
-    (c .rows * widthOf (windowOf (c .image) (c .given)) * channelsOf (c .image) (c .given) * 4))
+    (c .rows * widthOf (windowOf (c .image) (c .given)) * outChannels (c .image) (c .given) * 4))
 
 -- ---- the table
 abbrev pub ofJob : Image → Given → List (ℕ × Bool) → List (ℕ × Bool)

@@ -13,7 +13,7 @@ pub enum Answer {
         x: i64,
         y: i64,
         channels: u64,
-        matte: u64,
+        matte_pixels: u64,
     },
     Refused(u64),
 }
@@ -29,14 +29,14 @@ pub fn store_answer(answer: Answer, out: &mut [u8; 48]) -> u64
             x,
             y,
             channels,
-            matte,
+            matte_pixels,
         } => {
             store_u64(out, 0, width);
             store_u64(out, 8, height);
             store_i64(out, 16, x);
             store_i64(out, 24, y);
             store_u64(out, 32, channels);
-            store_u64(out, 40, matte);
+            store_u64(out, 40, matte_pixels);
             0
         }
         Answer::Refused(number) => number,

@@ -60,7 +60,7 @@ fn in_window(
         x: frame.x,
         y: frame.y,
         channels: out.channels,
-        matte: matte_pixels,
+        matte_pixels,
     }
 }
 

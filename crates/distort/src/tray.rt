@@ -23,19 +23,19 @@ pub fn widest(channels: u64, policy: u64, background: Rgba) -> u64
 }
 
 // 10, rows. The sum of both could wrap, so it is not made.
-pub fn bad_rows(height: u64, first_row: u64, rows: u64) -> bool
-    ensures { λ r. ⌜ r ≡ ltb height («first_row» + rows) ⌝ }
+pub fn bad_rows(out_height: u64, first_row: u64, rows: u64) -> bool
+    ensures { λ r. ⌜ r ≡ ltb «out_height» («first_row» + rows) ⌝ }
 {
-    if height < first_row {
+    if out_height < first_row {
         return true;
     }
-    height - first_row < rows
+    out_height - first_row < rows
 }
 
 // 11, tray.
-pub fn bad_tray(length: usize, rows: u64, width: u64, channels: u64) -> bool
-    requires { ⌜ (rows ≤ 4096) × ((width ≤ 4096) × (channels ≤ 4)) ⌝ }
-    ensures { λ r. ⌜ r ≡ not (eqb length (rows * width * channels * 4)) ⌝ }
+pub fn bad_tray(length: usize, rows: u64, out_width: u64, out_channels: u64) -> bool
+    requires { ⌜ (rows ≤ 4096) × ((«out_width» ≤ 4096) × («out_channels» ≤ 4)) ⌝ }
+    ensures { λ r. ⌜ r ≡ not (eqb length (rows * «out_width» * «out_channels» * 4)) ⌝ }
 {
-    length as u64 != rows * width * channels * 4
+    length as u64 != rows * out_width * out_channels * 4
 }

@@ -14,14 +14,14 @@ use lib.ListN.{getD, length, set, length-set}
 use lib.Seq.{getD-set-same, getD-set-other}
 use lib.Ieee.{Float, nan}
 use lib.Ieee.Bits.{is-true}
-use Rattle.exact.specs.Double.{_⊖_}
+use Rattle.exact.specs.Double.{_⊖_, usableLimit}
 use Rattle.exact.specs.Warp.{half}
 use Rattle.exact.proofs.Booleans.{both}
 use Rattle.number.specs.Floor.{floorℤ}
 use Rattle.number.specs.Magnitude.{within}
 use Rattle.number.proofs.FloorLaws.{floor-integer}
 use Rattle.point.specs.declared.point.Point.{Point}
-use Rattle.point.specs.Point.{limit, usable, point, Whole}
+use Rattle.point.specs.Point.{usable, point, Whole}
 use Rattle.taps.specs.Cell as Taps
 use Rattle.taps.proofs.CellFloor.{usable-reached}
 use Rattle.fast_cells.specs.Cells.{CellOf, Cells}
@@ -50,16 +50,17 @@ module _ (reach : ℕ) (R : reach ≤ 65536) (u : Float) where
 
 -- ---- a point
 -- the mark of a point whose coordinates can be used
-pub marked : (p : Point) → Whole p → T (within limit (p .u)) → T (within limit (p .v)) → p .usable ≡ true
+pub marked : (p : Point) → Whole p → T (within usableLimit (p .u)) → T (within usableLimit (p .v)) → p .usable ≡ true
 unfolding usable
 marked p w a b =
     ap (λ (q : Point). q .usable) (w .whole)
-    ∙ ap (λ (t : Bool). t && within limit (p .v)) (is-true (within limit (p .u)) a)
-    ∙ is-true (within limit (p .v)) b
+    ∙ ap (λ (t : Bool). t && within usableLimit (p .v)) (is-true (within usableLimit (p .u)) a)
+    ∙ is-true (within usableLimit (p .v)) b
 
 -- a point of which both coordinates pass: what each test tells, and the mark
-pub of-both : {P Q : Type 0} (p : Point) → Whole p → {a b s t : Bool} → a ≡ s → b ≡ t → (P → T (within limit (p .u)))
-    → (Q → T (within limit (p .v))) → (a ≡ true → P) → (b ≡ true → Q)
+pub of-both : {P Q : Type 0} (p : Point) → Whole p → {a b s t : Bool} → a ≡ s → b ≡ t
+    → (P → T (within usableLimit (p .u)))
+    → (Q → T (within usableLimit (p .v))) → (a ≡ true → P) → (b ≡ true → Q)
     → ((a && b) ≡ (s && t)) × (((a && b) ≡ true → p .usable ≡ true) × ((a && b) ≡ true → P × Q))
 of-both p w {a} {b} i j f g P Q = (
   rw (i, j),

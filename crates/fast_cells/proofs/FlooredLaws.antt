@@ -20,13 +20,13 @@ use lib.IntN.{ℤ, pos}
 use lib.Ieee.{Float, nan, inf, fin, binary64, up, down, le, ofBits}
 use lib.Ieee.Exact.{HasValue}
 use lib.Ieee.Fits.{up-pos, down-pos}
+use Rattle.exact.specs.Double.{usableLimit}
 use Rattle.exact.proofs.Nan.{zero-bits}
 use Rattle.exact.proofs.Order.{le-values, sizes-order}
 use Rattle.exact.proofs.Value.{rescale}
 use Rattle.number.specs.Floor.{floorℤ, inDomain, isZero}
 use Rattle.number.specs.Magnitude.{abs, within}
 use Rattle.number.proofs.FloorValue.{floor-none}
-use Rattle.point.specs.Point.{limit}
 use Rattle.fast_cells.specs.Inner.{nought, under, Low}
 use Rattle.fast_cells.proofs.OrderLaws.{above, under-is, under-digits, under-finite}
 
@@ -42,14 +42,15 @@ zero-digits m e l = none (m * up e)
     none : (a : ℕ) → a + 0 ≤ 0 → a ≡ 0
     none a h = omega arith
 
-limit-value : HasValue limit false 1073741824 1
+limit-value : HasValue usableLimit false 1073741824 1
 limit-value = unfold ofBits in (refl, refl)
 
-pub within-is : (s : Bool) (m : ℕ) (e : ℤ) → m * up e ≤ 1073741824 * down e → T (within limit (fin s m e))
+pub within-is : (s : Bool) (m : ℕ) (e : ℤ) → m * up e ≤ 1073741824 * down e → T (within usableLimit (fin s m e))
 within-is s m e h =
     unfold within abs in
-    subst T (sym (sizes-order (fin false m e) limit (m * up e) (1073741824 * down e) (down e) (down-pos e) (refl, refl)
-    (rescale limit false 1073741824 1 (1073741824 * down e) (down e) (zero-lt-suc 0)
+    subst T (sym (sizes-order (fin false m e) usableLimit (m * up e) (1073741824 * down e) (down e) (down-pos e)
+    (refl, refl)
+    (rescale usableLimit false 1073741824 1 (1073741824 * down e) (down e) (zero-lt-suc 0)
     (sym (mul-one (1073741824 * down e))) limit-value)))
     (le→leb (m * up e) (1073741824 * down e) h)
 

@@ -9,11 +9,10 @@ use lib.Dec.{T, lit≤}
 use lib.IntN.{ℤ}
 use lib.Ieee.{Float, inf, fin, binary64, up, down, sub, le, ofBits, fits}
 use lib.Ieee.Fits.{down-pos, sub-fits, and-l, and-r}
-use Rattle.exact.specs.Double.{_⊖_}
+use Rattle.exact.specs.Double.{_⊖_, usableLimit}
 use Rattle.exact.specs.Warp.{half}
 use Rattle.exact.proofs.Naturals.{lt-or-le}
 use Rattle.number.specs.Magnitude.{within}
-use Rattle.point.specs.Point.{limit}
 use Rattle.fast_cells.specs.Inner.{nought, under, hasCell, Low, Parted}
 use Rattle.fast_cells.proofs.OrderLaws.{Above, above, under-finite}
 use Rattle.fast_cells.proofs.HalfLaws.{
@@ -73,15 +72,15 @@ module _ (reach : ℕ) (R : reach ≤ 65536) where
             (round-from-zero (m * up e * 2 - down e) (down e * 2) (twice-pos e))
 
     -- far from 2^30, or x would be 2^29 at least
-    pub usable-of : T (within limit u)
+    pub usable-of : T (within usableLimit u)
     usable-of = elim at-least [
       | inl e ↦ absurd (endless e below)
-      | inr a ↦ subst (λ (y : Float). T (within limit y)) (sym (a .is))
+      | inr a ↦ subst (λ (y : Float). T (within usableLimit y)) (sym (a .is))
           (near (a .digits) (a .place) (a .least) (subst (λ (y : Float). T (under reach (y ⊖ half))) (a .is) below))
     ]
       where
         near : (m : ℕ) (e : ℤ) → 1 * down e ≤ m * up e * 2 → T (under reach (fin false m e ⊖ half))
-            → T (within limit (fin false m e))
+            → T (within usableLimit (fin false m e))
         near m e l b = within-is false m e (elim (lt-or-le (1073741824 * down e) (m * up e)) [
           | inl g ↦ absurd (not-far reach R 536870912 large (lit≤ tt) large-value (fin false m e ⊖ half)
               (subst (λ (x : Float). T (le large x)) (sym (less-half m e (once (down e) (m * up e * 2) l)))

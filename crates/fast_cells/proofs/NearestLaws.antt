@@ -14,7 +14,7 @@ use lib.Ieee.Exact.{HasValue}
 use lib.Ieee.Fits.{down-pos, and-l, and-r}
 use lib.Ieee.Order.{round-mono}
 use lib.Ieee.Scale.{finite}
-use Rattle.exact.specs.Double.{_⊕_, _⊖_}
+use Rattle.exact.specs.Double.{_⊕_, _⊖_, usableLimit}
 use Rattle.exact.specs.Fraction.{Fraction, value, _≤F_, negF, _-F_}
 use Rattle.exact.specs.Warp.{half}
 use Rattle.exact.proofs.Held.{round-held}
@@ -27,7 +27,6 @@ use Rattle.exact.proofs.Signed.{le-value}
 use Rattle.number.specs.Floor.{inDomain}
 use Rattle.number.specs.Magnitude.{within}
 use Rattle.number.proofs.MagnitudeLaws.{abs-limited}
-use Rattle.point.specs.Point.{limit}
 use Rattle.taps.proofs.CellLaws.{reached-number, rounded-domain}
 use Rattle.taps.proofs.CellFloor.{usable-reached}
 use Rattle.fast_cells.specs.Inner.{nought, under, hasPlace, Low}
@@ -77,11 +76,11 @@ domain-number nan d = d
 domain-number (inf s) d = d
 domain-number (fin s m e) d = tt
 
-not-below : (u : Float) → T (le nought u) → T (within limit u) → T (le nought (u ⊖ half ⊕ half))
+not-below : (u : Float) → T (le nought u) → T (within usableLimit u) → T (le nought (u ⊖ half ⊕ half))
 unfolding within
 not-below u l w =
     let x = u ⊖ half in
-    let n = abs-limited u limit (unfold ofBits in tt) w in
+    let n = abs-limited u usableLimit (unfold ofBits in tt) w in
     let reached = usable-reached u w in
     let m = reached-number x reached in
     let y = domain-number (x ⊕ half) (rounded-domain x reached) in
@@ -126,7 +125,7 @@ module _ (reach : ℕ) (R : reach ≤ 65536) where
         (wide-more (a .digits * up (a .place)) (down (a .place)) (down-pos (a .place)) (a .least))) h
   ]
 
-  near : (u : Float) → T (le nought u) → T (under reach (u ⊖ half ⊕ half)) → T (within limit u)
+  near : (u : Float) → T (le nought u) → T (under reach (u ⊖ half ⊕ half)) → T (within usableLimit u)
   near nan l h = absurd (unfold le ofBits in l)
   near (inf true) l h = absurd (unfold le ofBits in l)
   near (inf false) l h = absurd (endless stays h)
@@ -154,7 +153,7 @@ module _ (reach : ℕ) (R : reach ≤ 65536) where
     below : T (under reach (u ⊖ half ⊕ half))
     below = and-r (le nought u) (under reach (u ⊖ half ⊕ half)) h
 
-    pub nearby-usable : T (within limit u)
+    pub nearby-usable : T (within usableLimit u)
     nearby-usable = near u from below
 
     pub nearby-floored : Floored reach (u ⊖ half ⊕ half)

@@ -8,17 +8,17 @@ use lib.Dec.{T}
 use lib.IntN.{pos}
 use lib.ListN.{getD}
 use lib.Ieee.{Float, nan}
-use Rattle.exact.specs.Double.{_⊖_}
+use Rattle.exact.specs.Double.{_⊖_, usableLimit}
 use Rattle.exact.specs.Warp.{half}
 use Rattle.number.specs.Floor.{floorI64}
 use Rattle.number.specs.Magnitude.{within}
-use Rattle.point.specs.Point.{limit}
 use Rattle.taps.specs.Cell as Taps
 use Rattle.taps.specs.Interpolation.{Interpolation}
 
--- the coordinate u can be used, the whole number below u - 0.5 is c, which is less than `reach`, and t is the fraction
+-- the coordinate u can be used, the whole number below u - 0.5 is c, which is less than `indexLimit`, and t is the
+-- fraction
 pub record CellOf (reach : ℕ) (u : Float) (c : ℕ) (t : Float) : Type 0 where
-  pub usable : T (within limit u)
+  pub usable : T (within usableLimit u)
   pub reached : Taps.Reached (u ⊖ half)
   pub below : c < reach
   pub floor : floorI64 (u ⊖ half) ≡ pos c
@@ -30,7 +30,7 @@ pub record Cells (reach n : ℕ) (us : List Float) (cs : List ℕ) (ts : List Fl
 
 -- the same with no fraction: the one tap of `Integer` or `Nearest` is at c
 pub record Place (i : Interpolation) (reach : ℕ) (u : Float) (c : ℕ) : Type 0 where
-  pub usable : T (within limit u)
+  pub usable : T (within usableLimit u)
   pub reached : Taps.Reached (u ⊖ half)
   pub below : c < reach
   pub first : Taps.first i (u ⊖ half) ≡ pos c

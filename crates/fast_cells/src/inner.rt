@@ -60,7 +60,7 @@ pub fn column(z: f64) -> u32
 }
 
 // 29 digits of a pattern rounded off, ties to even.
-fn rounded(m: u64) -> u64
+fn without_low_digits(m: u64) -> u64
     requires { ⌜ m ≤ 0x3ff0000000000000 ⌝ }
     ensures { λ r. ⌜ r ≡ closest m 0x20000000 * 0x20000000 ⌝ }
 {
@@ -68,17 +68,17 @@ fn rounded(m: u64) -> u64
 }
 
 // `number::narrow` without its tests. What is left has the digits of an f32, so that the cast loses nothing.
-pub fn narrowed(d: f64) -> f32
+pub fn narrow_short(d: f64) -> f32
     requires { ⌜ Short d ⌝ }
     ensures { λ r. ⌜ r ≡ narrow d ⌝ }
 {
-    f64::from_bits(rounded(f64::to_bits(d))) as f32
+    f64::from_bits(without_low_digits(f64::to_bits(d))) as f32
 }
 
 // How far z lies beyond the whole number below it.
-pub fn part(z: f64) -> f32
+pub fn fraction_of(z: f64) -> f32
     requires { ⌜ Low z × Parted z ⌝ }
     ensures { λ r. ⌜ r ≡ fraction z ⌝ }
 {
-    narrowed(z - whole_below(z))
+    narrow_short(z - whole_below(z))
 }

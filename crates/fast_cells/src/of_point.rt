@@ -9,11 +9,11 @@ ghost use Rattle.taps.specs.Interpolation.{Integer, Nearest};
 ghost use Rattle.fast_cells.specs.Cells as Cells;
 ghost use Rattle.fast_cells.specs.Inner.{hasCell, hasPlace};
 use crate::inner::column;
+use crate::inner::fraction_of;
 use crate::inner::has_cell;
 use crate::inner::has_place;
 use crate::inner::kept;
 use crate::inner::kept_place;
-use crate::inner::part;
 use point::point::Point;
 
 // The column and the row below a point in index space, how far it lies beyond them, and whether it has a cell: if not,
@@ -47,8 +47,8 @@ pub fn cell_of(p: Point, wide: u64, high: u64) -> Cell
     Cell {
         column: column(x),
         row: column(y),
-        x: part(x),
-        y: part(y),
+        x: fraction_of(x),
+        y: fraction_of(y),
         inside: has_cell(p.u, wide) & has_cell(p.v, high),
     }
 }

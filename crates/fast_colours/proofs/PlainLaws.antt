@@ -18,13 +18,13 @@ use base.Fml.{Fml}
 use mir.Val.{Val}
 use denote.Array.{each, inArray}
 use denote.Shadow.{shadow}
-use Rattle.exact.specs.Double.{_⊖_}
+use Rattle.exact.specs.Double.{_⊖_, usableLimit}
 use Rattle.exact.specs.Warp.{half}
 use Rattle.exact.specs.Vector.{at}
 use Rattle.number.specs.Magnitude.{within}
 use Rattle.picture.specs.Pixel.{Picture, pixelAt}
 use Rattle.picture.specs.declared.colour.Rgba.{Rgba}
-use Rattle.point.specs.Point.{limit, usable}
+use Rattle.point.specs.Point.{usable}
 use Rattle.taps.specs.Interpolation.{interpolation, bilinearCode, Single}
 use Rattle.taps.proofs.CellFloor.{cell-law}
 use Rattle.fast_cells.specs.Cells.{CellOf, Cells, Place, Places}
@@ -136,9 +136,9 @@ both false b s t = absurd s
 next : (i n : ℕ) → i < n - 1 → i + 1 < n
 next i n l = omega arith
 
-pub marked : (u v : Float) → T (within limit u) → T (within limit v) → usable u v ≡ true
+pub marked : (u v : Float) → T (within usableLimit u) → T (within usableLimit v) → usable u v ≡ true
 unfolding usable
-marked u v a b = both (within limit u) (within limit v) a b
+marked u v a b = both (within usableLimit u) (within usableLimit v) a b
 
 cell-colour : (bytes : List ℕ) (w h n policy : ℕ) (background : Rgba) {u v tx ty : Float} {i j : ℕ}
     → CellOf (w - 1) u i tx → CellOf (h - 1) v j ty

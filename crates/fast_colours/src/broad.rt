@@ -230,7 +230,7 @@ fn store_three(
 }
 
 // The same of a picture of any channels, put with as many samples: four samples at a time where that can be.
-pub fn store_cells(
+pub fn store_broad_cells(
     picture: &[u8],
     shape: Shape,
     columns: &[u32; 64],
@@ -259,5 +259,5 @@ pub fn store_cells(
             }
         }
     }
-    crate::plain::store_cells(picture, shape, columns, rows, xs, ys, span, band);
+    crate::plain::store_broad_cells(picture, shape, columns, rows, xs, ys, span, band);
 }

@@ -24,13 +24,13 @@ use Rattle.mappings.specs.Pairs.{pairAt}
 -- ---- the arguments are a forward map, column by column
 
 abbrev pub affineForward : Vector → Vector
-affineForward args = at args 0 ∷ at args 2 ∷ at args 4 ∷ at args 1 ∷ at args 3 ∷ at args 5 ∷ []
+affineForward values = at values 0 ∷ at values 2 ∷ at values 4 ∷ at values 1 ∷ at values 3 ∷ at values 5 ∷ []
 
 abbrev pub affineInverse : AffineInverse → Fitted
 affineInverse inverse = solvedOr8 (inverse .found) (mapping affineKind 0 (inverse .m))
 
 unfoldable pub fitAffineProjection : Vector → Fitted
-fitAffineProjection args = affineInverse (invertAffine (affineForward args))
+fitAffineProjection values = affineInverse (invertAffine (affineForward values))
 
 -- ---- pairs: one is a shift, two are a similarity, u = a x - b y + c and v = b x + a y + d
 
@@ -38,7 +38,7 @@ abbrev pub shifted : Pair → Vector
 shifted p = one ∷ nought ∷ (p .u ⊖ p .x) ∷ nought ∷ one ∷ (p .v ⊖ p .y) ∷ []
 
 unfoldable pub shift : Vector → Fitted
-shift args = fitted (mapping affineKind 0 (shifted (pairAt args 0 0)))
+shift values = fitted (mapping affineKind 0 (shifted (pairAt values 0 0)))
 
 abbrev pub similar : Vector → Vector
 similar s = at s 0 ∷ neg (at s 1) ∷ at s 2 ∷ at s 1 ∷ at s 0 ∷ at s 3 ∷ []
@@ -47,10 +47,10 @@ abbrev pub similarSolution : Solution → Fitted
 similarSolution s = solvedOr8 (s .found) (mapping affineKind 0 (similar (s .x)))
 
 unfoldable pub similarity : Vector → Fitted
-similarity args = similarSolution (fitTwin args 2 Similarity (affineTerms 2))
+similarity values = similarSolution (fitTwin values 2 Similarity (affineTerms 2))
 
 unfoldable pub fitAffine : Vector → ℕ → Fitted
-fitAffine args pairs =
-    cond (eqb pairs 1) (shift args)
-    (cond (eqb pairs 2) (similarity args)
-    (fitBoth args 0 pairs Affine uAndV (affineTerms pairs) affineKind 0))
+fitAffine values pairs =
+    cond (eqb pairs 1) (shift values)
+    (cond (eqb pairs 2) (similarity values)
+    (fitBoth values 0 pairs Affine uAndV (affineTerms pairs) affineKind 0))

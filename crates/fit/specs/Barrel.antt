@@ -13,18 +13,18 @@ use Rattle.exact.specs.Vector.{Vector, at}
 
 -- args.get(k).copied().unwrap_or(other)
 unfoldable pub givenOr : Vector → ℕ → ℕ → Float → Float
-givenOr args count k other = cond (ltb k count) (at args k) other
+givenOr values count k other = cond (ltb k count) (at values k) other
 
 abbrev pub distorted : Vector → ℕ → Float → Float → Vector
-distorted args count w h =
-    at args 0
-    ∷ at args 1
-    ∷ at args 2
-    ∷ givenOr args count 3 (one ⊖ (at args 0 ⊕ at args 1 ⊕ at args 2))
-    ∷ givenOr args count 4 (w ⊘ two)
-    ∷ givenOr args count 5 (h ⊘ two)
+distorted values count w h =
+    at values 0
+    ∷ at values 1
+    ∷ at values 2
+    ∷ givenOr values count 3 (one ⊖ (at values 0 ⊕ at values 1 ⊕ at values 2))
+    ∷ givenOr values count 4 (w ⊘ two)
+    ∷ givenOr values count 5 (h ⊘ two)
     ∷ (fmin w h ⊘ two)
     ∷ []
 
 unfoldable pub fitBarrel : Vector → ℕ → Float → Float → ℕ → Fitted
-fitBarrel args count w h kind = fitted (mapping kind 0 (distorted args count w h))
+fitBarrel values count w h kind = fitted (mapping kind 0 (distorted values count w h))

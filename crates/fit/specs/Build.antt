@@ -20,17 +20,17 @@ use Rattle.fit.specs.Shepards.{fitShepards}
 
 -- each method's maker
 unfoldable pub made : ℕ → Vector → ℕ → ℕ → Float → Float → Float → Fitted
-made method args count pairs order w h =
-    cond (eqb method Method.affineCode) (fitAffine args pairs)
-    (cond (eqb method Method.affineProjectionCode) (fitAffineProjection args)
-    (cond (eqb method Method.perspectiveCode) (fitPerspective args pairs)
-    (cond (eqb method Method.perspectiveProjectionCode) (fitPerspectiveProjection args w h)
-    (cond (eqb method Method.bilinearReverseCode) (fitBilinearReverse args pairs)
-    (cond (eqb method Method.bilinearForwardCode) (fitBilinearForward args pairs)
-    (cond (eqb method Method.polynomialCode) (fitPolynomial args pairs order)
-    (cond (eqb method Method.barrelCode) (fitBarrel args count w h barrelKind)
-    (cond (eqb method Method.barrelInverseCode) (fitBarrel args count w h barrelInverseKind)
-    (fitShepards args pairs)))))))))
+made method values count pairs order w h =
+    cond (eqb method Method.affineCode) (fitAffine values pairs)
+    (cond (eqb method Method.affineProjectionCode) (fitAffineProjection values)
+    (cond (eqb method Method.perspectiveCode) (fitPerspective values pairs)
+    (cond (eqb method Method.perspectiveProjectionCode) (fitPerspectiveProjection values w h)
+    (cond (eqb method Method.bilinearReverseCode) (fitBilinearReverse values pairs)
+    (cond (eqb method Method.bilinearForwardCode) (fitBilinearForward values pairs)
+    (cond (eqb method Method.polynomialCode) (fitPolynomial values pairs order)
+    (cond (eqb method Method.barrelCode) (fitBarrel values count w h barrelKind)
+    (cond (eqb method Method.barrelInverseCode) (fitBarrel values count w h barrelInverseKind)
+    (fitShepards values pairs)))))))))
 
 -- for a picture of this width and height
 unfoldable pub build : ℕ → List ℕ → ℕ → ℕ → Fitted

@@ -23,7 +23,8 @@ use Rattle.fit.specs.Orient.{orient}
 -- ---- the arguments are a forward map; oriented at the image of the picture's centre
 
 abbrev pub forward : Vector → Vector
-forward args = at args 0 ∷ at args 1 ∷ at args 2 ∷ at args 3 ∷ at args 4 ∷ at args 5 ∷ at args 6 ∷ at args 7 ∷ one ∷ []
+forward values = at values 0 ∷ at values 1 ∷ at values 2 ∷ at values 3 ∷ at values 4 ∷ at values 5
+    ∷ at values 6 ∷ at values 7 ∷ one ∷ []
 
 -- where row k of the numerators takes (u, v)
 abbrev pub projected : Vector → ℕ → Float → Float → Float
@@ -35,16 +36,16 @@ centred fwd inverse u v =
     (mapping perspectiveKind 0 (orient (inverse .m) (projected fwd 0 u v) (projected fwd 3 u v)))
 
 unfoldable pub fitPerspectiveProjection : Vector → Float → Float → Fitted
-fitPerspectiveProjection args w h = centred (forward args) (invert3 (forward args)) (w ⊘ two) (h ⊘ two)
+fitPerspectiveProjection values w h = centred (forward values) (invert3 (forward values)) (w ⊘ two) (h ⊘ two)
 
 -- ---- pairs; oriented at the mean of x and the mean of y
 
 -- .fold(0.0, |a, p| a + p.x / n)
 unfoldable pub addPart : Vector → ℕ → Side → ℕ → Float → Float
-addPart args pairs side j sum = sum ⊕ sidesOf args 0 side j ⊘ ofInt binary64 (pos pairs)
+addPart values pairs side j sum = sum ⊕ sidesOf values 0 side j ⊘ ofInt binary64 (pos pairs)
 
 abbrev pub meanOfSide : Vector → ℕ → Side → Float
-meanOfSide args pairs side = upTo (addPart args pairs side) 0 pairs nought
+meanOfSide values pairs side = upTo (addPart values pairs side) 0 pairs nought
 
 abbrev pub homography : Vector → Vector
 homography c = at c 0 ∷ at c 1 ∷ at c 2 ∷ at c 3 ∷ at c 4 ∷ at c 5 ∷ at c 6 ∷ at c 7 ∷ one ∷ []
@@ -53,5 +54,5 @@ abbrev pub meant : Solution → Float → Float → Fitted
 meant s x y = solvedOr8 (s .found) (mapping perspectiveKind 0 (orient (homography (s .x)) x y))
 
 unfoldable pub fitPerspective : Vector → ℕ → Fitted
-fitPerspective args pairs = meant (fitTwin args pairs Perspective 8) (meanOfSide args pairs OfX)
-    (meanOfSide args pairs OfY)
+fitPerspective values pairs = meant (fitTwin values pairs Perspective 8) (meanOfSide values pairs OfX)
+    (meanOfSide values pairs OfY)

@@ -16,11 +16,11 @@ orderNumber order = cond (bilinearOrder order) 0 (degree order)
 
 -- the pairs come after the order
 abbrev pub fitPolynomial : Vector → ℕ → Float → Fitted
-fitPolynomial args pairs order = fitBoth args 1 pairs (Polynomial (orderNumber order)) uAndV (termsOf order) polyKind
-    (orderNumber order)
+fitPolynomial values pairs order = fitBoth values 1 pairs (Polynomial (orderNumber order)) uAndV
+    (termsOf order) polyKind (orderNumber order)
 
 abbrev pub fitBilinearReverse : Vector → ℕ → Fitted
-fitBilinearReverse args pairs = fitBoth args 0 pairs (Polynomial 0) uAndV 4 polyKind 0
+fitBilinearReverse values pairs = fitBoth values 0 pairs (Polynomial 0) uAndV 4 polyKind 0
 
 abbrev pub fitBilinearForward : Vector → ℕ → Fitted
-fitBilinearForward args pairs = fitBoth args 0 pairs Forward xAndY 4 bilinearForwardKind 0
+fitBilinearForward values pairs = fitBoth values 0 pairs Forward xAndY 4 bilinearForwardKind 0

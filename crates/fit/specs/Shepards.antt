@@ -6,4 +6,4 @@ use Rattle.mappings.specs.Mapping.{shepardsKind, mapping, fitted}
 use Rattle.exact.specs.Vector.{Vector}
 
 unfoldable pub fitShepards : Vector → ℕ → Fitted
-fitShepards args pairs = fitted (mapping shepardsKind 0 (take (4 * pairs) args))
+fitShepards values pairs = fitted (mapping shepardsKind 0 (take (4 * pairs) values))

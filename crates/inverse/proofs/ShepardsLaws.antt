@@ -11,11 +11,11 @@ use Rattle.exact.proofs.Loop.{upTo-next, upTo-last, upTo-stay}
 use Rattle.exact.specs.Vector.{Vector, at}
 use Rattle.point.specs.Point.{point}
 use Rattle.point.specs.Course.{Course, on, out, turn, ended}
-use Rattle.inverse.specs.Shepards.{Sums, d2, wgt, addPair, pairTurn, zeroSums, movedBy, ofPairs}
+use Rattle.inverse.specs.Shepards.{PairSums, d2, wgt, addPair, pairTurn, zeroSums, movedBy, ofPairs}
 
 -- with the sums s after j pairs
-module _ (c : Vector) (x y : Float) (s : Sums) (j : ℕ) (h : on s ≡ upTo (pairTurn c x y) 0 j (on zeroSums)) where
-  next : {w : Course Sums} → addPair c x y (4 * j) s ≡ w → w ≡ upTo (pairTurn c x y) 0 (j + 1) (on zeroSums)
+module _ (c : Vector) (x y : Float) (s : PairSums) (j : ℕ) (h : on s ≡ upTo (pairTurn c x y) 0 j (on zeroSums)) where
+  next : {w : Course PairSums} → addPair c x y (4 * j) s ≡ w → w ≡ upTo (pairTurn c x y) 0 (j + 1) (on zeroSums)
   unfolding pairTurn turn
   next e = sym e ∙ upTo-next (pairTurn c x y) 0 (on zeroSums) j (omega arith) h
 

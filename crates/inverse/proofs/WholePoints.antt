@@ -32,7 +32,7 @@ use Rattle.point.proofs.WholeLaws.{
 }
 use Rattle.inverse.specs.Perspective.{wq, perspective}
 use Rattle.inverse.specs.Forward.{lastStep, det, du, dv, newton, newtonTurn, bilinearForward}
-use Rattle.inverse.specs.Shepards.{Sums, d2, addPair, pairTurn, zeroSums, movedBy, ofPairs, pairsKept}
+use Rattle.inverse.specs.Shepards.{PairSums, d2, addPair, pairTurn, zeroSums, movedBy, ofPairs, pairsKept}
 use Rattle.inverse.specs.Affine.{affine}
 use Rattle.inverse.specs.Polynomial.{polynomial}
 use Rattle.inverse.specs.Barrel.{across, down, radiusSquared, factor, barrelFrom, barrelInverseFrom}
@@ -57,7 +57,7 @@ forward-whole c x y =
     (λ w. newton-leaves c x y (w .0) (w .1)) s h) (goes (x, y)))
 
 -- ---- Shepards
-pair-leaves : (c : Vector) (x y : Float) (k : ℕ) (s : Sums) → Leaves (addPair c x y k s)
+pair-leaves : (c : Vector) (x y : Float) (k : ℕ) (s : PairSums) → Leaves (addPair c x y k s)
 unfolding addPair
 pair-leaves c x y k s =
     either Leaves (lt (d2 c x y k) leastDivisor)

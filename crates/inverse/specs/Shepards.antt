@@ -12,7 +12,7 @@ use Rattle.point.specs.declared.point.Point.{Point}
 use Rattle.point.specs.Point.{point}
 use Rattle.point.specs.Course.{Course, on, out, turn, ended}
 
-pub record Sums : Type 0 where
+pub record PairSums : Type 0 where
   pub su : Float
   pub sv : Float
   pub sw : Float
@@ -26,7 +26,7 @@ module _ (c : Vector) (x y : Float) (k : ℕ) where
   abbrev pub wgt : Float
   wgt = one ⊘ d2
 
-  unfoldable pub addPair : Sums → Course Sums
+  unfoldable pub addPair : PairSums → Course PairSums
   addPair s =
       cond (lt d2 leastDivisor)
       (out (point (at c k) (at c (k + 1))))
@@ -36,13 +36,13 @@ module _ (c : Vector) (x y : Float) (k : ℕ) where
         sw = s .sw ⊕ wgt;
       }))
 
-unfoldable pub pairTurn : Vector → Float → Float → ℕ → Course Sums → Course Sums
+unfoldable pub pairTurn : Vector → Float → Float → ℕ → Course PairSums → Course PairSums
 pairTurn c x y j s = turn (addPair c x y (4 * j)) s
 
-abbrev pub zeroSums : Sums
+abbrev pub zeroSums : PairSums
 zeroSums = record { su = nought; sv = nought; sw = nought }
 
-abbrev pub movedBy : Float → Float → Sums → Point
+abbrev pub movedBy : Float → Float → PairSums → Point
 movedBy x y s = point (x ⊕ s .su ⊘ s .sw) (y ⊕ s .sv ⊘ s .sw)
 
 unfoldable pub ofPairs : Vector → Float → Float → ℕ → Point

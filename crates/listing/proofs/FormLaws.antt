@@ -35,7 +35,7 @@ use Rattle.listing.specs.Text.{
   digits,
   AllDigits,
   numeralText,
-  Pair,
+  NumeralPair,
   AllProper,
   Order,
   isOrder,
@@ -86,7 +86,7 @@ data Taken : Reader → List ℕ → Type 0 where
       → (large : Bool)
       → Taken (between (withName (placedAll noNames 0 ks) k (length ks)) (length ks) 0 large)
       (nameCells ks ++ letter k ∷ [])
-  a-number : (o : Order) → T (isOrder o) → (ps : List Pair) → AllProper ps → length ps ≤ 64 → (ns : List Numeral)
+  a-number : (o : Order) → T (isOrder o) → (ps : List NumeralPair) → AllProper ps → length ps ≤ 64 → (ns : List Numeral)
       → AllCells ns → (n : Numeral) → AllDigits (digits n) → (large : Bool)
       → Taken (between (namesOf o) (length ns) (1 + length ps) large) (text o ps ++ numberCells ns ++ numeralText n)
   one-of-many : (names : Names) (column lines : ℕ) (large : Bool) (t : List ℕ) → 65 < lines

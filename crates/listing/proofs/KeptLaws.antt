@@ -14,7 +14,7 @@ use Rattle.exact.proofs.Naturals.{lt-or-le}
 use Rattle.listing.specs.declared.names.Names.{Names}
 use Rattle.listing.specs.Word.{pixels}
 use Rattle.listing.specs.Names.{slotOf}
-use Rattle.listing.specs.Text.{Numeral, Pair}
+use Rattle.listing.specs.Text.{Numeral, NumeralPair}
 use Rattle.listing.proofs.NamesLaws.{slot-lt}
 use Rattle.listing.proofs.NumeralLaws.{sizeOf}
 use Rattle.listing.proofs.PairLaws.{storeAt, bytesAfter, bytesAll}
@@ -29,7 +29,7 @@ module _ (names : Names) where
       → length (storeAt names lines column n bytes) ≡ length bytes
   store-at-length lines column n bytes = store-length 8 bytes _ _
 
-  after-length : (lines : ℕ) (bytes : List ℕ) (p : Pair) → length (bytesAfter names lines bytes p) ≡ length bytes
+  after-length : (lines : ℕ) (bytes : List ℕ) (p : NumeralPair) → length (bytesAfter names lines bytes p) ≡ length bytes
   after-length lines bytes p =
       store-at-length lines 3 (p .col3) _ ∙ store-at-length lines 2 (p .col2) _ ∙ store-at-length lines 1 (p .col1) _
       ∙ store-at-length lines 0 (p .col0) _
@@ -40,7 +40,7 @@ module _ (names : Names) where
       → f64At (storeAt names lines column n bytes) at ≡ f64At bytes at
   store-beside lines column n bytes at h = f64-beside bytes _ (read n) at h
 
-  after-beside : (lines : ℕ) (bytes : List ℕ) (p : Pair) (at : ℕ) → at + 8 ≤ 32 * (lines - 1)
+  after-beside : (lines : ℕ) (bytes : List ℕ) (p : NumeralPair) (at : ℕ) → at + 8 ≤ 32 * (lines - 1)
       → f64At (bytesAfter names lines bytes p) at ≡ f64At bytes at
   after-beside lines bytes p at h =
       store-beside lines 3 (p .col3) _ at (inl (omega arith))
@@ -48,14 +48,14 @@ module _ (names : Names) where
       ∙ store-beside lines 1 (p .col1) _ at (inl (omega arith))
       ∙ store-beside lines 0 (p .col0) _ at (inl (omega arith))
 
-  all-beside : (lines : ℕ) (bytes : List ℕ) (ps : List Pair) (at : ℕ) → at + 8 ≤ 32 * (lines - 1)
+  all-beside : (lines : ℕ) (bytes : List ℕ) (ps : List NumeralPair) (at : ℕ) → at + 8 ≤ 32 * (lines - 1)
       → f64At (bytesAll names lines bytes ps) at ≡ f64At bytes at
   unfolding bytesAll
   all-beside lines bytes [] at h = refl
   all-beside lines bytes (p ∷ ps) at h = all-beside (lines + 1) (bytesAfter names lines bytes p) ps at (omega arith)
       ∙ after-beside lines bytes p at h
 
-  all-append : (lines : ℕ) (bytes : List ℕ) (before : List Pair) (p : Pair) (after : List Pair)
+  all-append : (lines : ℕ) (bytes : List ℕ) (before : List NumeralPair) (p : NumeralPair) (after : List NumeralPair)
       → bytesAll names lines bytes (before ++ p ∷ after) ≡ bytesAll names (lines + length before + 1)
       (bytesAfter names (lines + length before) (bytesAll names lines bytes before) p) after
   unfolding bytesAll
@@ -67,7 +67,8 @@ module _ (names : Names) where
       (bytesAfter names k (bytesAll names (lines + 1) (bytesAfter names lines bytes q) before) p) after)
       (omega arith)
 
-  all-length : (lines : ℕ) (bytes : List ℕ) (ps : List Pair) → length (bytesAll names lines bytes ps) ≡ length bytes
+  all-length : (lines : ℕ) (bytes : List ℕ) (ps : List NumeralPair)
+      → length (bytesAll names lines bytes ps) ≡ length bytes
   unfolding bytesAll
   all-length lines bytes [] = refl
   all-length lines bytes (p ∷ ps) = all-length (lines + 1) (bytesAfter names lines bytes p) ps
@@ -91,7 +92,7 @@ pub record Apart (names : Names) : Type 0 where
   pub is23 : slotOf names 2 ≡ slotOf names 3 → ⊥
 
 -- what stands at the place of each column
-pub record Standing (names : Names) (lines : ℕ) (p : Pair) (bytes : List ℕ) : Type 0 where
+pub record Standing (names : Names) (lines : ℕ) (p : NumeralPair) (bytes : List ℕ) : Type 0 where
   pub at0 : f64At bytes (32 * (lines - 1) + 8 * slotOf names 0) ≡ read (p .col0)
   pub at1 : f64At bytes (32 * (lines - 1) + 8 * slotOf names 1) ≡ read (p .col1)
   pub at2 : f64At bytes (32 * (lines - 1) + 8 * slotOf names 2) ≡ read (p .col2)
@@ -103,7 +104,7 @@ module _ (names : Names) (a : Apart names) where
   store-here lines column n bytes room =
       f64-put bytes _ (read n) (pixels-fits (n .negative) (sizeOf n)) (omega (arith, slot-lt names column))
 
-  pair-stands : (lines : ℕ) (bytes : List ℕ) (p : Pair) → 32 * (lines - 1) + 32 ≤ length bytes
+  pair-stands : (lines : ℕ) (bytes : List ℕ) (p : NumeralPair) → 32 * (lines - 1) + 32 ≤ length bytes
       → Standing names lines p (bytesAfter names lines bytes p)
   pair-stands lines bytes p room =
       let b0 = storeAt names lines 0 (p .col0) bytes in
@@ -128,7 +129,8 @@ module _ (names : Names) (a : Apart names) where
       }
 
   -- and what follows leaves it there
-  pub pairs-stand : (lines : ℕ) (bytes : List ℕ) (before : List Pair) (p : Pair) (after : List Pair) → 0 < lines
+  pub pairs-stand : (lines : ℕ) (bytes : List ℕ) (before : List NumeralPair) (p : NumeralPair)
+      (after : List NumeralPair) → 0 < lines
       → 32 * (lines + length before) ≤ length bytes
       → Standing names (lines + length before) p (bytesAll names lines bytes (before ++ p ∷ after))
   pairs-stand lines bytes before p after some room =

@@ -15,7 +15,7 @@ use Rattle.listing.specs.Text.{
   digits,
   AllDigits,
   magnitude,
-  Pair,
+  NumeralPair,
   Proper,
   AllProper,
   NotTooLarge,
@@ -54,19 +54,19 @@ module _ (large : Bool) (n : Numeral) (h : AllDigits (digits n)) (e : isLarge la
 
 -- ---- a pair, and all
 
-pair-small : (large : Bool) (p : Pair) → Proper p → NotTooLarge p → largeAfter large p ≡ large
+pair-small : (large : Bool) (p : NumeralPair) → Proper p → NotTooLarge p → largeAfter large p ≡ large
 pair-small large p h w =
     stays-small _ _ (size-within (p .col3) (h .1 .1 .1) (w .1 .1 .1))
     ∙ stays-small _ _ (size-within (p .col2) (h .1 .1 .0) (w .1 .1 .0))
     ∙ stays-small _ _ (size-within (p .col1) (h .1 .0) (w .1 .0))
     ∙ stays-small _ _ (size-within (p .col0) (h .0) (w .0))
 
-pub all-small : (large : Bool) (ps : List Pair) → AllProper ps → AllWithin ps → largeAll large ps ≡ large
+pub all-small : (large : Bool) (ps : List NumeralPair) → AllProper ps → AllWithin ps → largeAll large ps ≡ large
 unfolding largeAll
 all-small large [] h w = refl
 all-small large (p ∷ ps) h w = all-small (largeAfter large p) ps (h .1) (w .1) ∙ pair-small large p (h .0) (w .0)
 
-pair-within : (large : Bool) (p : Pair) → Proper p → largeAfter large p ≡ false → (large ≡ false) × NotTooLarge p
+pair-within : (large : Bool) (p : NumeralPair) → Proper p → largeAfter large p ≡ false → (large ≡ false) × NotTooLarge p
 pair-within large p h e =
     let a0 = isLarge large (sizeOf (p .col0)) in
     let a1 = isLarge a0 (sizeOf (p .col1)) in
@@ -84,7 +84,7 @@ pair-within large p h e =
       ),
     )
 
-pub all-within : (large : Bool) (ps : List Pair) → AllProper ps → largeAll large ps ≡ false → (large ≡ false)
+pub all-within : (large : Bool) (ps : List NumeralPair) → AllProper ps → largeAll large ps ≡ false → (large ≡ false)
     × AllWithin ps
 unfolding largeAll
 all-within large [] h e = (e, tt)

@@ -18,7 +18,7 @@ use Rattle.listing.specs.Text.{
   digits,
   AllDigits,
   numeralText,
-  Pair,
+  NumeralPair,
   Proper,
   AllProper,
   pairText,
@@ -89,17 +89,17 @@ numbers-more (m ∷ ns) n = append-assoc (numeralText m) _ _
 
 -- ---- a pair more
 
-all-proper : (ps : List Pair) (p : Pair) → AllProper ps → Proper p → AllProper (ps ++ p ∷ [])
+all-proper : (ps : List NumeralPair) (p : NumeralPair) → AllProper ps → Proper p → AllProper (ps ++ p ∷ [])
 all-proper [] p h d = (d, tt)
 all-proper (q ∷ ps) p h d = (h .0, all-proper ps p (h .1) d)
 
-pairs-more : (ps : List Pair) (p : Pair) → pairsText (ps ++ p ∷ []) ≡ pairsText ps ++ pairText p
+pairs-more : (ps : List NumeralPair) (p : NumeralPair) → pairsText (ps ++ p ∷ []) ≡ pairsText ps ++ pairText p
 unfolding pairsText
 pairs-more [] p = append-nil (pairText p)
 pairs-more (q ∷ ps) p = ap (λ (t : List ℕ). pairText q ++ t) (pairs-more ps p)
     ∙ sym (append-assoc (pairText q) (pairsText ps) (pairText p))
 
-text-more : (o : Order) (ps : List Pair) (p : Pair) → text o (ps ++ p ∷ []) ≡ text o ps ++ pairText p
+text-more : (o : Order) (ps : List NumeralPair) (p : NumeralPair) → text o (ps ++ p ∷ []) ≡ text o ps ++ pairText p
 unfolding text
 text-more o ps p = ap (λ (t : List ℕ). orderText o ++ t) (pairs-more ps p)
     ∙ sym (append-assoc (orderText o) (pairsText ps) (pairText p))
@@ -108,7 +108,7 @@ text-more o ps p = ap (λ (t : List ℕ). orderText o ++ t) (pairs-more ps p)
 
 pub data Seen : Names → ℕ → ℕ → List ℕ → Type 0 where
   in-names : (ks : List ℕ) → Free noNames 0 ks → Seen (placedAll noNames 0 ks) (length ks) 0 (nameCells ks)
-  in-pairs : (o : Order) → T (isOrder o) → (ps : List Pair) → AllProper ps → length ps ≤ 64 → (ns : List Numeral)
+  in-pairs : (o : Order) → T (isOrder o) → (ps : List NumeralPair) → AllProper ps → length ps ≤ 64 → (ns : List Numeral)
       → AllCells ns → Seen (namesOf o) (length ns) (1 + length ps) (text o ps ++ numberCells ns)
   too-many : (names : Names) (column lines : ℕ) (t : List ℕ) → 65 < lines → Seen names column lines t
 
@@ -149,7 +149,7 @@ names-end (a ∷ (b ∷ (c ∷ []))) k f l e h =
 names-end (a ∷ (b ∷ (c ∷ (d ∷ ks)))) k f l e h = absurd (omega (arith, h))
 
 -- a number is taken, and a space or the line feed follows
-module _ (o : Order) (is : T (isOrder o)) (ps : List Pair) (proper : AllProper ps) (room : length ps ≤ 64) where
+module _ (o : Order) (is : T (isOrder o)) (ps : List NumeralPair) (proper : AllProper ps) (room : length ps ≤ 64) where
   pub numbers-space : (ns : List Numeral) (n : Numeral) → AllCells ns → AllDigits (digits n)
       → Seen (namesOf o) (length ns + 1) (1 + length ps) (text o ps ++ numberCells ns ++ (numeralText n ++ 32 ∷ []))
   numbers-space ns n h d =
@@ -157,7 +157,7 @@ module _ (o : Order) (is : T (isOrder o)) (ps : List Pair) (proper : AllProper p
       (sym (append-assoc (text o ps) (numberCells ns) _ ∙ ap (λ (t : List ℕ). text o ps ++ t) (numbers-more ns n)))
       (in-pairs o is ps proper room (ns ++ n ∷ []) (all-cells ns n h d))
 
-  pair-ends : (p : Pair) → Proper p → Seen (namesOf o) 0 (counted (1 + length ps)) (text o ps ++ pairText p)
+  pair-ends : (p : NumeralPair) → Proper p → Seen (namesOf o) 0 (counted (1 + length ps)) (text o ps ++ pairText p)
   unfolding counted numberCells
   pair-ends p d = elim (lt-or-le (length ps) 64) [
     | inl l ↦ subst (λ (k : ℕ). Seen (namesOf o) 0 k (text o ps ++ pairText p))

@@ -33,7 +33,7 @@ use Rattle.listing.specs.Text.{
   digits,
   AllDigits,
   numeralText,
-  Pair,
+  NumeralPair,
   Proper,
   pairText,
   AllProper,
@@ -85,16 +85,16 @@ module _ (names : Names) (lines : ℕ) (some : 0 < lines) (room : lines ≤ 64) 
       ∙ rw (number-taken 3 large bytes n, lt-ltb lines 66 (omega arith))
 
 -- what a pair changes
-abbrev pub largeAfter : Bool → Pair → Bool
+abbrev pub largeAfter : Bool → NumeralPair → Bool
 largeAfter large p = isLarge
     (isLarge (isLarge (isLarge large (sizeOf (p .col0))) (sizeOf (p .col1))) (sizeOf (p .col2))) (sizeOf (p .col3))
 
-abbrev pub bytesAfter : Names → ℕ → List ℕ → Pair → List ℕ
+abbrev pub bytesAfter : Names → ℕ → List ℕ → NumeralPair → List ℕ
 bytesAfter names lines bytes p =
     storeAt names lines 3 (p .col3)
     (storeAt names lines 2 (p .col2) (storeAt names lines 1 (p .col1) (storeAt names lines 0 (p .col0) bytes)))
 
-pub pair-read : (names : Names) (lines : ℕ) (large : Bool) (bytes : List ℕ) (p : Pair) → 0 < lines → lines ≤ 64
+pub pair-read : (names : Names) (lines : ℕ) (large : Bool) (bytes : List ℕ) (p : NumeralPair) → 0 < lines → lines ≤ 64
     → Proper p → fed (between names 0 lines large, bytes) (pairText p)
     ≡ (between names 0 (lines + 1) (largeAfter large p), bytesAfter names lines bytes p)
 unfolding pairText
@@ -105,15 +105,15 @@ pair-read names lines large bytes p some room h =
     ∙ last-cell names lines some room _ _ (p .col3) (h .1 .1 .1)
 
 -- what pairs change
-unfoldable pub largeAll : Bool → List Pair → Bool
+unfoldable pub largeAll : Bool → List NumeralPair → Bool
 largeAll large [] = large
 largeAll large (p ∷ ps) = largeAll (largeAfter large p) ps
 
-unfoldable pub bytesAll : Names → ℕ → List ℕ → List Pair → List ℕ
+unfoldable pub bytesAll : Names → ℕ → List ℕ → List NumeralPair → List ℕ
 bytesAll names lines bytes [] = bytes
 bytesAll names lines bytes (p ∷ ps) = bytesAll names (lines + 1) (bytesAfter names lines bytes p) ps
 
-pub pairs-read : (names : Names) (lines : ℕ) (large : Bool) (bytes : List ℕ) (ps : List Pair) → 0 < lines
+pub pairs-read : (names : Names) (lines : ℕ) (large : Bool) (bytes : List ℕ) (ps : List NumeralPair) → 0 < lines
     → lines + length ps ≤ 65 → AllProper ps
     → fed (between names 0 lines large, bytes) (pairsText ps)
     ≡ (between names 0 (lines + length ps) (largeAll large ps), bytesAll names lines bytes ps)

@@ -23,7 +23,7 @@ use Rattle.listing.specs.Text.{
   digits,
   AllDigits,
   magnitude,
-  Pair,
+  NumeralPair,
   Proper,
   AllProper,
   NotTooLarge,
@@ -45,7 +45,7 @@ use Rattle.listing.proofs.OrderTests.{fine}
 use Rattle.listing.proofs.KeptLaws.{Apart, pairs-stand}
 use Rattle.listing.proofs.LargeLaws.{all-small, all-within}
 
-module _ (o : Order) (h : T (isOrder o)) (ps : List Pair) (proper : AllProper ps) (some : 0 < length ps)
+module _ (o : Order) (h : T (isOrder o)) (ps : List NumeralPair) (proper : AllProper ps) (some : 0 < length ps)
     (room : length ps ≤ 64) (bytes : List ℕ) where
   -- the state after the text
   abbrev pub ended : ReaderState
@@ -83,7 +83,7 @@ module _ (o : Order) (h : T (isOrder o)) (ps : List Pair) (proper : AllProper ps
 abbrev pub numberOf : Numeral → Float
 numberOf n = pixels (n .negative) (magnitude n)
 
-pub record Kept (o : Order) (k : ℕ) (p : Pair) (bytes : List ℕ) : Type 0 where
+pub record Kept (o : Order) (k : ℕ) (p : NumeralPair) (bytes : List ℕ) : Type 0 where
   pub kept0 : argumentAt bytes (4 * k + o .col0) ≡ numberOf (p .col0)
   pub kept1 : argumentAt bytes (4 * k + o .col1) ≡ numberOf (p .col1)
   pub kept2 : argumentAt bytes (4 * k + o .col2) ≡ numberOf (p .col2)
@@ -121,7 +121,8 @@ columns-apart o h =
       is23 = unlike-slots n 2 3 _ _ (f .slot2) (f .slot3) (and-r u13 u23 t4);
     }
 
-proper-at : (before : List Pair) (p : Pair) (after : List Pair) → AllProper (before ++ p ∷ after) → Proper p
+proper-at : (before : List NumeralPair) (p : NumeralPair) (after : List NumeralPair) → AllProper (before ++ p ∷ after)
+    → Proper p
 proper-at [] p after h = h .0
 proper-at (q ∷ before) p after h = proper-at before p after (h .1)
 
@@ -137,7 +138,7 @@ kept-at bytes k slot name n e d w s =
     ap (f64At bytes) (sym (place k slot name e)) ∙ s ∙ ap (pixels (n .negative)) (held n d .exact w)
 
 -- the pair p after the pairs `before`, in a buffer of 2,048 bytes
-pub kept : (o : Order) → T (isOrder o) → (before : List Pair) (p : Pair) (after : List Pair)
+pub kept : (o : Order) → T (isOrder o) → (before : List NumeralPair) (p : NumeralPair) (after : List NumeralPair)
     → AllProper (before ++ p ∷ after) → length (before ++ p ∷ after) ≤ 64 → (bytes : List ℕ) → length bytes ≡ 2048
     → NotTooLarge p → Kept o (length before) p (fed (startReader, bytes) (text o (before ++ p ∷ after)) .1)
 kept o h before p after proper room bytes size w =

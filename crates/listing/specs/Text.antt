@@ -50,14 +50,14 @@ pub record Four (A : Type 0) : Type 0 where
 abbrev pub lineOf : Four (List ℕ) → List ℕ
 lineOf t = t .col0 ++ 32 ∷ (t .col1 ++ 32 ∷ (t .col2 ++ 32 ∷ (t .col3 ++ 10 ∷ [])))
 
-abbrev pub Pair : Type 0
-Pair = Four Numeral
+abbrev pub NumeralPair : Type 0
+NumeralPair = Four Numeral
 
-abbrev pub Proper : Pair → Type 0
+abbrev pub Proper : NumeralPair → Type 0
 Proper p = AllDigits (digits (p .col0))
     × (AllDigits (digits (p .col1)) × (AllDigits (digits (p .col2)) × AllDigits (digits (p .col3))))
 
-unfoldable pub pairText : Pair → List ℕ
+unfoldable pub pairText : NumeralPair → List ℕ
 unfolding numeralText
 pairText p = lineOf (record {
   col0 = numeralText (p .col0);
@@ -66,11 +66,11 @@ pairText p = lineOf (record {
   col3 = numeralText (p .col3);
 })
 
-abbrev pub AllProper : List Pair → Type 0
+abbrev pub AllProper : List NumeralPair → Type 0
 AllProper [] = Unit {0}
 AllProper (p ∷ ps) = Proper p × AllProper ps
 
-unfoldable pub pairsText : List Pair → List ℕ
+unfoldable pub pairsText : List NumeralPair → List ℕ
 unfolding pairText
 pairsText [] = []
 pairsText (p ∷ ps) = pairText p ++ pairsText ps
@@ -111,16 +111,16 @@ orderText o = lineOf (record {
 
 -- ---- the whole text
 
-unfoldable pub text : Order → List Pair → List ℕ
+unfoldable pub text : Order → List NumeralPair → List ℕ
 text o ps = orderText o ++ pairsText ps
 
 -- no number of a pair, or of any, is too large
-abbrev pub NotTooLarge : Pair → Type 0
+abbrev pub NotTooLarge : NumeralPair → Type 0
 NotTooLarge p = (magnitude (p .col0) ≤ largestNumber)
     × ((magnitude (p .col1) ≤ largestNumber)
     × ((magnitude (p .col2) ≤ largestNumber) × (magnitude (p .col3) ≤ largestNumber)))
 
-abbrev pub AllWithin : List Pair → Type 0
+abbrev pub AllWithin : List NumeralPair → Type 0
 AllWithin [] = Unit {0}
 AllWithin (p ∷ ps) = NotTooLarge p × AllWithin ps
 
@@ -128,7 +128,7 @@ AllWithin (p ∷ ps) = NotTooLarge p × AllWithin ps
 pub record Described (input : List ℕ) : Type 0 where
   pub order : Order
   pub isOne : T (isOrder order)
-  pub pairs : List Pair
+  pub pairs : List NumeralPair
   pub proper : AllProper pairs
   pub some : 0 < length pairs
   pub room : length pairs ≤ 64

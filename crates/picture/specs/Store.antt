@@ -24,9 +24,9 @@ narrowed bytes channels k c =
     (storeSample (storeRgb bytes k c) (k + 3) (c .a))
     (cond (eqb channels 3) (storeRgb bytes k c) (storeSample bytes k (luma c)))
 
--- the bytes with the colour as their pixel numbered p, row by row
+-- the bytes with the colour as their pixel numbered `pixel`, row by row
 unfoldable pub storePixel : List ℕ → ℕ → ℕ → Rgba → List ℕ
-storePixel bytes channels p c = narrowed bytes channels (p * channels) c
+storePixel bytes channels pixel c = narrowed bytes channels (pixel * channels) c
 
 -- none of what can be put of a colour is a NaN: its samples and its luma
 pub record Numbers (c : Rgba) : Type 0 where

@@ -93,21 +93,21 @@ fn narrowed(band: &mut [u8], channels: u64, k: u64, c: Rgba)
     store_sample(band, k, luma(c));
 }
 
-// The pixel numbered p.
-pub fn store_pixel(band: &mut [u8], channels: u64, p: u64, c: Rgba)
-    requires { ⌜ (0 < channels) × ((p * channels + channels) * 4 ≤ length (now band)) ⌝ }
-    ensures { λ _. ⌜ now (band .exit) ≡ storePixel (now (band .entry)) channels p c ⌝ }
+// The pixel numbered `pixel`.
+pub fn store_pixel(band: &mut [u8], channels: u64, pixel: u64, c: Rgba)
+    requires { ⌜ (0 < channels) × ((pixel * channels + channels) * 4 ≤ length (now band)) ⌝ }
+    ensures { λ _. ⌜ now (band .exit) ≡ storePixel (now (band .entry)) channels pixel c ⌝ }
 {
-    narrowed(band, channels, p * channels, c);
+    narrowed(band, channels, pixel * channels, c);
 }
 
 // The same of a colour of numbers: no test for a NaN.
-pub fn store_number_pixel(band: &mut [u8], channels: u64, p: u64, c: Rgba)
-    requires { ⌜ (0 < channels) × ((p * channels + channels) * 4 ≤ length (now band)) ⌝ }
+pub fn store_number_pixel(band: &mut [u8], channels: u64, pixel: u64, c: Rgba)
+    requires { ⌜ (0 < channels) × ((pixel * channels + channels) * 4 ≤ length (now band)) ⌝ }
     requires { ⌜ Numbers c ⌝ }
-    ensures { λ _. ⌜ now (band .exit) ≡ storePixel (now (band .entry)) channels p c ⌝ }
+    ensures { λ _. ⌜ now (band .exit) ≡ storePixel (now (band .entry)) channels pixel c ⌝ }
 {
-    let k = p * channels;
+    let k = pixel * channels;
     if channels == 4 {
         store_four(band, k, c);
         return;

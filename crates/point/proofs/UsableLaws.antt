@@ -9,6 +9,7 @@ use lib.Ieee.{Float, nan, inf, fin, up, down, ofBits, le}
 use lib.Ieee.Bits.{is-true}
 use lib.Ieee.Scale.{finite}
 use lib.Ieee.Fits.{down-pos}
+use Rattle.exact.specs.Double.{usableLimit}
 use Rattle.exact.specs.Fraction.{Fraction, frac, value, _≤F_, absF}
 use Rattle.exact.specs.Rounds.{Close}
 use Rattle.exact.proofs.Booleans.{both}
@@ -18,7 +19,7 @@ use Rattle.exact.proofs.Magnitude.{sized-signed, abs-sized}
 use Rattle.exact.proofs.Signed.{le-value}
 use Rattle.number.specs.Magnitude.{abs, within}
 use Rattle.number.proofs.MagnitudeLaws.{abs-finite, abs-limited}
-use Rattle.point.specs.Point.{limit, usable}
+use Rattle.point.specs.Point.{usable}
 
 -- the value of the magnitude is the magnitude of the value
 abs-fraction : (x : Float) → T (finite x) → (value (abs x) ≤F absF (value x)) × (absF (value x) ≤F value (abs x))
@@ -31,18 +32,18 @@ abs-fraction (fin s m e) t =
     let B = abs-sized (down e) (down-pos e) s a (sized-signed s a (down e) (down-pos e)) in
     (at-le (down e) (down-pos e) A B (le-refl (a + 0)), at-le (down e) (down-pos e) B A (le-refl (a + 0)))
 
-limit-number : T (finite limit)
+limit-number : T (finite usableLimit)
 unfolding ofBits
 limit-number = tt
 
-pub within-limit : (x : Float) → T (finite x) → absF (value x) ≤F value limit → within limit x ≡ true
+pub within-limit : (x : Float) → T (finite x) → absF (value x) ≤F value usableLimit → within usableLimit x ≡ true
 unfolding within
 within-limit x t h =
-    is-true (le (abs x) limit)
-    (le-value (abs x) limit (subst T (sym (abs-finite x)) t) limit-number .1
-    (le-trans (value (abs x)) (absF (value x)) (value limit) (abs-fraction x t .0) h))
+    is-true (le (abs x) usableLimit)
+    (le-value (abs x) usableLimit (subst T (sym (abs-finite x)) t) limit-number .1
+    (le-trans (value (abs x)) (absF (value x)) (value usableLimit) (abs-fraction x t .0) h))
 
-room : frac 16385 1 ≤F value limit
+room : frac 16385 1 ≤F value usableLimit
 unfolding ofBits
 room = record { le = lit≤ tt }
 
@@ -50,28 +51,28 @@ pub usable-close : {u v : Float} {U W e f : Fraction} → Close u U e (frac 1638
     → usable u v ≡ true
 unfolding usable
 usable-close {u} {v} c d =
-    ap (λ (t : Bool). t && within limit v)
-    (within-limit u (c .number) (le-trans (absF (value u)) (frac 16385 1) (value limit) (c .small) room))
-    ∙ within-limit v (d .number) (le-trans (absF (value v)) (frac 16385 1) (value limit) (d .small) room)
+    ap (λ (t : Bool). t && within usableLimit v)
+    (within-limit u (c .number) (le-trans (absF (value u)) (frac 16385 1) (value usableLimit) (c .small) room))
+    ∙ within-limit v (d .number) (le-trans (absF (value v)) (frac 16385 1) (value usableLimit) (d .small) room)
 
 -- ---- and the other way: what is usable is a number, at most 2^30 in magnitude
-limit-value : value limit ≤F frac 1073741824 1
+limit-value : value usableLimit ≤F frac 1073741824 1
 unfolding ofBits
 limit-value = record { le = lit≤ tt }
 
-pub within-number : (x : Float) → within limit x ≡ true → T (finite x) × (absF (value x) ≤F frac 1073741824 1)
+pub within-number : (x : Float) → within usableLimit x ≡ true → T (finite x) × (absF (value x) ≤F frac 1073741824 1)
 unfolding within
 within-number x h =
-    let l : T (le (abs x) limit) = subst⁻¹ T h tt in
-    let t : T (finite x) = abs-limited x limit limit-number l in (
+    let l : T (le (abs x) usableLimit) = subst⁻¹ T h tt in
+    let t : T (finite x) = abs-limited x usableLimit limit-number l in (
       t,
       le-trans (absF (value x)) (value (abs x)) (frac 1073741824 1) (abs-fraction x t .1)
-          (le-trans (value (abs x)) (value limit) (frac 1073741824 1)
-          (le-value (abs x) limit (subst T (sym (abs-finite x)) t) limit-number .0 l) limit-value),
+          (le-trans (value (abs x)) (value usableLimit) (frac 1073741824 1)
+          (le-value (abs x) usableLimit (subst T (sym (abs-finite x)) t) limit-number .0 l) limit-value),
     )
 
 pub usable-numbers : (u v : Float) → usable u v ≡ true → (T (finite u) × (absF (value u) ≤F frac 1073741824 1))
     × (T (finite v) × (absF (value v) ≤F frac 1073741824 1))
 unfolding usable
-usable-numbers u v h = let p = both (within limit u) (within limit v) h in
+usable-numbers u v h = let p = both (within usableLimit u) (within usableLimit v) h in
     (within-number u (p .0), within-number v (p .1))

@@ -8,12 +8,9 @@ use Rattle.exact.specs.Double.{usableLimit}
 use Rattle.number.specs.Magnitude.{within}
 use Rattle.point.specs.declared.point.Point.{Point}
 
-abbrev pub limit : Float
-limit = usableLimit
-
 -- neither is a NaN or above 2^30 in magnitude
 unfoldable pub usable : Float → Float → Bool
-usable u v = within limit u && within limit v
+usable u v = within usableLimit u && within usableLimit v
 
 abbrev pub point : Float → Float → Point
 point u v = record { u = u; v = v; usable = usable u v }

@@ -27,7 +27,7 @@ fn store_kept(us: &[f64; 64], vs: &[f64; 64], first: usize, n: usize, place: usi
     }
 }
 
-fn store_span(
+fn store_span_points(
     out: &mut [u8],
     frame: Frame,
     coef: &[f64; 256],
@@ -49,7 +49,14 @@ fn store_span(
 }
 
 // Row j of a window of this width.
-fn store_row(out: &mut [u8], frame: Frame, coef: &[f64; 256], width: u64, j: u64, place: usize)
+fn store_row_points(
+    out: &mut [u8],
+    frame: Frame,
+    coef: &[f64; 256],
+    width: u64,
+    j: u64,
+    place: usize,
+)
     requires { ⌜ (width ≤ 4096) × (j ≤ 4096) ⌝ }
     requires { ⌜ (natAbs (frame .x) ≤ 1048576) × (natAbs (frame .y) ≤ 1048576) ⌝ }
     requires { ⌜ (place + width) * 24 ≤ length (now out) ⌝ }
@@ -59,13 +66,20 @@ fn store_row(out: &mut [u8], frame: Frame, coef: &[f64; 256], width: u64, j: u64
     let mut i = 0;
     while i < width {
         let n = next_span(width - i);
-        store_span(out, frame, coef, i, j, n, place);
+        store_span_points(out, frame, coef, i, j, n, place);
         i = i + n as u64;
     }
 }
 
 // Rows from `first` on.
-fn store_rows(out: &mut [u8], frame: Frame, coef: &[f64; 256], width: u64, first: u64, rows: u64)
+fn store_rows_points(
+    out: &mut [u8],
+    frame: Frame,
+    coef: &[f64; 256],
+    width: u64,
+    first: u64,
+    rows: u64,
+)
     requires { ⌜ (width ≤ 4096) × (first + rows ≤ 4096) ⌝ }
     requires { ⌜ (natAbs (frame .x) ≤ 1048576) × (natAbs (frame .y) ≤ 1048576) ⌝ }
     requires { ⌜ length (now out) ≡ rows * width * 24 ⌝ }
@@ -74,7 +88,7 @@ fn store_rows(out: &mut [u8], frame: Frame, coef: &[f64; 256], width: u64, first
 {
     for r in 0..rows {
         let place = r * width;
-        store_row(out, frame, coef, width, first + r, place as usize);
+        store_row_points(out, frame, coef, width, first + r, place as usize);
     }
 }
 
@@ -122,6 +136,6 @@ pub extern "C" fn probe_rows(
     let mapping = fitted.mapping;
     let coef = mapping.coef;
     let frame = frame_of(mapping, x, y);
-    store_rows(out, frame, &coef, width, first, rows);
+    store_rows_points(out, frame, &coef, width, first, rows);
     0
 }

@@ -8,8 +8,8 @@ use lib.Dec.{T}
 use lib.ListN.{length}
 use lib.Ieee.{binary64, ofBits}
 use borrow.Author.Tests.{not-false}
-use Rattle.probe_sampler.specs.Sampled.{samples, wrongPicture, wrongCodes, large, farCoordinate, unfitSample}
-use Rattle.taps.specs.Cell.{reach, Reached}
+use Rattle.probe_sampler.specs.Sampled.{sampleCount, wrongPicture, wrongCodes, large, farCoordinate, unfitSample}
+use Rattle.taps.specs.Cell.{indexLimit, Reached}
 use Rattle.picture.specs.Pixel.{Shaped, Inside}
 use Rattle.picture.specs.Size.{badSize, badStock}
 use Rattle.picture.specs.declared.shape.Shape.{Shape}
@@ -26,7 +26,7 @@ shape-fit bytes s f =
 
 pub reached : (x : ℕ) → farCoordinate x ≡ false → Reached (ofBits binary64 x)
 unfolding farCoordinate
-reached x h = holds (within reach (ofBits binary64 x)) (not-false (within reach (ofBits binary64 x)) h)
+reached x h = holds (within indexLimit (ofBits binary64 x)) (not-false (within indexLimit (ofBits binary64 x)) h)
   where
     holds : (t : Bool) → t ≡ true → T t
     holds true e = tt
@@ -41,10 +41,10 @@ unfolding unfitSample large
 outside-fit bytes s policy code background x y f =
     let r : Bool = farCoordinate x || farCoordinate y in
     let q : Bool = large background 4 || r in
-    let p : Bool = large bytes (samples s) || q in
+    let p : Bool = large bytes (sampleCount s) || q in
     let t = or-false (wrongPicture bytes s) (wrongCodes policy code || p) f in
     let u = or-false (wrongCodes policy code) p (t .1) in
-    let v = or-false (large bytes (samples s)) q (u .1) in
+    let v = or-false (large bytes (sampleCount s)) q (u .1) in
     let k = or-false (large background 4) r (v .1) in
     let l = or-false (farCoordinate x) (farCoordinate y) (k .1) in
     let z = shape-fit bytes s (t .0) in (

@@ -8,7 +8,7 @@ use lib.Ieee.{binary64, ofBits}
 use Rattle.number.specs.Magnitude.{within}
 unfoldable pub use Rattle.sample_limit.specs.Samples.{large}
 use Rattle.policies.specs.Named.{randomCode}
-use Rattle.taps.specs.Cell.{reach}
+use Rattle.taps.specs.Cell.{indexLimit}
 use Rattle.taps.specs.Interpolation.{backgroundCode}
 use Rattle.sampler.specs.Interpolate.{interpolate}
 use Rattle.picture.specs.Pixel.{pixelAt}
@@ -19,8 +19,8 @@ use Rattle.picture.specs.declared.shape.Shape.{Shape}
 
 -- ---- what is outside the domain
 -- how many samples a picture has
-abbrev pub samples : Shape → ℕ
-samples s = s .width * s .height * s .channels
+abbrev pub sampleCount : Shape → ℕ
+sampleCount s = s .width * s .height * s .channels
 
 unfoldable pub wrongPicture : List ℕ → Shape → Bool
 wrongPicture bytes s =
@@ -31,13 +31,13 @@ wrongCodes policy code = ltb randomCode policy || ltb backgroundCode code
 
 -- a coordinate, by its bits, that is not a number or above 2^30 + 1 in magnitude
 unfoldable pub farCoordinate : ℕ → Bool
-farCoordinate x = not (within reach (ofBits binary64 x))
+farCoordinate x = not (within indexLimit (ofBits binary64 x))
 
 unfoldable pub unfitSample : List ℕ → Shape → ℕ → ℕ → List ℕ → ℕ → ℕ → Bool
 unfitSample bytes s policy code background x y =
     wrongPicture bytes s
     || (wrongCodes policy code
-    || (large bytes (samples s) || (large background 4 || (farCoordinate x || farCoordinate y))))
+    || (large bytes (sampleCount s) || (large background 4 || (farCoordinate x || farCoordinate y))))
 
 -- ---- the answers
 -- the colour at a point, by the bits of its coordinates, as the pixel numbered k

@@ -20,9 +20,9 @@ use Rattle.band.specs.Band.{
   framed,
   shown,
   colourAt,
-  matteAt,
+  mattePixelsAt,
   keptColour,
-  keptMatte,
+  keptMattePixels,
   pixelBytes,
   putPixels,
   spanBytes,
@@ -39,10 +39,10 @@ module _ (s : Source) (frame : Frame) (coef : Vector) (first j n : ℕ) (us vs :
   abbrev f : Mapped
   f = framed coef frame
 
-  pub span-mattes : totalled (λ (k : ℕ). keptMatte (at us k) (at vs k)) n ≡ totalled
-      (λ (k : ℕ). matteAt f (first + k) j) n
+  pub span-mattes : totalled (λ (k : ℕ). keptMattePixels (at us k) (at vs k)) n ≡ totalled
+      (λ (k : ℕ). mattePixelsAt f (first + k) j) n
   span-mattes =
-      totalled-same (λ (k : ℕ). keptMatte (at us k) (at vs k)) (λ (k : ℕ). matteAt f (first + k) j) n
+      totalled-same (λ (k : ℕ). keptMattePixels (at us k) (at vs k)) (λ (k : ℕ). mattePixelsAt f (first + k) j) n
       (λ k h. ap (λ (p : Point). cond (p .usable) 0 1) (sym (P .kept k h)))
 
   pub span-colours : (out-channels pixel : ℕ) (band : List ℕ)

@@ -12,7 +12,7 @@ use band::span::Span;
 use fast_cells::cells::cells;
 use fast_cells::cells::places;
 use fast_cells::reach::Reach;
-use fast_colours::broad::store_cells;
+use fast_colours::broad::store_broad_cells;
 use fast_colours::plain::store_places;
 use fast_cubic::spans::store_cubic;
 use picture::shape::Shape;
@@ -89,7 +89,7 @@ fn store_bilinear(
         &mut ys,
     ) {
         if ahead(picture, shape, &columns, &rows, span.n) {
-            store_cells(picture, shape, &columns, &rows, &xs, &ys, span, band);
+            store_broad_cells(picture, shape, &columns, &rows, &xs, &ys, span, band);
             return true;
         }
     }

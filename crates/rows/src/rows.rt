@@ -6,7 +6,7 @@ ghost use Prim.Native.Nat.{_+_, _*_, _≤_};
 ghost use lib.IntN.{natAbs};
 ghost use lib.ListN.{length, take, drop};
 ghost use Rattle.picture.specs.Pixel.{Shaped, Channels};
-ghost use Rattle.band.specs.Band.{sourced, framed, rowBytes, rowsBytes, rowMatte, rowsMatte};
+ghost use Rattle.band.specs.Band.{sourced, framed, rowBytes, rowsBytes, rowMattePixels, rowsMattePixels};
 use crate::span::store_span;
 use band::look::Look;
 use band::rows::Row;
@@ -33,7 +33,7 @@ fn store_row(
     requires { ⌜ (natAbs (frame .x) ≤ 1048576) × (natAbs (frame .y) ≤ 1048576) ⌝ }
     requires { ⌜ (row .pixel + out .width) * out .channels * 4 ≤ length (now band) ⌝ }
     ensures { λ r.
-        ⌜ (r ≡ rowMatte (framed (now (coef .entry)) frame) (out .width) (row .j))
+        ⌜ (r ≡ rowMattePixels (framed (now (coef .entry)) frame) (out .width) (row .j))
         × (now (band .exit) ≡ take (row .pixel * out .channels * 4) (now (band .entry))
         ++ rowBytes (sourced (now (picture .entry)) shape look) (framed (now (coef .entry)) frame) (out .channels)
         (out .width) (row .j)
@@ -75,7 +75,7 @@ pub fn store_rows(
     requires { ⌜ (natAbs (frame .x) ≤ 1048576) × (natAbs (frame .y) ≤ 1048576) ⌝ }
     requires { ⌜ length (now band) ≡ rows .count * out .width * out .channels * 4 ⌝ }
     ensures { λ r.
-        ⌜ (r ≡ rowsMatte (framed (now (coef .entry)) frame) (out .width) (rows .first) (rows .count))
+        ⌜ (r ≡ rowsMattePixels (framed (now (coef .entry)) frame) (out .width) (rows .first) (rows .count))
         × (now (band .exit) ≡ rowsBytes (sourced (now (picture .entry)) shape look)
         (framed (now (coef .entry)) frame) (out .channels) (out .width) (rows .first) (rows .count)) ⌝ }
 {

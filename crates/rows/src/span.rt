@@ -11,8 +11,8 @@ ghost use Rattle.band.specs.Band.{
   sourced,
   framed,
   colourAt,
-  matteAt,
-  keptMatte,
+  mattePixelsAt,
+  keptMattePixels,
   putPixels,
   spanBytes,
   InnerOrUntouched,
@@ -69,7 +69,7 @@ fn store_colours(
     requires { ⌜ span .n ≤ 64 ⌝ }
     requires { ⌜ (span .pixel + span .n) * «out_channels» * 4 ≤ length (now band) ⌝ }
     ensures { λ r.
-        ⌜ (r ≡ totalled (λ (k : ℕ). keptMatte (Vectors.at (now (us .entry)) k) (Vectors.at (now (vs .entry)) k))
+        ⌜ (r ≡ totalled (λ (k : ℕ). keptMattePixels (Vectors.at (now (us .entry)) k) (Vectors.at (now (vs .entry)) k))
         (span .n))
         × (now (band .exit) ≡ spanBytes (sourced (now (picture .entry)) shape look) «out_channels» (now (us .entry))
         (now (vs .entry)) (span .n) (span .pixel) (now (band .entry))) ⌝ }
@@ -105,7 +105,8 @@ pub fn store_span(
     requires { ⌜ (natAbs (frame .x) ≤ 1048576) × (natAbs (frame .y) ≤ 1048576) ⌝ }
     requires { ⌜ (span .pixel + span .n) * «out_channels» * 4 ≤ length (now band) ⌝ }
     ensures { λ r.
-        ⌜ (r ≡ totalled (λ (k : ℕ). matteAt (framed (now (coef .entry)) frame) (span .first + k) (span .j)) (span .n))
+        ⌜ (r ≡ totalled (λ (k : ℕ). mattePixelsAt (framed (now (coef .entry)) frame) (span .first + k) (span .j))
+        (span .n))
         × (now (band .exit) ≡ putPixels «out_channels»
         (λ (k : ℕ). colourAt (sourced (now (picture .entry)) shape look) (framed (now (coef .entry)) frame)
         (span .first + k) (span .j)) (span .n) (span .pixel) (now (band .entry))) ⌝ }

@@ -3,10 +3,10 @@ use mathlib.Core.Path.{_≡_, subst⁻¹}
 use mathlib.Core.Bool.{Bool, true, false, _&&_, false≢true}
 use lib.Dec.{T}
 use lib.Ieee.{Float}
-use Rattle.exact.specs.Double.{_⊖_}
+use Rattle.exact.specs.Double.{_⊖_, usableLimit}
 use Rattle.exact.specs.Warp.{half}
 use Rattle.number.specs.Magnitude.{within}
-use Rattle.point.specs.Point.{limit, usable}
+use Rattle.point.specs.Point.{usable}
 use Rattle.taps.specs.Cell.{Reached}
 use Rattle.taps.proofs.CellFloor.{usable-reached}
 
@@ -16,5 +16,5 @@ both false b h = absurd (false≢true h)
 
 pub both-reached : (u v : Float) → usable u v ≡ true → Reached (u ⊖ half) × Reached (v ⊖ half)
 unfolding usable
-both-reached u v h = let p = both (within limit u) (within limit v) h in
+both-reached u v h = let p = both (within usableLimit u) (within usableLimit v) h in
     (usable-reached u (p .0), usable-reached v (p .1))

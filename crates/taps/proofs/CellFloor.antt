@@ -41,7 +41,7 @@ use Rattle.number.proofs.FloorLaws.{
   floor-zero,
 }
 use Rattle.number.proofs.MagnitudeLaws.{abs-limited}
-use Rattle.taps.specs.Cell.{reach, Reached, fraction}
+use Rattle.taps.specs.Cell.{indexLimit, Reached, fraction}
 use Rattle.taps.proofs.CellLaws.{reached-number, reached-domain}
 use Rattle.cubic.proofs.Sizes.{abs-magnitude}
 
@@ -155,16 +155,16 @@ module _ (x : Float) (r : Reached x) where
       (narrow-rounds (x ⊖ floorF64 x) (cell-rest x (floorF64 x) n (float-floor .0) (float-floor .1) .0)))
 
 -- ---- from a size to what is reached
-reach-number : T (finite reach)
+reach-number : T (finite indexLimit)
 reach-number = unfold ofBits in tt
 
-reach-value : frac 1073741825 1 ≈ value reach
+reach-value : frac 1073741825 1 ≈ value indexLimit
 reach-value = unfold ofBits in record { eq = refl }
 
 pub reached-of : (x : Float) → T (finite x) → absF (value x) ≤F frac 1073741825 1 → Reached x
 unfolding within
 reached-of x n h = let m = abs-magnitude x n in
-    le-value (abs x) reach (m .0) reach-number .1 (le-same (back (m .1)) reach-value h)
+    le-value (abs x) indexLimit (m .0) reach-number .1 (le-same (back (m .1)) reach-value h)
 
 usable-number : T (finite usableLimit)
 usable-number = unfold ofBits in tt

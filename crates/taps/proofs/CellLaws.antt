@@ -29,7 +29,7 @@ use Rattle.number.specs.Floor.{inDomain, floorℤ, floorI64}
 use Rattle.number.specs.Magnitude.{abs, within}
 use Rattle.number.proofs.FloorLaws.{floor-size, floor-integer}
 use Rattle.number.proofs.MagnitudeLaws.{abs-limited}
-use Rattle.taps.specs.Cell.{reach, Reached, rounded, first}
+use Rattle.taps.specs.Cell.{indexLimit, Reached, rounded, first}
 use Rattle.taps.specs.Interpolation.{
   Interpolation,
   Integer,
@@ -45,22 +45,22 @@ use Rattle.taps.specs.Interpolation.{
 use Rattle.cubic.proofs.Sizes.{abs-magnitude}
 
 -- ---- what a coordinate that is reached is
-reach-number : T (finite reach)
+reach-number : T (finite indexLimit)
 unfolding ofBits
 reach-number = tt
 
 pub reached-number : (x : Float) → Reached x → T (finite x)
 unfolding within
-reached-number x h = abs-limited x reach reach-number h
+reached-number x h = abs-limited x indexLimit reach-number h
 
 pub reached-size : (x : Float) → Reached x → absF (value x) ≤F frac 1073741825 1
 unfolding within
 reached-size x h =
     let n = reached-number x h in
     let m = abs-magnitude x n in
-    le-same (m .1) reach-value (le-value (abs x) reach (m .0) reach-number .0 h)
+    le-same (m .1) reach-value (le-value (abs x) indexLimit (m .0) reach-number .0 h)
   where
-    reach-value : value reach ≈ frac 1073741825 1
+    reach-value : value indexLimit ≈ frac 1073741825 1
     reach-value = unfold ofBits in record { eq = refl }
 
 -- ---- the floor's domain

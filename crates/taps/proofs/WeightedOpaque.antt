@@ -1,5 +1,5 @@
--- Four opaque taps with `Bilinear`'s weights: a loop over four is the sums written out, and with every alpha 1 they are
--- the sums whose laws are known (exact). So each colour is from 0 to 1 and within 17 units of 2 ^ -24 of the exact
+-- Four opaque taps with `BilinearAt`'s weights: a loop over four is the sums written out, and with every alpha 1 they
+-- are the sums whose laws are known (exact). So each colour is from 0 to 1 and within 17 units of 2 ^ -24 of the exact
 -- blend, and alpha is 1. Provides: `four`, `summed-four`, `opaque-four` (the mean is these quotients);
 -- `blended-opaque`, `opaque-mean`, `opaque-blend` (of `weighted` itself), `halfway` (an example). Assumes nothing.
 use mathlib.Core.Path.{_≡_, refl, sym, ap, _∙_, subst}
@@ -28,7 +28,7 @@ use Rattle.taps.specs.Weighted.{
   tapSums,
   weighted,
   Opaque,
-  Bilinear,
+  BilinearAt,
   Blended,
 }
 use Rattle.picture.specs.declared.colour.Rgba.{Rgba}
@@ -108,7 +108,7 @@ module _ (tx ty : Float) (x : Unit32 tx) (y : Unit32 ty) where
         alpha = alpha-one tx ty x y;
       })
 
-  pub opaque-blend : (taps : List Rgba) (weights : List Float) → Bilinear weights tx ty
+  pub opaque-blend : (taps : List Rgba) (weights : List Float) → BilinearAt weights tx ty
       → Opaque (tapAt taps 0) → Opaque (tapAt taps 1) → Opaque (tapAt taps 2) → Opaque (tapAt taps 3)
       → Blended (weighted taps weights 4) tx ty (tapAt taps 0) (tapAt taps 1) (tapAt taps 2) (tapAt taps 3)
   unfolding weighted

@@ -22,11 +22,11 @@ use Rattle.taps.specs.Interpolation.{
 }
 
 -- the coordinates that a usable source point leads to: at most 2^30 + 1 in magnitude
-abbrev pub reach : Float
-reach = ofBits binary64 0x41d0_0000_0040_0000
+abbrev pub indexLimit : Float
+indexLimit = ofBits binary64 0x41d0_0000_0040_0000
 
 abbrev pub Reached : Float → Type 0
-Reached x = T (within reach x)
+Reached x = T (within indexLimit x)
 
 -- (x - x.floor()) as f32
 abbrev pub fraction : Float → Float

@@ -71,7 +71,7 @@ pub record Opaque (p : Rgba) : Type 0 where
   pub alpha : p .a ≡ one
 
 -- the first four weights are those of a point at tx, ty in its cell
-pub record Bilinear (weights : List Float) (tx ty : Float) : Type 0 where
+pub record BilinearAt (weights : List Float) (tx ty : Float) : Type 0 where
   pub at-00 : weightAt weights 0 ≡ w00 tx ty
   pub at-10 : weightAt weights 1 ≡ w10 tx ty
   pub at-01 : weightAt weights 2 ≡ w01 tx ty

@@ -7,7 +7,7 @@ use native.Mathlib.Omega.{arith}
 use borrow.Author.Needs.{needs}
 use Rattle.exact.specs.Vector.{at}
 use Rattle.point.specs.Point.{usable}
-use Rattle.band.specs.Band.{sourced, keptColour, keptMatte}
+use Rattle.band.specs.Band.{sourced, keptColour, keptMattePixels}
 use Rattle.band.proofs.PixelLaws.{channels-pos}
 use Rattle.band.proofs.RowLaws.{
   RowHolds,
@@ -26,7 +26,7 @@ use Rattle.band.proofs.any.store_any.Tie as tie
 abbrev Inv-loop : tie.InvT-loop
 Inv-loop picture shape look out-channels us vs span band₀ n missed₀ k₀ band matte-pixels k =
     RowHolds out-channels n (span .pixel) (λ (i : ℕ). keptColour (sourced picture shape look) (at us i) (at vs i))
-    (λ (i : ℕ). keptMatte (at us i) (at vs i)) band₀ band matte-pixels k
+    (λ (i : ℕ). keptMattePixels (at us i) (at vs i)) band₀ band matte-pixels k
 
 abbrev μ-loop : tie.MeasureT-loop
 μ-loop picture shape look out-channels us vs span band₀ n missed₀ k₀ band matte-pixels k = n - k

@@ -13,7 +13,7 @@ shown-requires c κs = (search needs, subst⁻¹ Whole (c .before .point .ensure
 returns : tie.Need-returns
 returns c =
     let e = c .before .before .before .before .before .before in (
-      c .matte-of .ensures ∙ rw (e .point .ensures),
+      c .matte-pixels-of .ensures ∙ rw (e .point .ensures),
       c .before .before .before .store-pixel .ensures
           ∙ rw (c .before .before .before .before .shown .ensures, e .point .ensures),
     )

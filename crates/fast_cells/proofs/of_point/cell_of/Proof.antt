@@ -12,10 +12,11 @@ returns c =
     let R = start .pre .1 in
     of-both p (start .pre .0) (c .before .has-cell .ensures) (c .has-cell2 .ensures) (λ h. h .usable) (λ h. h .usable)
     (cell _ (R .0) (p .u) (c .before .before .before .before .before .before .before .kept .ensures .0)
-    (c .before .before .before .before .before .column .ensures) (c .before .before .before .part .ensures)
+    (c .before .before .before .before .before .column .ensures) (c .before .before .before .fraction-of .ensures)
     (c .before .has-cell .ensures))
     (cell _ (R .1) (p .v) (c .before .before .before .before .before .before .kept2 .ensures .0)
-    (c .before .before .before .before .column2 .ensures) (c .before .before .part2 .ensures) (c .has-cell2 .ensures))
+    (c .before .before .before .before .column2 .ensures) (c .before .before .fraction-of2 .ensures)
+    (c .has-cell2 .ensures))
 
 pub cell-of-spec : {M : Type 1} → statement M
 cell-of-spec =

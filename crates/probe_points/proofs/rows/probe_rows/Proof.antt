@@ -51,7 +51,7 @@ returns-3 c =
       eq-eqb _ _ (d .before .before .if1 .left),
       read (a .width) (a .first) (a .rows) _ _ _ (d .before .wrong-rows .ensures) (toZ-ofZ w64 (a .x) (s .fits .x))
           (toZ-ofZ w64 (a .y) (s .fits .y)) (d .if2 .left),
-      c .before .before .store-rows .ensures,
+      c .before .before .store-rows-points .ensures,
       c .before .before .before .before .before .frame-of .ensures,
       toZ-ofZ w64 (a .x) (s .fits .x),
       toZ-ofZ w64 (a .y) (s .fits .y),

@@ -46,7 +46,7 @@ returns c =
     .before .if1 .taken) in
     inner-put
     (cells-shown (a .shape .width) (a .shape .height) (C .0) (C .1) (now (a .picture)) (a .shape .channels))
-    (a .shape .channels) (a .span .pixel) (now (a .band)) (c .before .before .store-cells .ensures)
+    (a .shape .channels) (a .span .pixel) (now (a .band)) (c .before .before .store-broad-cells .ensures)
 
 returns-2 : tie.Need-returns-2
 returns-2 c = (λ e. absurd (false≢true e), λ _. refl)

@@ -5,7 +5,7 @@ use Prim.Native.Nat.{ℕ, _-_}
 use native.Mathlib.Nat.{le-trans, le-antisymm, le-of-eq}
 use native.Mathlib.Omega.{arith}
 use borrow.Author.Needs.{needs}
-use Rattle.band.specs.Band.{sourced, framed, pointAt, colourAt, matteAt, rowBytes, rowMatte}
+use Rattle.band.specs.Band.{sourced, framed, pointAt, colourAt, mattePixelsAt, rowBytes, rowMattePixels}
 use Rattle.band.proofs.PixelLaws.{channels-pos}
 use Rattle.band.proofs.RowLaws.{RowHolds, row-start, row-done, row-same, bit-most, place-small}
 use Rattle.rows.proofs.SpanLaws.{row-part, within-row, part-room, part-most}
@@ -16,7 +16,7 @@ abbrev Inv-loop : tie.InvT-loop
 Inv-loop picture shape look frame coef out row band₀ width pixel missed₀ i₀ band matte-pixels i =
     RowHolds (out .channels) width pixel (λ (k : ℕ). colourAt (sourced picture shape look) (framed coef frame) k (row
     .j))
-    (λ (k : ℕ). matteAt (framed coef frame) k (row .j)) band₀ band matte-pixels i
+    (λ (k : ℕ). mattePixelsAt (framed coef frame) k (row .j)) band₀ band matte-pixels i
 
 abbrev μ-loop : tie.MeasureT-loop
 μ-loop picture shape look frame coef out row band₀ width pixel missed₀ i₀ band matte-pixels i = width - i
@@ -114,7 +114,7 @@ same-length : tie.Need-same-length Inv-loop μ-loop
 same-length c = row-same (c .before .before .before .before .pre .1 .1 .1 .1) (c .before .loop .inv)
 
 returns : tie.Need-returns Inv-loop μ-loop
-unfolding rowBytes rowMatte
+unfolding rowBytes rowMattePixels
 returns c =
     let a = c .before .before .before .before in
     let H = c .before .loop .inv in (

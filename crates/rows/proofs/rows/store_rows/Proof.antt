@@ -5,7 +5,7 @@ use Prim.Native.Nat.{ℕ, _+_, _-_}
 use native.Mathlib.Nat.{le-antisymm}
 use native.Mathlib.Omega.{arith}
 use borrow.Author.Needs.{needs}
-use Rattle.band.specs.Band.{sourced, framed, rowBytes, rowMatte, rowsBytes, rowsMatte}
+use Rattle.band.specs.Band.{sourced, framed, rowBytes, rowMattePixels, rowsBytes, rowsMattePixels}
 use Rattle.band.proofs.LengthLaws.{row-length, row-matte-most}
 use Rattle.band.proofs.RowLaws.{
   RowsHolds,
@@ -24,7 +24,7 @@ abbrev Inv-loop : tie.InvT-loop
 Inv-loop picture shape look frame coef out band₀ width first count missed₀ r₀ band matte-pixels r =
     RowsHolds (out .channels) width count
     (λ (k : ℕ). rowBytes (sourced picture shape look) (framed coef frame) (out .channels) width (first + k))
-    (λ (k : ℕ). rowMatte (framed coef frame) width (first + k)) band₀ band matte-pixels r
+    (λ (k : ℕ). rowMattePixels (framed coef frame) width (first + k)) band₀ band matte-pixels r
 
 abbrev μ-loop : tie.MeasureT-loop
 μ-loop picture shape look frame coef out band₀ width first count missed₀ r₀ band matte-pixels r = count - r
@@ -88,7 +88,7 @@ same-length : tie.Need-same-length Inv-loop μ-loop
 same-length c = rows-same (c .before .before .before .before .pre .1 .1 .1 .1) (c .before .loop .inv)
 
 returns : tie.Need-returns Inv-loop μ-loop
-unfolding rowsBytes rowsMatte
+unfolding rowsBytes rowsMattePixels
 returns c =
     let a = c .before .before .before .before in
     let H = c .before .loop .inv in (

@@ -1,5 +1,5 @@
--- `probe_points::rows::store_rows` meets its contract. The loop's invariant: r rows are written, and the bytes are as
--- many as before. Assumes nothing.
+-- `probe_points::rows::store_rows_points` meets its contract. The loop's invariant: r rows are written, and the bytes
+-- are as many as before. Assumes nothing.
 use mathlib.Core.Path.{_≡_, _∙_}
 use Prim.Native.Nat.{ℕ, _+_, _-_, _*_, _≤_}
 use native.Mathlib.Nat.{mul-le-mul-right, lt-of-le-of-lt}
@@ -11,8 +11,8 @@ use Rattle.exact.proofs.Loop.{upTo-none, upTo-next, upTo-last}
 use Rattle.exact.specs.Loop.{upTo}
 use Rattle.probe_points.specs.Rows.{storeRow}
 use Rattle.probe_points.proofs.RowsLaws.{product}
-use Rattle.probe_points.proofs.rows.store_rows.Statement.{statement}
-use Rattle.probe_points.proofs.rows.store_rows.Tie as tie
+use Rattle.probe_points.proofs.rows.store_rows_points.Statement.{statement}
+use Rattle.probe_points.proofs.rows.store_rows_points.Tie as tie
 
 abbrev Inv-loop : tie.InvT-loop
 Inv-loop out₀ frame coef width first rows r₀ out r = (out ≡ upTo (storeRow frame coef width first) 0 r out₀)
@@ -56,15 +56,16 @@ loop-again : tie.Need-loop-again Inv-loop μ-loop
 unfolding storeRow
 loop-again c =
     let head = c .before .before .before .before .before in (
-      c .before .before .store-row .ensures ∙ upTo-next _ _ _ (head .loop .r) (search needs) (head .loop .inv .0),
-      (c .before .before .store-row .kept .0 ∙ head .loop .inv .1 .0, search needs),
+      c .before .before .store-row-points .ensures ∙ upTo-next _ _ _ (head .loop .r) (search needs)
+          (head .loop .inv .0),
+      (c .before .before .store-row-points .kept .0 ∙ head .loop .inv .1 .0, search needs),
     )
 
 returns : tie.Need-returns Inv-loop μ-loop
 returns c = upTo-last _ _ _ _ _ (search needs) (search needs) (c .before .loop .inv .0)
 
-pub store-rows-spec : {M : Type 1} → statement M
-store-rows-spec =
+pub store-rows-points-spec : {M : Type 1} → statement M
+store-rows-points-spec =
     tie.close
     (tie.spec
     Inv-loop

@@ -1,8 +1,8 @@
--- `fast_colours::broad::store_cells` meets its contract: where the channels are three, the number that was tested is
--- handed on. Assumes nothing.
+-- `fast_colours::broad::store_broad_cells` meets its contract: where the channels are three, the number that was tested
+-- is handed on. Assumes nothing.
 use borrow.Author.Needs.{needs}
-use Rattle.fast_colours.proofs.broad.store_cells.Statement.{statement}
-use Rattle.fast_colours.proofs.broad.store_cells.Tie as tie
+use Rattle.fast_colours.proofs.broad.store_broad_cells.Statement.{statement}
+use Rattle.fast_colours.proofs.broad.store_broad_cells.Tie as tie
 
 store-three-requires : tie.Need-store-three-requires
 store-three-requires c κs =
@@ -29,8 +29,8 @@ returns c =
     let three = c .before .before .before .before .before .before .before .before .if1 .taken in
     rw three (c .before .before .store-three .ensures)
 
-pub store-cells-spec : {M : Type 1} → statement M
-store-cells-spec =
+pub store-broad-cells-spec : {M : Type 1} → statement M
+store-broad-cells-spec =
     tie.close
     (tie.spec
     (λ c κs. search needs)

@@ -1,5 +1,5 @@
--- `probe_points::rows::store_row` meets its contract. The loop's invariant: the columns before i are written, and the
--- bytes are as many as before. Assumes nothing.
+-- `probe_points::rows::store_row_points` meets its contract. The loop's invariant: the columns before i are written,
+-- and the bytes are as many as before. Assumes nothing.
 use mathlib.Core.Path.{_≡_, _∙_}
 use Prim.Native.Nat.{ℕ, _+_, _-_, _*_, _≤_}
 use native.Mathlib.Nat.{le-trans}
@@ -10,8 +10,8 @@ use Rattle.exact.proofs.Loop.{upTo-none, upTo-last}
 use Rattle.exact.specs.Loop.{upTo}
 use Rattle.probe_points.specs.Rows.{storeColumn}
 use Rattle.probe_points.proofs.RowsLaws.{row-more}
-use Rattle.probe_points.proofs.rows.store_row.Statement.{statement}
-use Rattle.probe_points.proofs.rows.store_row.Tie as tie
+use Rattle.probe_points.proofs.rows.store_row_points.Statement.{statement}
+use Rattle.probe_points.proofs.rows.store_row_points.Tie as tie
 
 abbrev Inv-loop : tie.InvT-loop
 Inv-loop out₀ frame coef width j place i₀ out i = (out ≡ upTo (storeColumn frame coef j place) 0 i out₀)
@@ -43,15 +43,15 @@ store-span-requires c κs =
 loop-again : tie.Need-loop-again Inv-loop μ-loop
 loop-again c =
     let head = c .before .before .before .before .before .before in (
-      row-more _ (head .loop .i) _ _ (head .loop .inv .0) (c .before .before .store-span .ensures),
-      (c .before .before .store-span .kept .0 ∙ head .loop .inv .1 .0, search needs),
+      row-more _ (head .loop .i) _ _ (head .loop .inv .0) (c .before .before .store-span-points .ensures),
+      (c .before .before .store-span-points .kept .0 ∙ head .loop .inv .1 .0, search needs),
     )
 
 returns : tie.Need-returns Inv-loop μ-loop
 returns c = upTo-last _ _ _ _ _ (search needs) (search needs) (c .before .loop .inv .0)
 
-pub store-row-spec : {M : Type 1} → statement M
-store-row-spec =
+pub store-row-points-spec : {M : Type 1} → statement M
+store-row-points-spec =
     tie.close
     (tie.spec
     Inv-loop

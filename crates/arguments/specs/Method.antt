@@ -37,9 +37,19 @@ barrelInverseCode = 12
 abbrev pub shepardsCode : ℕ
 shepardsCode = 13
 
--- ScaleRotateTranslate (2), Arc (8), Polar (9) and DePolar (10) are absent, and 13 is the last code
+-- the codes of those that are absent; that of `Polar` stands between the last two
+abbrev pub scaleRotateTranslateCode : ℕ
+scaleRotateTranslateCode = 2
+
+abbrev pub arcCode : ℕ
+arcCode = 8
+
+abbrev pub dePolarCode : ℕ
+dePolarCode = 10
+
+-- `Shepards` is the last
 unfoldable pub present : ℕ → Bool
-present m = leb m 13 && not (eqb m 2) && (ltb m 8 || ltb 10 m)
+present m = leb m shepardsCode && not (eqb m scaleRotateTranslateCode) && (ltb m arcCode || ltb dePolarCode m)
 
 -- the methods that take pairs
 unfoldable pub pairMethod : ℕ → Bool

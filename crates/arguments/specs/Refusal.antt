@@ -24,20 +24,32 @@ use Rattle.arguments.specs.Order.{goodOrder}
 use Rattle.arguments.specs.Store.{countOf, mostArguments, orderOf}
 
 -- ---- 4, count
--- n values of a pair method, after the order: under 4, not in fours, or over 64 pairs
+abbrev pub mostPairs : ℕ
+mostPairs = 64
+
+abbrev pub affineProjectionArguments : ℕ
+affineProjectionArguments = 6
+
+abbrev pub perspectiveProjectionArguments : ℕ
+perspectiveProjectionArguments = 8
+
+abbrev pub leastBarrelArguments : ℕ
+leastBarrelArguments = 3
+
+-- n values of a pair method, after the order: under 4, not in fours, or over the most pairs
 unfoldable pub badValues : ℕ → Bool
-badValues n = ltb n 4 || not (eqb (n % 4) 0) || ltb 64 (n / 4)
+badValues n = ltb n 4 || not (eqb (n % 4) 0) || ltb mostPairs (n / 4)
 
 -- the wrong number of arguments n for the method m
 unfoldable pub badFor : ℕ → ℕ → Bool
 badFor m n =
-    cond (eqb m affineProjectionCode) (not (eqb n 6))
-    (cond (eqb m perspectiveProjectionCode) (not (eqb n 8))
-    (cond (eqb m barrelCode || eqb m barrelInverseCode) (ltb n 3)
+    cond (eqb m affineProjectionCode) (not (eqb n affineProjectionArguments))
+    (cond (eqb m perspectiveProjectionCode) (not (eqb n perspectiveProjectionArguments))
+    (cond (eqb m barrelCode || eqb m barrelInverseCode) (ltb n leastBarrelArguments)
     (cond (eqb m polynomialCode) (eqb n 0 || badValues (n - 1))
     (badValues n))))
 
--- bytes that end inside an argument, more than 257 arguments, or the wrong number for the method
+-- bytes that end inside an argument, more than the most arguments, or the wrong number for the method
 unfoldable pub badCount : ℕ → List ℕ → Bool
 badCount m bytes = not (eqb (length bytes % 8) 0) || ltb mostArguments (countOf bytes) || badFor m (countOf bytes)
 

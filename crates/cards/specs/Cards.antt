@@ -16,7 +16,8 @@ use Rattle.inverse.specs.Inverse.{inverse}
 use Rattle.point.specs.declared.point.Point.{Point}
 use Rattle.cubic.specs.Cubic.{catrom}
 use Rattle.sampler.specs.Interpolate.{interpolate}
-use Rattle.policies.specs.Named.{named}
+use Rattle.policies.specs.Named.{edgeCode, tileCode, mirrorCode, checkerTileCode, named}
+use Rattle.taps.specs.Interpolation.{nearestCode, bilinearCode}
 use Rattle.picture.specs.declared.colour.Rgba.{Rgba}
 use Rattle.policies.specs.declared.named.Tap.{Tap}
 use Rattle.policies.specs.declared.named.Tap.the-variants as Tap
@@ -63,8 +64,8 @@ abbrev pub cardOf : ℕ → List ℕ → ℕ → Given
 cardOf method arguments bestfit = record {
   method = method;
   arguments = f64s arguments;
-  policy = 0;
-  interpolation = 1;
+  policy = edgeCode;
+  interpolation = nearestCode;
   background = opaqueBlack;
   matte = opaqueBlack;
   bestfit = bestfit;
@@ -99,23 +100,23 @@ barrelAt x y m = inverse (m .kind) (m .order) (m .count) (m .coef) (double x) (d
 abbrev pub halfClear : List ℕ
 halfClear = f32s (0x3f80_0000 ∷ 0x3f80_0000 ∷ 0x3f80_0000 ∷ 0x3f80_0000 ∷ 0 ∷ 0 ∷ 0 ∷ 0 ∷ [])
 
--- ---- the table. Policies: 6 `Tile`, 7 `Mirror`, 12 `CheckerTile`, 0 `Edge`. Interpolation 5 is `Bilinear`.
+-- ---- the table
 abbrev pub onColumn : ℕ → ℤ → Shown
 onColumn policy x = Named (named policy 4 1 x (pos 0))
 
 abbrev pub onChecker : ℤ → ℤ → Shown
-onChecker x y = Named (named 12 2 2 x y)
+onChecker x y = Named (named checkerTileCode 2 2 x y)
 
 abbrev pub table : List (Shown × Shown)
 table =
     -- width 4, `Mirror`: -1 gives 0, -5 gives 3, 4 gives 3, 8 gives 0
-    (onColumn 7 (negsuc 0), Named (Tap.Pixel 0 0))
-    ∷ ((onColumn 7 (negsuc 4), Named (Tap.Pixel 3 0))
-    ∷ ((onColumn 7 (pos 4), Named (Tap.Pixel 3 0))
-    ∷ ((onColumn 7 (pos 8), Named (Tap.Pixel 0 0))
+    (onColumn mirrorCode (negsuc 0), Named (Tap.Pixel 0 0))
+    ∷ ((onColumn mirrorCode (negsuc 4), Named (Tap.Pixel 3 0))
+    ∷ ((onColumn mirrorCode (pos 4), Named (Tap.Pixel 3 0))
+    ∷ ((onColumn mirrorCode (pos 8), Named (Tap.Pixel 0 0))
     -- `Tile`: -1 gives 3, 4 gives 0
-    ∷ ((onColumn 6 (negsuc 0), Named (Tap.Pixel 3 0))
-    ∷ ((onColumn 6 (pos 4), Named (Tap.Pixel 0 0))
+    ∷ ((onColumn tileCode (negsuc 0), Named (Tap.Pixel 3 0))
+    ∷ ((onColumn tileCode (pos 4), Named (Tap.Pixel 0 0))
     -- 2 by 2 `CheckerTile`: (2, 0) and (-1, 0) background; (2, 2) is pixel (0, 0)
     ∷ ((onChecker (pos 2) (pos 0), Named Tap.Background)
     ∷ ((onChecker (negsuc 0) (pos 0), Named Tap.Background)
@@ -129,7 +130,7 @@ table =
     )
     -- halfway between opaque 1 and a clear pixel: colour 1, alpha 0.5
     ∷ ((
-      Colour (interpolate halfClear 2 1 4 0 5 (greyBits 0 0) (double 0x3fe0_0000_0000_0000) (double 0)),
+      Colour (interpolate halfClear 2 1 4 edgeCode bilinearCode (greyBits 0 0) (double 0x3fe0_0000_0000_0000) (double 0)),
       Colour (greyBits 0x3f80_0000 0x3f00_0000),
     )
     -- `AffineProjection` 1, 2, 2, 4, 0, 0: refusal 8

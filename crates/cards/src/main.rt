@@ -7,6 +7,8 @@ ghost use Prim.Native.Nat.{_≤_};
 ghost use lib.IntN.{pos};
 ghost use Rattle.distort.specs.Call.{answer, numberOf, storeAnswer};
 ghost use Rattle.distort.specs.Job.{callOf};
+ghost use Rattle.policies.specs.Named.{edgeCode};
+ghost use Rattle.taps.specs.Interpolation.{nearestCode};
 ghost use Rattle.cards.specs.Cards.{opaqueBlack};
 use arguments::method::AffineProjection;
 use arguments::method::Polynomial;
@@ -43,11 +45,11 @@ fn ask(
     out: &mut [u8; 48],
 ) -> u64
     ensures { λ r.
-        ⌜ (r ≡ numberOf (answer (callOf (now (picture .entry)) width height 1 method (now (arguments .entry)) 0 1
-        opaqueBlack opaqueBlack bestfit 0 0 0 (pos 0) (pos 0) 0 0 [])))
+        ⌜ (r ≡ numberOf (answer (callOf (now (picture .entry)) width height 1 method (now (arguments .entry)) edgeCode
+        nearestCode opaqueBlack opaqueBlack bestfit 0 0 0 (pos 0) (pos 0) 0 0 [])))
         × (now (out .exit) ≡ storeAnswer
-        (answer (callOf (now (picture .entry)) width height 1 method (now (arguments .entry)) 0 1 opaqueBlack
-        opaqueBlack bestfit 0 0 0 (pos 0) (pos 0) 0 0 [])) (now (out .entry))) ⌝ }
+        (answer (callOf (now (picture .entry)) width height 1 method (now (arguments .entry)) edgeCode
+        nearestCode opaqueBlack opaqueBlack bestfit 0 0 0 (pos 0) (pos 0) 0 0 [])) (now (out .entry))) ⌝ }
 {
     let mut band = [0u8; 0];
     let shape = Shape {

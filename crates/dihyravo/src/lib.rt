@@ -1,5 +1,5 @@
-// The product's static library, which host/ and programs in C link: each call here is exported, and is thin over a
-// crate that does the work. For every argument; a slice comes as a pointer and a length.
+// The product's static library, which host/ and programs in C link. Each exported call is thin over a crate that does
+// the work, and takes every argument. A slice comes as a pointer and a length.
 pub mod call;
 
 use names::Named;

@@ -11,7 +11,7 @@ ghost use Rattle.number.specs.Magnitude.{within};
 pub fn f32_of_bits(bits: u32) -> f32
     ensures { λ r. ⌜ r ≡ ofBits binary32 bits ⌝ }
 {
-    if bits % 2147483648 > 2139095040 {
+    if bits % 0x8000_0000 > 0x7f80_0000 {
         return 0.0 / 0.0;
     }
     f32::from_bits(bits)
@@ -20,7 +20,7 @@ pub fn f32_of_bits(bits: u32) -> f32
 pub fn f64_of_bits(bits: u64) -> f64
     ensures { λ r. ⌜ r ≡ ofBits binary64 bits ⌝ }
 {
-    if bits % 9223372036854775808 > 9218868437227405312 {
+    if bits % 0x8000_0000_0000_0000 > 0x7ff0_0000_0000_0000 {
         return 0.0 / 0.0;
     }
     f64::from_bits(bits)
@@ -50,7 +50,7 @@ pub fn bits_of_i64(n: i64) -> u64
     ensures { λ r. ⌜ r ≡ twosComplement n ⌝ }
 {
     if n < 0 {
-        return 18446744073709551615 - (-1 - n) as u64;
+        return 0xffff_ffff_ffff_ffff - (-1 - n) as u64;
     }
     n as u64
 }

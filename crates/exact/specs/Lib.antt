@@ -3,6 +3,7 @@ pub mod Blend
 pub mod Double
 pub mod Each
 pub mod Fraction
+pub mod Limits
 pub mod Loop
 pub mod Rounds
 pub mod Single

@@ -56,5 +56,8 @@ module _ (c : Vector) (x y u v : Float) where
 unfoldable pub newtonTurn : Vector → Float → Float → ℕ → Course (Float × Float) → Course (Float × Float)
 newtonTurn c x y k s = turn (λ (w : Float × Float). newton c x y (w .0) (w .1)) s
 
+abbrev pub mostSteps : ℕ
+mostSteps = 30
+
 unfoldable pub bilinearForward : Vector → Float → Float → Point
-bilinearForward c x y = ended (λ (w : Float × Float). point (w .0) (w .1)) (upTo (newtonTurn c x y) 0 30 (on (x, y)))
+bilinearForward c x y = ended (λ (w : Float × Float). point (w .0) (w .1)) (upTo (newtonTurn c x y) 0 mostSteps (on (x, y)))

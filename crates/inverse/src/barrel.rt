@@ -2,6 +2,7 @@
 // in loops of their own, and ends in the same `barrel_from` or `barrel_inverse_from`. Assumes nothing.
 ghost use mathlib.Core.Path.{_≡_};
 ghost use Rattle.inverse.specs.Barrel as Barrel;
+use number::magnitude::LEAST_DIVISOR;
 use number::magnitude::abs;
 use number::root::root;
 use point::point::Point;
@@ -48,7 +49,11 @@ pub fn barrel_inverse_from(c: &[f64; 256], dy: f64, dx: f64, r: f64) -> Point
 {
     let f = factor(c, r);
     let s = 1.0 / f;
-    point_unless(abs(f) < 1e-12, c[4] + dx * s * c[6], c[5] + dy * s * c[6])
+    point_unless(
+        abs(f) < LEAST_DIVISOR,
+        c[4] + dx * s * c[6],
+        c[5] + dy * s * c[6],
+    )
 }
 
 pub fn barrel(c: &[f64; 256], x: f64, y: f64) -> Point

@@ -3,6 +3,7 @@ ghost use mathlib.Core.Path.{_≡_};
 ghost use Prim.Native.Nat.{_≤_};
 ghost use Rattle.inverse.specs.Shepards.{ofPairs, pairsKept};
 ghost use Rattle.inverse.specs.Shepards as Shepards;
+use number::magnitude::LEAST_DIVISOR;
 use point::point::Point;
 use point::usable::point;
 
@@ -21,7 +22,7 @@ fn of_pairs(c: &[f64; 256], x: f64, y: f64, n: usize) -> Point
         let px = c[k + 2];
         let py = c[k + 3];
         let d2 = (x - px) * (x - px) + (y - py) * (y - py);
-        if d2 < 1e-12 {
+        if d2 < LEAST_DIVISOR {
             return point(u, v);
         }
         let wgt = 1.0 / d2;

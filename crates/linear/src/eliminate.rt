@@ -4,6 +4,7 @@ ghost use Prim.Native.Nat.{_<_, _≤_};
 ghost use Rattle.exact.specs.Loop.{upTo};
 ghost use Rattle.linear.specs.Eliminate as Eliminate;
 ghost use Rattle.linear.specs.Eliminate.{takeTerm, clearRow, clearBelow, outcome, column, eliminated};
+use number::magnitude::LEAST_DIVISOR;
 use number::magnitude::abs;
 use number::magnitude::reaches;
 
@@ -77,7 +78,7 @@ fn clear_column(a: &mut [[f64; 21]; 21], b: &mut [f64; 21], col: usize, n: usize
     ensures { λ r. ⌜ outcome r (now (a .exit), now (b .exit)) ≡ column n col (now (a .entry), now (b .entry)) ⌝ }
 {
     let p = pivot(a, col, n);
-    if abs(a[p][col]) < 1e-12 {
+    if abs(a[p][col]) < LEAST_DIVISOR {
         return false;
     }
     swap(a, b, col, p);

@@ -2,6 +2,7 @@
 ghost use mathlib.Core.Path.{_≡_};
 ghost use Rattle.linear.specs.Invert.{invertAffine};
 ghost use Rattle.linear.specs.Invert as Invert;
+use number::magnitude::LEAST_DIVISOR;
 use number::magnitude::abs;
 
 pub struct AffineInverse {
@@ -24,7 +25,7 @@ pub fn invert_affine(m: [f64; 6]) -> AffineInverse
     let t = m[4];
     let u = m[5];
     let det = p * t - q * s;
-    if abs(det) < 1e-12 {
+    if abs(det) < LEAST_DIVISOR {
         return AffineInverse {
             found: false,
             m: [0.0; 6],

@@ -1,6 +1,6 @@
 -- A word, a byte at a time: a name or a whole number of 64ths of a pixel, of any length. Digits are digits, leading
 -- zeros too, and -0 is 0. Specification 12.1. Assumes nothing.
-use Prim.Native.Nat.{ℕ, _+_, _-_, _*_}
+use Prim.Native.Nat.{ℕ, _+_, _-_, _*_, _/_}
 use mathlib.Core.Bool.{Bool, true, false, cond}
 use lib.Dec.{eqb, ltb}
 use lib.IntN.{pos}
@@ -17,9 +17,9 @@ largestNumber = 67108864
 unfoldable pub nameOf : ℕ → ℕ
 nameOf b = cond (eqb b 117) 0 (cond (eqb b 118) 1 (cond (eqb b 120) 2 (cond (eqb b 121) 3 4)))
 
--- a number with one digit more. From 6710887 on that is above the limit, where it stays.
+-- a number with one digit more. From a tenth of the largest on that is above it, where it stays.
 unfoldable pub withDigit : ℕ → ℕ → ℕ
-withDigit size d = cond (ltb 6710886 size) 67108865 (10 * size + d)
+withDigit size d = cond (ltb (largestNumber / 10) size) (largestNumber + 1) (10 * size + d)
 
 -- a number and one byte more, which has to be a digit, 0 (48) to 9 (57)
 unfoldable pub digit : Bool → ℕ → ℕ → Word

@@ -32,7 +32,11 @@ fn take_name(s: Reader, k: u64) -> Reader
 fn is_large(large: bool, size: u32) -> bool
     ensures { λ r. ⌜ r ≡ isLarge large size ⌝ }
 {
-    if 67108864 < size { true } else { large }
+    if word::LARGEST_NUMBER < size {
+        true
+    } else {
+        large
+    }
 }
 
 // The argument of the column in which the reader is, where there is room for its pair.

@@ -27,12 +27,15 @@ fn name_of(b: u8) -> u64
     if b == b'y' { 3 } else { 4 }
 }
 
+// The largest number of 64ths: 1,048,576 pixels.
+pub const LARGEST_NUMBER: u32 = 67108864;
+
 // One digit more. A number that has passed the limit stays above it, however many digits follow.
 fn with_digit(size: u32, d: u8) -> u32
     ensures { λ r. ⌜ r ≡ withDigit size d ⌝ }
 {
-    if 6710886 < size {
-        return 67108865;
+    if LARGEST_NUMBER / 10 < size {
+        return LARGEST_NUMBER + 1;
     }
     10 * size + d as u32
 }

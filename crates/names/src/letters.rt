@@ -6,9 +6,9 @@ ghost use Rattle.names.specs.Names.{lowercase, sameName};
 fn to_ascii_lowercase(b: u8) -> u8
     ensures { λ r. ⌜ r ≡ lowercase b ⌝ }
 {
-    if 65 <= b {
-        if b <= 90 {
-            return b + 32;
+    if b'A' <= b {
+        if b <= b'Z' {
+            return b + (b'a' - b'A');
         }
     }
     b

@@ -4,6 +4,9 @@ ghost use mathlib.Core.Path.{_≡_};
 ghost use Rattle.number.specs.Magnitude as Magnitude;
 ghost use Rattle.number.specs.Magnitude.{fmin, fmax, reaching};
 
+// What is below it in magnitude is too small to divide by.
+pub const LEAST_DIVISOR: f64 = 1e-12;
+
 // x with its sign cleared. In this form the compiler finds the one instruction for it.
 pub fn abs(x: f64) -> f64
     ensures { λ r. ⌜ r ≡ Magnitude.abs x ⌝ }

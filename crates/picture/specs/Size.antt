@@ -4,11 +4,12 @@ use mathlib.Core.Bool.{Bool, not, _||_}
 use mathlib.Core.List.{List}
 use lib.Dec.{eqb, ltb}
 use lib.ListN.{length}
+use Rattle.exact.specs.Limits.{largestSide}
 
 -- ---- 1, size
--- a width or height that is 0 or above 4,096
+-- a width or height that is 0 or above the largest
 unfoldable pub badSide : ℕ → Bool
-badSide n = eqb n 0 || ltb 4096 n
+badSide n = eqb n 0 || ltb largestSide n
 
 -- neither 1, 3 nor 4
 unfoldable pub badChannels : ℕ → Bool

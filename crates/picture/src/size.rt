@@ -5,11 +5,13 @@ ghost use mathlib.Core.Bool.{false};
 ghost use Rattle.picture.specs.Size.{badSide, badChannels, badSize, badStock};
 use crate::shape::Shape;
 
+const LARGEST_SIDE: u64 = 4096;
+
 // A width or height.
 pub fn bad_side(n: u64) -> bool
     ensures { λ r. ⌜ r ≡ badSide n ⌝ }
 {
-    (n == 0) | (4096 < n)
+    (n == 0) | (LARGEST_SIDE < n)
 }
 
 fn bad_channels(n: u64) -> bool

@@ -34,9 +34,21 @@ policies =
 unfoldable pub policy : ℕ → Policy
 policy code = getD policies code Random
 
--- the codes that a definition asks for by name: that of `Transparent`, and the last
+-- ---- the codes that definitions ask for by name
+abbrev pub edgeCode : ℕ
+edgeCode = 0
+
 abbrev pub transparentCode : ℕ
 transparentCode = 5
+
+abbrev pub tileCode : ℕ
+tileCode = 6
+
+abbrev pub mirrorCode : ℕ
+mirrorCode = 7
+
+abbrev pub checkerTileCode : ℕ
+checkerTileCode = 12
 
 abbrev pub randomCode : ℕ
 randomCode = 13

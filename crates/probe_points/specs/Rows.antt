@@ -7,6 +7,7 @@ use lib.Dec.{eqb, ltb}
 use lib.IntN.{ℤ}
 use lib.ListN.{length}
 use lib.Ieee.{Float}
+use Rattle.exact.specs.Limits.{largestSide}
 use Rattle.exact.specs.Loop.{upTo}
 use Rattle.exact.specs.Sums.{asked}
 use Rattle.exact.specs.Vector.{Vector, at}
@@ -37,9 +38,9 @@ storeRow f coef width first r out = upTo (storeColumn f coef (first + r) (r * wi
 -- beyond the limits of a window, or not 24 bytes for each point
 unfoldable pub wrongRows : ℕ → ℤ → ℤ → ℕ → ℕ → ℕ → Bool
 wrongRows width x y first rows out =
-    (ltb 4096 width || (ltb 4096 first || ltb 4096 rows))
+    (ltb largestSide width || (ltb largestSide first || ltb largestSide rows))
     || (not (goodOffset x) || (not (goodOffset y)
-    || (ltb 4096 (first + rows) || not (eqb out (rows * width * 24)))))
+    || (ltb largestSide (first + rows) || not (eqb out (rows * width * 24)))))
 
 abbrev pub storeRows : Mapping → ℤ → ℤ → ℕ → ℕ → ℕ → List ℕ → List ℕ
 storeRows m x y width first rows out = upTo (storeRow (frameOf m x y) (m .coef) width first) 0 rows out

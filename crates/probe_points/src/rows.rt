@@ -13,6 +13,7 @@ use inverse::frame::Frame;
 use inverse::frame::frame_of;
 use point::usable::point;
 use probe_fit::sized::sized_fit;
+use window::extent::LARGEST_SIDE;
 use window::extent::good_offset;
 
 // The points of a span from column `first` on, `place` points into the bytes.
@@ -96,7 +97,7 @@ fn store_rows_points(
 fn wrong_rows(width: u64, x: i64, y: i64, first: u64, rows: u64, out: usize) -> bool
     ensures { λ r. ⌜ r ≡ wrongRows width x y first rows out ⌝ }
 {
-    if (width > 4096) | ((first > 4096) | (rows > 4096)) {
+    if (width > LARGEST_SIDE) | ((first > LARGEST_SIDE) | (rows > LARGEST_SIDE)) {
         return true;
     }
     if !good_offset(x) {
@@ -105,7 +106,7 @@ fn wrong_rows(width: u64, x: i64, y: i64, first: u64, rows: u64, out: usize) -> 
     if !good_offset(y) {
         return true;
     }
-    (first + rows > 4096) | (out as u64 != rows * width * 24)
+    (first + rows > LARGEST_SIDE) | (out as u64 != rows * width * 24)
 }
 
 // The fit is refused as `probe_fit` refuses it, and then rows beyond the limits of a window, or lengths that do not

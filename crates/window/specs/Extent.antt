@@ -8,16 +8,17 @@ use lib.Ieee.{Float}
 use lib.Ieee.Scale.{finite}
 use Rattle.exact.specs.Double.{_⊕_, _⊖_}
 pub use Rattle.exact.specs.Double.{half}
+use Rattle.exact.specs.Limits.{largestSide, largestOffset}
 use Rattle.number.specs.Floor.{floorℤ}
 use Rattle.window.specs.declared.extent.Extent.{Extent}
 use Rattle.window.specs.declared.extent.Extent.the-variants.{Of, Out}
 use Rattle.window.specs.Ceil.{ceilℤ}
 
 unfoldable pub goodOffset : ℤ → Bool
-goodOffset z = leb (natAbs z) 1048576
+goodOffset z = leb (natAbs z) largestOffset
 
 unfoldable pub goodLength : ℕ → Bool
-goodLength n = ltb 0 n && leb n 4096
+goodLength n = ltb 0 n && leb n largestSide
 
 unfoldable pub held : ℤ → ℕ → Extent
 held from length = cond (goodOffset from && goodLength length) (Of from length) Out

@@ -7,6 +7,7 @@ ghost use Rattle.window.specs.Corners as Corners;
 use crate::edges::Corner;
 use crate::edges::Edges;
 use crate::edges::boxed;
+use number::magnitude::LEAST_DIVISOR;
 use number::magnitude::abs;
 
 // Three coefficients from the one numbered k on.
@@ -39,7 +40,7 @@ pub fn affine_edges(f: &[f64; 6], w: f64, h: f64) -> Edges
 fn lost(f: &[f64; 9], u: f64, v: f64) -> bool
     ensures { λ r. ⌜ r ≡ Corners.lost (now (f .entry)) u v ⌝ }
 {
-    abs(form(f, 6, u, v)) < 1e-12
+    abs(form(f, 6, u, v)) < LEAST_DIVISOR
 }
 
 pub fn any_lost(f: &[f64; 9], w: f64, h: f64) -> bool

@@ -14,16 +14,21 @@ pub enum Extent {
     Out,
 }
 
+// The largest side in pixels, and the largest offset in magnitude.
+pub const LARGEST_SIDE: u64 = 4096;
+
+const LARGEST_OFFSET: i64 = 1048576;
+
 pub fn good_offset(from: i64) -> bool
     ensures { λ r. ⌜ r ≡ Side.goodOffset from ⌝ }
 {
-    (from >= -1048576) & (from <= 1048576)
+    (from >= -LARGEST_OFFSET) & (from <= LARGEST_OFFSET)
 }
 
 pub fn held(from: i64, length: u64) -> Extent
     ensures { λ r. ⌜ r ≡ Side.held from length ⌝ }
 {
-    if good_offset(from) & (length > 0) & (length <= 4096) {
+    if good_offset(from) & (length > 0) & (length <= LARGEST_SIDE) {
         return Extent::Of { from, length };
     }
     Extent::Out

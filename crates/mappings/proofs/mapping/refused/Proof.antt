@@ -1,3 +1,4 @@
+-- `mappings::mapping::refused` meets its contract. Assumes nothing.
 use Rattle.mappings.specs.Mapping.{mapping, refused}
 use mathlib.Core.Path.{refl}
 use Rattle.mappings.proofs.mapping.refused.Statement.{statement}

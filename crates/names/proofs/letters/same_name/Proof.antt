@@ -1,5 +1,5 @@
--- `names::same_name` meets its contract. The invariant: the two are the same where what is left of them from `i` on is;
--- the measure is what is left of the length. Assumes nothing.
+-- `names::letters::same_name` meets its contract. The invariant: the two are the same where what is left of them from
+-- `i` on is; the measure is what is left of the length. Assumes nothing.
 use mathlib.Core.Path.{_≡_, sym, _∙_}
 use Prim.Native.Nat.{_-_, _≤_}
 use native.Mathlib.Omega.{arith}

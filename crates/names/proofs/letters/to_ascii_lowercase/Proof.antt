@@ -1,5 +1,5 @@
--- `names::to_ascii_lowercase` meets its contract: each answer follows from the two tests that led to it. Assumes
--- nothing.
+-- `names::letters::to_ascii_lowercase` meets its contract: each answer follows from the two tests that led to it.
+-- Assumes nothing.
 use borrow.Author.Needs.{needs}
 use borrow.Author.Tests.{le-leb, lt-leb}
 use Rattle.names.specs.Names.{lowercase}

@@ -2,13 +2,16 @@
 ghost use mathlib.Core.Path.{_≡_};
 ghost use Rattle.names.specs.Names.{lowercase, sameName};
 
+// A small letter's code less its capital's.
+const CASES_APART: u8 = 32;
+
 // u8::to_ascii_lowercase
 fn to_ascii_lowercase(b: u8) -> u8
     ensures { λ r. ⌜ r ≡ lowercase b ⌝ }
 {
     if b'A' <= b {
         if b <= b'Z' {
-            return b + (b'a' - b'A');
+            return b + CASES_APART;
         }
     }
     b

@@ -14,15 +14,17 @@ pub enum Extent {
     Out,
 }
 
-// The largest side in pixels, and the largest offset in magnitude.
+// The largest side in pixels, and the offsets' limits.
 pub const LARGEST_SIDE: u64 = 4096;
+
+const LEAST_OFFSET: i64 = -1048576;
 
 const LARGEST_OFFSET: i64 = 1048576;
 
 pub fn good_offset(from: i64) -> bool
     ensures { λ r. ⌜ r ≡ Side.goodOffset from ⌝ }
 {
-    (from >= -LARGEST_OFFSET) & (from <= LARGEST_OFFSET)
+    (from >= LEAST_OFFSET) & (from <= LARGEST_OFFSET)
 }
 
 pub fn held(from: i64, length: u64) -> Extent

@@ -259,5 +259,5 @@ pub fn store_broad_cells(
             }
         }
     }
-    crate::plain::store_broad_cells(picture, shape, columns, rows, xs, ys, span, band);
+    crate::plain::store_cells(picture, shape, columns, rows, xs, ys, span, band);
 }

@@ -30,12 +30,17 @@ fn name_of(b: u8) -> u64
 // The largest number of 64ths: 1,048,576 pixels.
 pub const LARGEST_NUMBER: u32 = 67108864;
 
+// Its tenth, and what stands for every larger number.
+const TENTH: u32 = 6710886;
+
+const TOO_LARGE: u32 = 67108865;
+
 // One digit more. A number that has passed the limit stays above it, however many digits follow.
 fn with_digit(size: u32, d: u8) -> u32
     ensures { λ r. ⌜ r ≡ withDigit size d ⌝ }
 {
-    if LARGEST_NUMBER / 10 < size {
-        return LARGEST_NUMBER + 1;
+    if TENTH < size {
+        return TOO_LARGE;
     }
     10 * size + d as u32
 }

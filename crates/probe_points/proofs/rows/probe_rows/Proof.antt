@@ -34,8 +34,8 @@ returns-2 c =
           (toZ-ofZ w64 (a .y) (s .fits .y)) (c .if2 .taken),
     )
 
-store-rows-requires : tie.Need-store-rows-requires
-store-rows-requires c κs =
+store-rows-points-requires : tie.Need-store-rows-points-requires
+store-rows-points-requires c κs =
     rw (c .before .before .frame-of .ensures)
     (right _ _ _ _ _ _ (sym (c .before .before .before .before .before .before .wrong-rows .ensures)
     ∙ c .before .before .before .before .before .if2 .left))
@@ -60,5 +60,5 @@ returns-3 c =
 pub probe-rows-spec : {M : Type 1} → statement M
 probe-rows-spec = tie.close
     (tie.spec (λ c κs. search needs) returns (λ c κs. search needs) returns-2 (λ c κs. search needs)
-    store-rows-requires (λ c. search needs)
+    store-rows-points-requires (λ c. search needs)
     returns-3)

@@ -23,8 +23,8 @@ abbrev μ-loop : tie.MeasureT-loop
 loop-holds : tie.Need-loop-holds Inv-loop μ-loop
 loop-holds c = (upTo-none _ _ _, search needs)
 
-store-span-requires : tie.Need-store-span-requires Inv-loop μ-loop
-store-span-requires c κs =
+store-span-points-requires : tie.Need-store-span-points-requires Inv-loop μ-loop
+store-span-points-requires c κs =
     let s = c .before .before .before .before .before in
     let loop = c .before .before .before .loop in
     let n = c .before .next-span .ensures in
@@ -59,7 +59,7 @@ store-row-points-spec =
     loop-holds
     (λ c. search needs)
     (λ c κs. search needs)
-    store-span-requires
+    store-span-points-requires
     (λ c. search needs)
     (λ c. search needs)
     loop-again

@@ -37,8 +37,8 @@ mul-place c =
     few : (r f n : ℕ) → r ≤ n → f + n ≤ 4096 → r ≤ 4096
     few r f n h k = omega arith
 
-store-row-requires : tie.Need-store-row-requires Inv-loop μ-loop
-store-row-requires c κs =
+store-row-points-requires : tie.Need-store-row-points-requires Inv-loop μ-loop
+store-row-points-requires c κs =
     let s = c .before .before .before .before in
     let loop = c .before .before .loop in (
       (s .pre .0 .0, search needs),
@@ -73,7 +73,7 @@ store-rows-points-spec =
     loop-holds
     mul-place
     (λ c. search needs)
-    store-row-requires
+    store-row-points-requires
     (λ c. search needs)
     (λ c. search needs)
     loop-again

@@ -18,8 +18,8 @@ ahead-requires c κs =
     let C = c .before .before .before .cells .ensures .0 (c .before .before .if1 .taken) in
     (a .pre .0, (a .pre .1 .1 .0, cells-inside _ _ (C .0) (C .1)))
 
-store-cells-requires : tie.Need-store-cells-requires
-store-cells-requires c κs =
+store-broad-cells-requires : tie.Need-store-broad-cells-requires
+store-broad-cells-requires c κs =
     let a = c .before .before .before .before .before .before .before .before .before .before .before .before .before
     .before .before .before .before .before .before in
     let C = c .before .before .before .before .before .before .before .before .before .before .cells .ensures .0 (c
@@ -62,7 +62,7 @@ store-bilinear-spec =
     (λ c. search needs)
     cells-requires
     ahead-requires
-    store-cells-requires
+    store-broad-cells-requires
     (λ c. search needs)
     returns
     returns-2

@@ -1,7 +1,9 @@
 #!/usr/bin/env python3
-"""Nanoseconds an output pixel of OpenCV's warpPerspective, for the bench's Perspective with Bilinear, 2,000 by 1,500, 3 channels, Edge.
+"""Nanoseconds an output pixel of OpenCV's warpPerspective, for the bench's Perspective with Bilinear, 2,000 by 1,500,
+3 channels, Edge.
 
-Needs Debian's python3-opencv. The same mapping, picture and border as bench_call's row; one thread, its own time, the best of 60 rounds.
+Needs Debian's python3-opencv. The same mapping, picture and border as bench_call's row; one thread, its own time, the
+best of 60 rounds.
 """
 import time
 
@@ -18,11 +20,16 @@ def picture():
 
 
 def mapping():
-    """Pairs in a grid over the picture, each picked a few pixels off, inwards, as in call/rows.rs; pixel middles are whole numbers to OpenCV."""
+    """Pairs in a grid over the picture, each picked a few pixels off, inwards, as in call/rows.rs.
+
+    Pixel middles are whole numbers to OpenCV.
+    """
     off = lambda a, b: (a * 7 + b * 13) % 11 - 5.0
     inwards = lambda x, side: side * 0.04 + x * 0.92
     grid = [(i, j) for j in range(2) for i in range(2)]
-    source = [(inwards(i * WIDTH, WIDTH) + off(i, j) - 0.5, inwards(j * HEIGHT, HEIGHT) + off(j, i) - 0.5) for i, j in grid]
+    source = [
+        (inwards(i * WIDTH, WIDTH) + off(i, j) - 0.5, inwards(j * HEIGHT, HEIGHT) + off(j, i) - 0.5) for i, j in grid
+    ]
     target = [(i * WIDTH - 0.5, j * HEIGHT - 0.5) for i, j in grid]
     return cv2.getPerspectiveTransform(np.float32(source), np.float32(target))
 
@@ -33,7 +40,9 @@ def main():
     best = float("inf")
     for _ in range(60):
         start = time.thread_time()
-        cv2.warpPerspective(source, matrix, (WIDTH, HEIGHT), dst=out, flags=cv2.INTER_LINEAR, borderMode=cv2.BORDER_REPLICATE)
+        cv2.warpPerspective(
+            source, matrix, (WIDTH, HEIGHT), dst=out, flags=cv2.INTER_LINEAR, borderMode=cv2.BORDER_REPLICATE
+        )
         best = min(best, time.thread_time() - start)
     print(f"OpenCV {cv2.__version__}: {best * 1e9 / (WIDTH * HEIGHT):.2f} ns a pixel")
 

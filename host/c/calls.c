@@ -1,6 +1,6 @@
 /*
- * The calls of dihyravo.h from C: known pixels, each refusal, the size, bands, names, what lies around a buffer, the stack. Prints a line
- * for each test, then how many passed. Assumes a little-endian machine with POSIX threads.
+ * The calls of dihyravo.h from C: known pixels, each refusal, the size, bands, names, what lies around a buffer, the
+ * stack. Prints a line for each test, then how many passed. Assumes a little-endian machine with POSIX threads.
  */
 #define _POSIX_C_SOURCE 200809L
 #include "dihyravo.h"
@@ -54,16 +54,19 @@ static struct dihyravo_job plain(void)
 }
 
 /* The answer of an accepted call is this, and nothing else. */
-static int is(const struct dihyravo_answer *a, uint64_t width, uint64_t height, int64_t x, int64_t y, uint64_t channels, uint64_t matte)
+static int is(const struct dihyravo_answer *a, uint64_t width, uint64_t height, int64_t x, int64_t y, uint64_t channels,
+              uint64_t matte)
 {
-    return a->width == width && a->height == height && a->x == x && a->y == y && a->channels == channels && a->matte == matte;
+    return a->width == width && a->height == height && a->x == x && a->y == y && a->channels == channels &&
+           a->matte == matte;
 }
 
 /* The original's own answer for the same job, bit for bit. */
 static void known_pixels(void)
 {
-    static const uint32_t original[WIDTH * HEIGHT] = {0x3d3e97de, 0x3da1c998, 0x3df219cb, 0x3e2b2b92, 0x3e8243c8, 0x3e94a562,
-                                                      0x3ea73679, 0x3eb9f7c6, 0x3efd8978, 0x3f090617, 0x3f13640f, 0x3f1ddf1d};
+    static const uint32_t original[WIDTH * HEIGHT] = {0x3d3e97de, 0x3da1c998, 0x3df219cb, 0x3e2b2b92,
+                                                      0x3e8243c8, 0x3e94a562, 0x3ea73679, 0x3eb9f7c6,
+                                                      0x3efd8978, 0x3f090617, 0x3f13640f, 0x3f1ddf1d};
     struct dihyravo_job job = plain();
     struct dihyravo_answer answer;
     float band[WIDTH * HEIGHT];
@@ -83,7 +86,8 @@ static void halfway_to_clear(void)
     job.method = DIHYRAVO_METHOD_AFFINE, job.arguments = shift, job.arguments_length = sizeof shift;
     job.viewport = 1, job.view_width = 1, job.view_height = 1, job.rows = 1;
     uint64_t number = dihyravo_run(&job, pixel, sizeof pixel, &answer);
-    test("halfway between opaque and clear", number == 0 && memcmp(pixel, expected, sizeof pixel) == 0 && answer.channels == 4);
+    int same = memcmp(pixel, expected, sizeof pixel) == 0;
+    test("halfway between opaque and clear", number == 0 && same && answer.channels == 4);
 }
 
 /* Beyond the horizon of a plane there is no source: one row of two pixels, both matte. */
@@ -108,9 +112,10 @@ static void sizes(void)
     struct dihyravo_job job = plain();
     struct dihyravo_answer answer;
     job.rows = 0;
-    test("no rows and no band: the size", dihyravo_run(&job, NULL, 0, &answer) == 0 && is(&answer, WIDTH, HEIGHT, 0, 0, 1, 0));
-    job.viewport = UINT64_MAX, job.view_width = 7, job.view_height = 5, job.view_x = -2, job.view_y = 9, job.bestfit = 1;
-    job.policy = DIHYRAVO_POLICY_TRANSPARENT;
+    test("no rows and no band: the size",
+         dihyravo_run(&job, NULL, 0, &answer) == 0 && is(&answer, WIDTH, HEIGHT, 0, 0, 1, 0));
+    job.viewport = UINT64_MAX, job.view_width = 7, job.view_height = 5, job.view_x = -2, job.view_y = 9;
+    job.bestfit = 1, job.policy = DIHYRAVO_POLICY_TRANSPARENT;
     test("a viewport wins over best fit", dihyravo_run(&job, NULL, 0, &answer) == 0 && is(&answer, 7, 5, -2, 9, 4, 0));
     job.viewport = 0, job.policy = DIHYRAVO_POLICY_EDGE;
     job.method = DIHYRAVO_METHOD_AFFINE_PROJECTION, job.arguments = same, job.arguments_length = sizeof same;
@@ -133,7 +138,8 @@ static void bands(void)
             size_t length = (size_t)rows * ROW;
             memset(piece, FRESH, sizeof piece);
             job.first_row = first, job.rows = rows;
-            same = same && dihyravo_run(&job, piece + ROW, length, &answer) == 0 && is(&answer, WIDTH, HEIGHT, 0, 0, 1, 0);
+            same = same && dihyravo_run(&job, piece + ROW, length, &answer) == 0;
+            same = same && is(&answer, WIDTH, HEIGHT, 0, 0, 1, 0);
             same = same && memcmp(piece + ROW, whole + first * ROW, length) == 0;
             kept = kept && all_fresh(piece, ROW) && all_fresh(piece + ROW + length, sizeof piece - ROW - length);
         }
@@ -153,8 +159,9 @@ static void odd_addresses(void)
     memcpy(picture + 1, grey, sizeof grey);
     memcpy(arguments + 1, corners, sizeof corners);
     memcpy(colour + 1, job.background, 16);
-    number += dihyravo_distort(picture + 1, sizeof grey, WIDTH, HEIGHT, 1, job.method, arguments + 1, sizeof corners, job.policy,
-                               job.interpolation, colour + 1, colour + 1, 0, 0, 0, 0, 0, 0, 0, HEIGHT, band + 1, sizeof grey, &answer);
+    number += dihyravo_distort(picture + 1, sizeof grey, WIDTH, HEIGHT, 1, job.method, arguments + 1, sizeof corners,
+                               job.policy, job.interpolation, colour + 1, colour + 1, 0, 0, 0, 0, 0, 0, 0, HEIGHT,
+                               band + 1, sizeof grey, &answer);
     test("buffers at odd addresses", number == 0 && memcmp(band + 1, whole, sizeof whole) == 0);
 }
 
@@ -235,7 +242,8 @@ static void accepted(const char *name, struct dihyravo_job job, uint64_t width, 
     uint64_t given = dihyravo_run(&job, NULL, 0, &answer);
     snprintf(line, sizeof line, "accepted: %s", name);
     if (given != 0) printf("the number is %d\n", (int)given);
-    test(line, given == 0 && is(&answer, width, height, job.viewport ? job.view_x : 0, job.viewport ? job.view_y : 0, 1, 0));
+    int64_t x = job.viewport ? job.view_x : 0, y = job.viewport ? job.view_y : 0;
+    test(line, given == 0 && is(&answer, width, height, x, y, 1, 0));
 }
 
 /* What is at a limit and not beyond it. */
@@ -294,7 +302,8 @@ static void refused_6_to_8(void)
     job = plain(), job.arguments_length -= 4 * sizeof(double), refused("Perspective of 3 pairs", 7, job, sizeof grey);
     static const double line[16] = {0, 0, 0, 0, 1, 1, 1, 1, 2, 2, 2, 2, 3, 3, 3, 3}, flat[6] = {1, 2, 2, 4, 0, 0};
     job = plain(), job.arguments = line, refused("four corners on a line", 8, job, sizeof grey);
-    job = plain(), job.method = DIHYRAVO_METHOD_AFFINE_PROJECTION, job.arguments = flat, job.arguments_length = sizeof flat;
+    job = plain(), job.method = DIHYRAVO_METHOD_AFFINE_PROJECTION;
+    job.arguments = flat, job.arguments_length = sizeof flat;
     refused("AffineProjection 1,2,2,4,0,0", 8, job, sizeof grey);
 }
 
@@ -305,14 +314,16 @@ static void refused_9_to_11(void)
     job.view_width = DIHYRAVO_LARGEST_SIDE + 1, refused("a viewport above the largest width", 9, job, sizeof grey);
     job.view_width = WIDTH, job.view_height = DIHYRAVO_LARGEST_SIDE + 1;
     refused("a viewport above the largest height", 9, job, sizeof grey);
-    job.view_height = HEIGHT, job.view_x = -DIHYRAVO_LARGEST_OFFSET - 1, refused("a viewport far to the left", 9, job, sizeof grey);
+    job.view_height = HEIGHT, job.view_x = -DIHYRAVO_LARGEST_OFFSET - 1;
+    refused("a viewport far to the left", 9, job, sizeof grey);
     job.view_x = 0, job.view_y = DIHYRAVO_LARGEST_OFFSET + 1, refused("a viewport far down", 9, job, sizeof grey);
     job = plain(), job.first_row = 1, refused("rows 1 to 3 of 3", 10, job, sizeof grey);
     job.first_row = UINT64_MAX, refused("rows around the end of numbers", 10, job, sizeof grey);
     job = plain(), refused("a sample less in the band", 11, job, sizeof grey - 4);
     refused("a byte more in the band", 11, job, sizeof grey + 1);
     job.rows = 0, refused("a band for no rows", 11, job, sizeof grey);
-    job = plain(), job.policy = DIHYRAVO_POLICY_TRANSPARENT, refused("a grey band for four channels", 11, job, sizeof grey);
+    job = plain(), job.policy = DIHYRAVO_POLICY_TRANSPARENT;
+    refused("a grey band for four channels", 11, job, sizeof grey);
 }
 
 /* Each number of the table before all that come after it. */
@@ -338,23 +349,25 @@ static void refused_in_order(void)
 
 static void names(void)
 {
-    static const char *const methods[] = {"Affine", "AffineProjection", "ScaleRotateTranslate", "Perspective", "PerspectiveProjection",
-                                          "BilinearReverse", "BilinearForward", "Polynomial", "Arc", "Polar", "DePolar", "Barrel",
-                                          "BarrelInverse", "Shepards"};
-    static const char *const policies[] = {"Edge", "Background", "Black", "White", "Gray", "Transparent", "Tile", "Mirror",
-                                           "HorizontalTile", "VerticalTile", "HorizontalTileEdge", "VerticalTileEdge", "CheckerTile",
-                                           "Random"};
-    static const char *const interpolations[] = {"Integer", "Nearest", "Average", "Average9", "Average16", "Bilinear", "Catrom", "Spline",
-                                                 "Background"};
+    static const char *const methods[] = {"Affine", "AffineProjection", "ScaleRotateTranslate", "Perspective",
+                                          "PerspectiveProjection", "BilinearReverse", "BilinearForward", "Polynomial",
+                                          "Arc", "Polar", "DePolar", "Barrel", "BarrelInverse", "Shepards"};
+    static const char *const policies[] = {"Edge", "Background", "Black", "White", "Gray", "Transparent", "Tile",
+                                           "Mirror", "HorizontalTile", "VerticalTile", "HorizontalTileEdge",
+                                           "VerticalTileEdge", "CheckerTile", "Random"};
+    static const char *const interpolations[] = {"Integer", "Nearest", "Average", "Average9", "Average16",
+                                                 "Bilinear", "Catrom", "Spline", "Background"};
     int same = 1;
     for (int k = 0; k < 14; k++) same = same && dihyravo_method(methods[k], strlen(methods[k])) == k;
     for (int k = 0; k < 14; k++) same = same && dihyravo_policy(policies[k], strlen(policies[k])) == k;
-    for (int k = 0; k < 9; k++) same = same && dihyravo_interpolation(interpolations[k], strlen(interpolations[k])) == k;
+    for (int k = 0; k < 9; k++)
+        same = same && dihyravo_interpolation(interpolations[k], strlen(interpolations[k])) == k;
     test("names in order", same);
     test("names in any case", dihyravo_method("pERSPECTIVE", 11) == DIHYRAVO_METHOD_PERSPECTIVE);
     test("second names", dihyravo_method("srt", 3) == 2 && dihyravo_policy("None", 4) == DIHYRAVO_POLICY_TRANSPARENT &&
                              dihyravo_interpolation("bicubic", 7) == DIHYRAVO_INTERPOLATION_CATROM);
-    test("no such name", dihyravo_method("Affine", 7) == -3 && dihyravo_policy("", 0) == -3 && dihyravo_interpolation(NULL, 0) == -3);
+    test("no such name", dihyravo_method("Affine", 7) == -3 && dihyravo_policy("", 0) == -3 &&
+                             dihyravo_interpolation(NULL, 0) == -3);
 }
 
 static void words(void)
@@ -406,7 +419,8 @@ static void stack(void)
     static int yes;
     stack_number = 99;
     size_t without = stack_taken(NULL), with = stack_taken(&yes);
-    test("the stack is less than 32 KiB", stack_number == 0 && with < SIZE_MAX && with > without && with - without < 32 * 1024);
+    test("the stack is less than 32 KiB",
+         stack_number == 0 && with < SIZE_MAX && with > without && with - without < 32 * 1024);
     printf("the stack: %d bytes\n", (int)(with - without));
 }
 

@@ -10,7 +10,8 @@ int main(void)
     /* u, v on the photograph, then x, y on the card; clockwise from the upper left corner */
     double corners[] = {2, 1, 0, 0, 6, 1, 4, 0, 7, 5, 4, 2, 1, 5, 0, 2};
     struct dihyravo_job job = {.picture = photo, .picture_length = sizeof photo, .width = 8, .height = 6, .channels = 1,
-                               .method = DIHYRAVO_METHOD_PERSPECTIVE, .arguments = corners, .arguments_length = sizeof corners,
+                               .method = DIHYRAVO_METHOD_PERSPECTIVE,
+                               .arguments = corners, .arguments_length = sizeof corners,
                                .interpolation = DIHYRAVO_INTERPOLATION_BILINEAR, .background = {1, 1, 1, 1},
                                .viewport = 1, .view_width = 4, .view_height = 2, .rows = 2};
     struct dihyravo_answer answer;

@@ -1,6 +1,6 @@
-//! Nanoseconds a source point, for each method: the product's through its archive, rows at a time as its call works them,
-//! and the original's `inverse`. Both go over the same points and leave the same bytes, in turns; of each, the best of many
-//! rounds. A product's round has its fit in it, an original's has not.
+//! Nanoseconds a source point, for each method: the product's through its archive, rows at a time as its call works
+//! them, and the original's `inverse`. Both go over the same points and leave the same bytes, in turns; of each, the
+//! best of many rounds. A product's round has its fit in it, an original's has not.
 
 use differential::{codes, expected};
 use probes::Rows;

@@ -1,5 +1,5 @@
-//! Nanoseconds a point of every interpolation: the product's through its archive and the original's, each over many points in
-//! one call, in turns in one run. Inside the picture, and outside under five policies. Best of many rounds.
+//! Nanoseconds a point of every interpolation: the product's through its archive and the original's, each over many
+//! points in one call, in turns in one run. Inside the picture, and outside under five policies. Best of many rounds.
 
 use differential::random::Random;
 use reference::Picture;

@@ -100,8 +100,8 @@ impl<'a> Chain<'a> {
         }
     }
 
-    /// Whether a job may be a warp here: it is lent the chain's picture, and meets the chain conditions by its kind and by
-    /// the sums at every pixel.
+    /// Whether a job may be a warp here: it is lent the chain's picture, and meets the chain conditions by its kind and
+    /// by the sums at every pixel.
     pub fn fits(&self, job: &Job) -> bool {
         let near = |w: Window| self.mapping(job).is_some_and(|mapping| mapping.holds(w));
         self.picture.same(job) && meets(job) && self.window(job).is_some_and(near)
@@ -123,8 +123,8 @@ impl<'a> Chain<'a> {
         self.picture.same(job) && (0..w.height).all(held)
     }
 
-    /// Makes a call. A refused one has to leave its band as it is; a warp has to be lent the chain's picture, and the new
-    /// picture has to be near the exact one.
+    /// Makes a call. A refused one has to leave its band as it is; a warp has to be lent the chain's picture, and the
+    /// new picture has to be near the exact one.
     pub fn push(&mut self, job: &Job) -> Result<Place, String> {
         let answer = (self.call)(job);
         let w = match answer.verdict {
@@ -227,8 +227,8 @@ fn opaque(picture: &Lent) -> bool {
     pixels.all(|pixel| pixel.get(3).is_none_or(|&alpha| alpha == 1.0))
 }
 
-/// The chain conditions on a warp's kind: one of six methods, `Bilinear`, any policy but `Transparent`, a background from 0
-/// to 1 with alpha 1.
+/// The chain conditions on a warp's kind: one of six methods, `Bilinear`, any policy but `Transparent`, a background
+/// from 0 to 1 with alpha 1.
 fn meets(job: &Job) -> bool {
     use codes::*;
     let methods = [

@@ -1,16 +1,16 @@
 //! Jobs with their answers in one file, to be replayed where the reference is not there. It is read in one pass, with
 //! buffers of fixed size.
 //!
-//! A number is 8 bytes, little-endian; one with a sign is its two's complement. The file begins with the length of a text
-//! and the text, which says how the file was made, and then the number of jobs. Each job is
+//! A number is 8 bytes, little-endian; one with a sign is its two's complement. The file begins with the length of a
+//! text and the text, which says how the file was made, and then the number of jobs. Each job is
 //!
-//! - 18 numbers: width, height, channels, method, policy, interpolation, bestfit, viewport, view width, view height, view x,
-//!   view y, first row, rows, then the lengths in bytes of picture, arguments and band, and the refusal's number, 0 for an
-//!   accepted job;
+//! - 18 numbers: width, height, channels, method, policy, interpolation, bestfit, viewport, view width, view height,
+//!   view x, view y, first row, rows, then the lengths in bytes of picture, arguments and band, and the refusal's
+//!   number, 0 for an accepted job;
 //! - 16 bytes of background and 16 of matte;
 //! - the picture's bytes, then the arguments';
-//! - for an accepted job the answer's 48 bytes as the call writes them, then the band's; for a refused one nothing, since
-//!   band and answer stay as they are.
+//! - for an accepted job the answer's 48 bytes as the call writes them, then the band's; for a refused one nothing,
+//!   since band and answer stay as they are.
 //!
 //! The text, the picture, the arguments and the band are at most 4,096 bytes long. Of an accepted job every pixel has a
 //! source point within 2^30 or none by the reference, so the whole band is to be compared.

@@ -1,5 +1,5 @@
-//! The fit against the original's `Mapping::build`: every method, tame and wild, with refusals 1 and 3 to 8 by the model of
-//! the table. 20,000 jobs, a million with DIHYRAVO_FULL=1.
+//! The fit against the original's `Mapping::build`: every method, tame and wild, with refusals 1 and 3 to 8 by the
+//! model of the table. 20,000 jobs, a million with DIHYRAVO_FULL=1.
 
 use differential::{Job, generate, refusal};
 use reference::{Reference, reference_or_skip};

@@ -1,5 +1,6 @@
-//! The sampler against the original's `Sampler::interpolate` and `cubic_weights`: every policy, interpolation and channel
-//! count. 100,000 points, ten million with DIHYRAVO_FULL=1; every 997th f32 from 0 to 1, all of them with the flag.
+//! The sampler against the original's `Sampler::interpolate` and `cubic_weights`: every policy, interpolation and
+//! channel count. 100,000 points, ten million with DIHYRAVO_FULL=1; every 997th f32 from 0 to 1, all of them with the
+//! flag.
 
 use differential::random::Random;
 use differential::{Job, generate};

@@ -1,5 +1,5 @@
-//! The source point against the original's `Mapping::inverse`: every method, tame and wild, at pixel centres, on pairs, far
-//! away and beyond 2^30, with the refusals of the fit by the model of the table. 100,000 points, ten million with
+//! The source point against the original's `Mapping::inverse`: every method, tame and wild, at pixel centres, on pairs,
+//! far away and beyond 2^30, with the refusals of the fit by the model of the table. 100,000 points, ten million with
 //! DIHYRAVO_FULL=1.
 
 use differential::random::Random;

@@ -1,6 +1,6 @@
-//! Whole rows of source points against the original's `inverse`, bit for bit, where the product works several at a time: both barrels with wild arguments,
-//! centres on a pixel and a hair beside it, radii next to powers of two, factors about 0; the other methods as the jobs have them. 2,000 jobs, 200,000 with
-//! DIHYRAVO_FULL=1.
+//! Whole rows of source points against the original's `inverse`, bit for bit, where the product works several at a
+//! time: both barrels with wild arguments, centres on a pixel and a hair beside it, radii next to powers of two,
+//! factors about 0; the other methods as the jobs have them. 2,000 jobs, 200,000 with DIHYRAVO_FULL=1.
 
 use differential::random::Random;
 use differential::{Job, codes, expected, generate, refusal};
@@ -26,7 +26,8 @@ fn wild(r: &mut Random) -> f64 {
     sign * size
 }
 
-/// A place along one side: on a pixel, a hair beside one, a power of two away from one or a hair less or more, or anywhere.
+/// A place along one side: on a pixel, a hair beside one, a power of two away from one or a hair less or more, or
+/// anywhere.
 fn place(r: &mut Random, first: i64, side: u64) -> f64 {
     let pixel = (first + r.below(side) as i64) as f64 + 0.5;
     match r.below(6) {

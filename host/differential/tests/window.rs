@@ -110,8 +110,8 @@ fn windows_and_refusals() {
         }
     }
     println!(
-        "{} windows; accepted and by refusal: {answers:?}; by viewport, by bestfit, the picture's own: {sorts:?}; boxes \
-         refused: {refused_boxes}",
+        "{} windows; accepted and by refusal: {answers:?}; by viewport, by bestfit, the picture's own: {sorts:?}; \
+         boxes refused: {refused_boxes}",
         count()
     );
     for number in [0, 1, 3, 4, 5, 6, 7, 8, 9] {

@@ -1,5 +1,5 @@
-//! Squares a card that was photographed askew: four corners picked, `Perspective`, `Bilinear`, worked in bands of four rows as a
-//! tablet would. Prints the photograph, the squared card, and a call that is refused.
+//! Squares a card that was photographed askew: four corners picked, `Perspective`, `Bilinear`, worked in bands of four
+//! rows as a tablet would. Prints the photograph, the squared card, and a call that is refused.
 
 use dihyravo::{Distort, Method, Picture, Refusal, Viewport, VirtualPixel};
 

@@ -57,7 +57,8 @@ pub struct Distorted {
 
 /// A distortion: a method, its arguments, and how to go about it.
 ///
-/// Four picked corners of a card, squared to 200 by 100 pixels; of each, u, v on the photograph and x, y where it belongs:
+/// Four picked corners of a card, squared to 200 by 100 pixels; of each, u, v on the photograph and x, y where it
+/// belongs:
 ///
 /// ```
 /// use dihyravo::{Distort, Method, Picture, Refusal, Viewport};
@@ -93,8 +94,8 @@ impl Distort {
     pub const MATTE: [f32; 4] = [189.0 / 255.0, 189.0 / 255.0, 189.0 / 255.0, 1.0];
 
     /// A method and its arguments, with the original's defaults: the picture's own window, [`VirtualPixel::Edge`],
-    /// [`Distort::BACKGROUND`], [`Distort::MATTE`]. The original's elliptical averaging is absent, so the interpolation is its
-    /// point sampler's default, [`Interpolate::Bilinear`]. As many threads as the machine has cores.
+    /// [`Distort::BACKGROUND`], [`Distort::MATTE`]. The original's elliptical averaging is absent, so the interpolation
+    /// is its point sampler's default, [`Interpolate::Bilinear`]. As many threads as the machine has cores.
     pub fn new(method: Method, args: impl Into<Vec<f64>>) -> Self {
         Self {
             method,
@@ -146,16 +147,16 @@ impl Distort {
         self
     }
 
-    /// How many threads [`Distort::distort`] works on; 0 for as many as the machine has cores. The picture is the same, bit
-    /// for bit, whatever the number.
+    /// How many threads [`Distort::distort`] works on; 0 for as many as the machine has cores. The picture is the same,
+    /// bit for bit, whatever the number.
     pub fn with_threads(mut self, threads: usize) -> Self {
         self.threads = threads;
         self
     }
 
-    /// How many rows a band of [`Distort::distort`] has; 0 for two bands a thread, or one band where there is one thread.
-    /// The picture is the same, bit for bit, whatever the number. Each band costs a look at every sample of the picture,
-    /// so small bands are slow.
+    /// How many rows a band of [`Distort::distort`] has; 0 for two bands a thread, or one band where there is one
+    /// thread. The picture is the same, bit for bit, whatever the number. Each band costs a look at every sample of the
+    /// picture, so small bands are slow.
     pub fn with_rows(mut self, rows: u64) -> Self {
         self.rows = rows;
         self
@@ -208,8 +209,8 @@ impl Distort {
         self.distort_with(picture, |_, _| ())
     }
 
-    /// As [`Distort::distort`]; after each band `progress` is told how many rows are done, and of how many. The calls come
-    /// from any of the threads, one at a time, and the number of rows that are done only grows.
+    /// As [`Distort::distort`]; after each band `progress` is told how many rows are done, and of how many. The calls
+    /// come from any of the threads, one at a time, and the number of rows that are done only grows.
     ///
     /// ```
     /// use dihyravo::{Distort, Method, Picture, Refusal};

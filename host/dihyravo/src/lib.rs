@@ -1,7 +1,7 @@
 //! Squares up photographs: fits a mapping to picked points and warps the picture, whole or in bands of rows.
 //!
-//! The work is done by `libdihyravo.a`, in which every function is proved to meet its contract. This crate puts the original's
-//! builder over its call, reads its refusals, and spreads bands over threads.
+//! The work is done by `libdihyravo.a`, in which every function is proved to meet its contract. This crate puts the
+//! original's builder over its call, reads its refusals, and spreads bands over threads.
 //!
 //! ```
 //! use dihyravo::{Distort, Interpolate, Method, Picture, Refusal, VirtualPixel};
@@ -22,8 +22,8 @@
 //! # Ok::<(), Refusal>(())
 //! ```
 //!
-//! Coordinates are those of the original and of ImageMagick: pixel (i, j) covers i to i + 1 and j to j + 1, and its centre is
-//! at (i + 0.5, j + 0.5). A pair is u, v on the picture and x, y on the output.
+//! Coordinates are those of the original and of ImageMagick: pixel (i, j) covers i to i + 1 and j to j + 1, and its
+//! centre is at (i + 0.5, j + 0.5). A pair is u, v on the picture and x, y on the output.
 #![warn(missing_docs)]
 #![deny(unsafe_code)]
 

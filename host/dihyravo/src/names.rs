@@ -82,8 +82,8 @@ named! {
     /// assert!(error.to_string().starts_with("the method \"Arc\" is absent: the methods are Affine, "));
     /// ```
     Method, raw::method, "method", "methods";
-    /// Pairs `u,v,x,y`, a picture's point and where it belongs: one pair shifts, two fit a similarity, three or more the
-    /// nearest affine mapping by least squares.
+    /// Pairs `u,v,x,y`, a picture's point and where it belongs: one pair shifts, two fit a similarity, three or more
+    /// the nearest affine mapping by least squares.
     Affine = 0,
     /// `sx, ry, rx, sy, tx, ty`: `x = sx·u + rx·v + tx`, `y = ry·u + sy·v + ty`.
     AffineProjection = 1,
@@ -97,9 +97,9 @@ named! {
     BilinearForward = 6,
     /// The order, 1 to 5 or 1.5, then pairs `u,v,x,y`; u and v are polynomials in x and y by least squares.
     Polynomial = 7,
-    /// `A, B, C [, D [, X, Y]]`: the radius times `A·r³ + B·r² + C·r + D`, around `X, Y`; `r` is the output's radius, 1 at
-    /// half the picture's shorter side. Left out, `D` is `1 - (A + B + C)` and `X, Y` the picture's middle. More arguments
-    /// are not used.
+    /// `A, B, C [, D [, X, Y]]`: the radius times `A·r³ + B·r² + C·r + D`, around `X, Y`; `r` is the output's radius, 1
+    /// at half the picture's shorter side. Left out, `D` is `1 - (A + B + C)` and `X, Y` the picture's middle. More
+    /// arguments are not used.
     Barrel = 11,
     /// `A, B, C [, D [, X, Y]]` as of `Barrel`: the radius over `A·r³ + B·r² + C·r + D`.
     BarrelInverse = 12,

@@ -8,9 +8,9 @@ use std::fmt;
 /// The largest width and height.
 pub const LARGEST_SIDE: u64 = 4_096;
 
-/// A picture: 1 to 4,096 pixels wide and high, with 1 channel (grey), 3 (red, green, blue) or 4 (and alpha). Its samples
-/// lie row after row from the top, pixel after pixel from the left, the channels of a pixel together; 0 is black, 1 white or
-/// opaque.
+/// A picture: 1 to 4,096 pixels wide and high, with 1 channel (grey), 3 (red, green, blue) or 4 (and alpha). Its
+/// samples lie row after row from the top, pixel after pixel from the left, the channels of a pixel together; 0 is
+/// black, 1 white or opaque.
 ///
 /// ```
 /// use dihyravo::{Picture, Refusal};
@@ -29,8 +29,8 @@ pub struct Picture {
 }
 
 impl Picture {
-    /// A picture of these samples; refused by [`Refusal::Size`] or [`Refusal::Stock`]. The numbers themselves are looked
-    /// at by the distort call.
+    /// A picture of these samples; refused by [`Refusal::Size`] or [`Refusal::Stock`]. The numbers themselves are
+    /// looked at by the distort call.
     pub fn new(width: u64, height: u64, channels: u64, samples: Vec<f32>) -> Result<Self, Refusal> {
         let length = length(width, height, channels)?;
         if samples.len() != length {

@@ -86,7 +86,8 @@ pub fn distort_into(job: &Job, band: &mut [u8], answer: &mut [u8; 48]) -> u64 {
     ffi::distort(job, band, answer)
 }
 
-/// The answer and a band of `length` bytes, or the refusal's number. No rows and no band is the way to ask for the size.
+/// The answer and a band of `length` bytes, or the refusal's number. No rows and no band is the way to ask for the
+/// size.
 #[inline]
 pub fn distort(job: &Job, length: usize) -> Result<(Answer, Vec<u8>), u64> {
     let mut band = vec![0; length];

@@ -112,7 +112,8 @@ impl Refusal {
                  1, 1.5, 2, 3, 4, 5 needs 3, 4, 6, 10, 15, 21"
             }
             Self::Degenerate => {
-                "no mapping fits; pick points that are apart and not on one line, give coefficients that can be inverted"
+                "no mapping fits; pick points that are apart and not on one line, give coefficients that can be \
+                 inverted"
             }
             Self::Window => {
                 "the output's sides must be 1 to 4,096 and its offset within 1,048,576 of 0; give another size or \
@@ -122,8 +123,8 @@ impl Refusal {
                 "first row plus row count is above the output's height; ask for the size first and stay below it"
             }
             Self::Tray => {
-                "the band's length is not rows times output width times output channels; ask for the size first and lend \
-                 exactly that much"
+                "the band's length is not rows times output width times output channels; ask for the size first and \
+                 lend exactly that much"
             }
         }
     }

@@ -1,5 +1,5 @@
-//! The cases of a run, each from a seed and its index: good jobs and those at the edges, damaged copies, lengths that are
-//! one off, huge numbers, empty slices, noise.
+//! The cases of a run, each from a seed and its index: good jobs and those at the edges, damaged copies, lengths that
+//! are one off, huge numbers, empty slices, noise.
 
 use crate::arena::{Place, Side};
 use crate::damage;

@@ -1,6 +1,6 @@
-//! One case: two calls, each buffer against an unmapped page at its start in one and at its end in the other, with other
-//! surroundings and other bytes in band and answer before. What is left has to be the same, and only what may change
-//! may have changed.
+//! One case: two calls, each buffer against an unmapped page at its start in one and at its end in the other, with
+//! other surroundings and other bytes in band and answer before. What is left has to be the same, and only what may
+//! change may have changed.
 
 use crate::arena::{Arenas, Lending, Place};
 use crate::callee::{self, Distort, Pointers};

@@ -4,8 +4,9 @@
 //!     cargo run --release --bin fuzz -- 0..100        ten million calls, a hundred pieces
 //!     cargo run --release --bin fuzz -- --show SEED CASE    a case, told and run
 //!
-//! A piece has a seed of its own. `--one` makes one child at a time instead of one for each core. The others are for the
-//! tests: `--here SEED FIRST END PLANT` runs cases in this process, `--heap SEED FIRST END` over blocks of the heap.
+//! A piece has a seed of its own. `--one` makes one child at a time instead of one for each core. The others are for
+//! the tests: `--here SEED FIRST END PLANT` runs cases in this process, `--heap SEED FIRST END` over blocks of the
+//! heap.
 
 use fuzz::callee::dihyravo_distort;
 use fuzz::run::{self, Met, PATIENCE};

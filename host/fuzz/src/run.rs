@@ -101,7 +101,8 @@ impl fmt::Display for Met {
     }
 }
 
-/// Runs the cases of a seed here. A fault, or a case that runs for more than so many seconds, ends the process: see `fault`.
+/// Runs the cases of a seed here. A fault, or a case that runs for more than so many seconds, ends the process: see
+/// `fault`.
 pub fn here(callee: Distort, seed: u64, indices: Range<u64>, seconds: u32) -> Result<Met, String> {
     let reference = reference::open();
     let (mut rooms, mut readers) = (Rooms::default(), Names::default());

@@ -1,5 +1,5 @@
-//! The compiled library between unmapped pages: 100,000 calls, ten million with DIHYRAVO_FULL=1; and every planted fault
-//! is found. A run is a child process, so that a fault ends it and not the tests.
+//! The compiled library between unmapped pages: 100,000 calls, ten million with DIHYRAVO_FULL=1; and every planted
+//! fault is found. A run is a child process, so that a fault ends it and not the tests.
 
 use fuzz::plants::PLANTS;
 use fuzz::run::{self, Met};

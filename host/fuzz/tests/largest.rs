@@ -1,5 +1,6 @@
-//! The largest picture and the largest band, 4,096 by 4,096 with four channels and 256 MiB each, against unmapped pages: an
-//! unmoved picture comes back byte for byte; the last row and the corners outside are read by every interpolation.
+//! The largest picture and the largest band, 4,096 by 4,096 with four channels and 256 MiB each, against unmapped
+//! pages: an unmoved picture comes back byte for byte; the last row and the corners outside are read by every
+//! interpolation.
 
 use differential::codes::{AFFINE_PROJECTION, INTERPOLATIONS};
 use fuzz::arena::{Arenas, Lending, Place, Side};

@@ -1,5 +1,5 @@
-//! The stack that a call needs, measured over every method and interpolation and a few thousand cases: below the 32 KiB that
-//! dihyravo.h promises.
+//! The stack that a call needs, measured over every method and interpolation and a few thousand cases: below the 32 KiB
+//! that dihyravo.h promises.
 
 use differential::codes::{INTERPOLATIONS, METHODS, PRESENT};
 use differential::{Job, expected, generate};

@@ -1,5 +1,5 @@
-//! Safe names for the functions of the archives of probes: single leaves of the product, handed out for comparison. Floats go
-//! in and come out as their bits; a NaN that comes out is 0x7fc00000 or 0x7ff8000000000000.
+//! Safe names for the functions of the archives of probes: single leaves of the product, handed out for comparison.
+//! Floats go in and come out as their bits; a NaN that comes out is 0x7fc00000 or 0x7ff8000000000000.
 
 mod ffi {
     unsafe extern "C" {
@@ -128,8 +128,8 @@ pub fn wrapping_mul(a: u64, b: u64) -> u64 {
 /// What a probe leaves in a lent buffer before it is called, so that a byte that it must not write is seen.
 pub const UNTOUCHED: u8 = 0xa5;
 
-/// The coefficients of a fit over the arguments' bytes, or the refusal's number. A refusal writes nothing, and an answer
-/// nothing beyond its coefficients.
+/// The coefficients of a fit over the arguments' bytes, or the refusal's number. A refusal writes nothing, and an
+/// answer nothing beyond its coefficients.
 pub fn fit(method: u64, arguments: &[u8], width: u64, height: u64) -> Result<Vec<f64>, u64> {
     let mut out = [UNTOUCHED; 2064];
     // SAFETY: the pointer and the length are one slice's, and `out` is an array of that size.
@@ -157,7 +157,8 @@ pub fn fit(method: u64, arguments: &[u8], width: u64, height: u64) -> Result<Vec
         .collect())
 }
 
-/// Four f32 out of 16 bytes, or none where the probe answers that its input is outside the domain, and then writes nothing.
+/// Four f32 out of 16 bytes, or none where the probe answers that its input is outside the domain, and then writes
+/// nothing.
 fn colour(answer: u64, out: [u8; 16]) -> Option<[f32; 4]> {
     if answer != 0 {
         assert!(out == [UNTOUCHED; 16], "a refused call changed a byte");
@@ -214,8 +215,8 @@ pub fn interpolate(
     colour(answer, out)
 }
 
-/// The colours at many points in index space, in one call: x and y of each as f64, little-endian, and its colour in as many
-/// bytes of `out`. False outside the domain, where nothing is written; a point outside it is passed over.
+/// The colours at many points in index space, in one call: x and y of each as f64, little-endian, and its colour in as
+/// many bytes of `out`. False outside the domain, where nothing is written; a point outside it is passed over.
 pub fn samples(
     picture: &Picture,
     policy: u64,
@@ -291,8 +292,8 @@ pub fn inverse(
     })
 }
 
-/// Many source points by one fit: `points` holds x and y, 16 bytes each, and `out` gets u, v and usable as 0 or 1, 24 bytes
-/// each. The answer is 0, the refusal's number, or 12 for lengths that do not fit.
+/// Many source points by one fit: `points` holds x and y, 16 bytes each, and `out` gets u, v and usable as 0 or 1, 24
+/// bytes each. The answer is 0, the refusal's number, or 12 for lengths that do not fit.
 pub fn points(
     method: u64,
     arguments: &[u8],
@@ -326,9 +327,9 @@ pub struct Rows {
     pub rows: u64,
 }
 
-/// The source points of whole rows by one fit, worked as the call works them: 24 bytes each, as `points` writes them, but one that
-/// cannot be used as 24 zeros. The answer is the refusal's number, 12 where the rows are beyond a window's limits or the bytes are
-/// not 24 for each point; a refusal writes nothing.
+/// The source points of whole rows by one fit, worked as the call works them: 24 bytes each, as `points` writes them,
+/// but one that cannot be used as 24 zeros. The answer is the refusal's number, 12 where the rows are beyond a window's
+/// limits or the bytes are not 24 for each point; a refusal writes nothing.
 pub fn rows(
     method: u64,
     arguments: &[u8],

@@ -77,9 +77,9 @@ pub(crate) mod access {
             self.0.inverse(x, y)
         }
 
-        /// `inverse` over many points, where the compiler sees it as it does in `distort`: `points` holds x and y, 16 bytes
-        /// each, and `out` gets u and v, a NaN by one pattern, and whether both are at most `limit` in magnitude, 24 bytes
-        /// each.
+        /// `inverse` over many points, where the compiler sees it as it does in `distort`: `points` holds x and y, 16
+        /// bytes each, and `out` gets u and v, a NaN by one pattern, and whether both are at most `limit` in magnitude,
+        /// 24 bytes each.
         pub fn inverses(&self, points: &[u8], out: &mut [u8], limit: f64) {
             let (points, _) = points.as_chunks::<16>();
             let (out, _) = out.as_chunks_mut::<24>();

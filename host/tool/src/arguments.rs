@@ -4,7 +4,12 @@ use clap::{Args, Parser, Subcommand};
 use std::path::PathBuf;
 
 #[derive(Debug, Parser)]
-#[command(name = "dihyravo", version, about = "Squares up photographs and warps pictures, by a proved library", after_help = FILES)]
+#[command(
+    name = "dihyravo",
+    version,
+    about = "Squares up photographs and warps pictures, by a proved library",
+    after_help = FILES
+)]
 pub struct Arguments {
     #[command(subcommand)]
     pub command: Command,
@@ -23,11 +28,11 @@ pub enum Command {
 }
 
 const FILES: &str = "\
-Files: PNG, TIFF and PNM of 8 and 16 bits, JPEG of 8, PFM and TIFF of 32-bit floats, of 1 to 4,096 pixels a side. What IN
-is, its first bytes say; what OUT is, its ending says. Of several pictures in a file the first is read. 8 and 16 bits hold
-samples from 0 to 1: what is beyond is cut off. A grey picture stays grey, background and matte too. Samples are taken as
-they are stored: no colour profile, no gamma, and NO EXIF ORIENTATION is applied, and none is carried over; corners count
-on the picture as it is stored.
+Files: PNG, TIFF and PNM of 8 and 16 bits, JPEG of 8, PFM and TIFF of 32-bit floats, of 1 to 4,096 pixels a side. What
+IN is, its first bytes say; what OUT is, its ending says. Of several pictures in a file the first is read. 8 and 16 bits
+hold samples from 0 to 1: what is beyond is cut off. A grey picture stays grey, background and matte too. Samples are
+taken as they are stored: no colour profile, no gamma, and NO EXIF ORIENTATION is applied, and none is carried over;
+corners count on the picture as it is stored.
 
 Exit status: 0 done; 1 refused, with the number, the word and what to mend; 2 bad usage, or a file that can't be read or
 written. Where a run fails, OUT is as it was before; only where the picture is made and standard output can't be written
@@ -35,8 +40,8 @@ is it new. IN and OUT may be the same file.";
 
 const SQUARE: &str = "\
 A corner u,v is a point of the photograph in pixels from its top-left corner, u to the right, v down: 0,0 is the very
-corner of the first pixel and 0.5,0.5 that pixel's middle; fractions are welcome. The four corners go to the four corners
-of OUT. EXIF orientation is not applied: corners count on the picture as it is stored.
+corner of the first pixel and 0.5,0.5 that pixel's middle; fractions are welcome. The four corners go to the four
+corners of OUT. EXIF orientation is not applied: corners count on the picture as it is stored.
 
 A colour is a name such as white or none, #rgb, #rrggbb, #rrggbbaa, rgb(r,g,b), rgba(r,g,b,a) or r,g,b,a with 1 as full.
 
@@ -94,8 +99,8 @@ pub struct Distort {
     pub options: Options,
 }
 
-/// What both commands take. The defaults are those of the original's builder; its elliptical averaging is absent here, so
-/// the interpolation is its enum's default.
+/// What both commands take. The defaults are those of the original's builder; its elliptical averaging is absent here,
+/// so the interpolation is its enum's default.
 #[derive(Debug, Args)]
 pub struct Options {
     /// What is seen outside of IN
@@ -124,7 +129,13 @@ pub struct Options {
     #[arg(long, value_name = "BITS", value_parser = ["8", "16", "32"])]
     pub depth: Option<String>,
     /// JPEG's quality, 1 to 100
-    #[arg(long, allow_hyphen_values = true, value_name = "N", default_value_t = 95, value_parser = clap::value_parser!(u8).range(1..=100))]
+    #[arg(
+        long,
+        allow_hyphen_values = true,
+        value_name = "N",
+        default_value_t = 95,
+        value_parser = clap::value_parser!(u8).range(1..=100)
+    )]
     pub quality: u8,
     /// Rows that are worked at once; changes no sample [default: two bands a thread]
     #[arg(long, allow_hyphen_values = true, value_name = "N", value_parser = clap::value_parser!(u64).range(1..))]

@@ -1,5 +1,5 @@
-//! Why a run ends without a picture. A refusal is the proved call's own answer; all else is bad usage or a file that can't be
-//! read or written.
+//! Why a run ends without a picture. A refusal is the proved call's own answer; all else is bad usage or a file that
+//! can't be read or written.
 
 use dihyravo::{NameError, Refusal};
 use std::fmt;

@@ -212,7 +212,8 @@ impl Job {
         })
     }
 
-    /// Tries whether there is memory for the output and its file. Asked of the allocator later on, it would end the program.
+    /// Tries whether there is memory for the output and its file. Asked of the allocator later on, it would end the
+    /// program.
     fn room_for_output(&self, picture: &Picture) -> Result<(), Failure> {
         // A refusal is told by the call itself.
         let Ok(window) = self.distort.size(picture) else {

@@ -1,5 +1,5 @@
-//! `dihyravo`: squares up photographs from the shell. Pictures are warped by the proved library; this program reads what people
-//! write, reads and writes files, and says what came of it.
+//! `dihyravo`: squares up photographs from the shell. Pictures are warped by the proved library; this program reads
+//! what people write, reads and writes files, and says what came of it.
 
 mod arguments;
 mod failure;

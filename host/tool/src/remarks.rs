@@ -44,7 +44,8 @@ pub fn outside(corners: &[f64], picture: &Picture) -> Option<String> {
 pub fn orientation(orientation: Option<u16>) -> Option<String> {
     let found = orientation.filter(|found| (2..=8).contains(found))?;
     Some(format!(
-        "the file's orientation is {found}, which viewers apply and this program does not: numbers count on the picture as it is stored"
+        "the file's orientation is {found}, which viewers apply and this program does not: numbers count on \
+         the picture as it is stored"
     ))
 }
 

@@ -1,4 +1,5 @@
-//! One row of the table: the product whole and in bands, and the original's `distort`, in turns; the best of many rounds.
+//! One row of the table: the product whole and in bands, and the original's `distort`, in turns; the best of many
+//! rounds.
 
 use super::clock;
 use super::rows::{EDGE, Row, Shape};
@@ -167,8 +168,8 @@ pub fn own(job: &Job, band: &mut [u8]) {
     black_box(band);
 }
 
-/// Nanoseconds of all bands, and of as many tests of all samples alone, which are calls for no rows. They take turns, so that a machine that
-/// grows slower does so for both.
+/// Nanoseconds of all bands, and of as many tests of all samples alone, which are calls for no rows. They take turns,
+/// so that a machine that grows slower does so for both.
 fn in_bands(mut job: Job, picture: &mut [u8]) -> (f64, f64) {
     let row = (job.view_width * job.channels * 4) as usize;
     let (mut bands, mut tests) = (0.0, 0.0);

@@ -156,7 +156,8 @@ fn pairs_of(every: bool) -> impl Iterator<Item = (u64, u64)> {
     all.filter(move |&(m, i)| every || i == plain || m == named)
 }
 
-/// The rows that have every word in their names, case ignored. A quick run without words is of one picture, mostly `Edge`.
+/// The rows that have every word in their names, case ignored. A quick run without words is of one picture, mostly
+/// `Edge`.
 pub fn chosen(words: &[String], quick: bool) -> Vec<Row> {
     let has = |row: &Row, word: &String| row.words().iter().any(|w| w.eq_ignore_ascii_case(word));
     let asked = |row: &Row| words.iter().all(|word| has(row, word));

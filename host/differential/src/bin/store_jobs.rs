@@ -1,5 +1,5 @@
-//! Writes jobs with the reference's answers to standard output: the file `tests/replay-cases/jobs`, which is replayed where
-//! the reference is not there. `differential::stored` says what the file is made of.
+//! Writes jobs with the reference's answers to standard output: the file `tests/replay-cases/jobs`, which is replayed
+//! where the reference is not there. `differential::stored` says what the file is made of.
 //!
 //! The jobs are the limits and trial cards below, and then those of one seed that are small enough, so many of each
 //! refusal and of each policy with each interpolation. Left out are jobs with a source point that is beyond 2^30 or no

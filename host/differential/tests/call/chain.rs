@@ -1,6 +1,6 @@
-//! The third demand, run: lists of calls through the compiled call and through the exact chain, warps whole and in bands,
-//! refused calls and calls that stay alone between them. 2,000 lists, 200,000 with DIHYRAVO_FULL=1. The reference is not
-//! asked: the coefficients are those of the product's own fit, which other tests compare with it.
+//! The third demand, run: lists of calls through the compiled call and through the exact chain, warps whole and in
+//! bands, refused calls and calls that stay alone between them. 2,000 lists, 200,000 with DIHYRAVO_FULL=1. The
+//! reference is not asked: the coefficients are those of the product's own fit, which other tests compare with it.
 
 use crate::compiled;
 use differential::Job;
@@ -41,8 +41,8 @@ fn lists_of_calls() {
         }
     });
     println!(
-        "{} lists: {} warps, {} of them in bands, {} refused calls, {} calls that stay alone; by method: {:?}; by policy: \
-         {:?}; the worst error is {} of n/524,288",
+        "{} lists: {} warps, {} of them in bands, {} refused calls, {} calls that stay alone; by method: {:?}; by \
+         policy: {:?}; the worst error is {} of n/524,288",
         count(),
         met.warps,
         met.joined,

@@ -82,8 +82,8 @@ impl Guarded {
     }
 }
 
-/// The answer of one call, and the band as it leaves it. Yes is any number but 0, and a viewport that is not given may be
-/// anything.
+/// The answer of one call, and the band as it leaves it. Yes is any number but 0, and a viewport that is not given may
+/// be anything.
 pub fn answer(job: &Job) -> Answer {
     let mut r = stream(job);
     let yes = r.pick(&[1, 2, 1 << 32, 1 << 63, u64::MAX]);
@@ -145,8 +145,8 @@ fn accepted(said: Given) -> Verdict {
     }
 }
 
-/// The answer to a job for all rows, put together out of bands that are cut and asked for in an order of chance. The size
-/// is asked for with no rows; where that is refused, so is this.
+/// The answer to a job for all rows, put together out of bands that are cut and asked for in an order of chance. The
+/// size is asked for with no rows; where that is refused, so is this.
 pub fn in_bands(job: &Job) -> Answer {
     let mut random = stream(job);
     let none = Job {

@@ -170,8 +170,8 @@ fn pictures_offsets_counts_and_refusals() {
         }
     }
     println!(
-        "{} jobs, pieces {pieces:?}; accepted and by refusal: {:?}; {} again whole and in bands; {} pixels compared, {} of \
-         them matte; by method: {:?}; by policy: {:?}; by interpolation: {:?}; by channels: {:?}",
+        "{} jobs, pieces {pieces:?}; accepted and by refusal: {:?}; {} again whole and in bands; {} pixels compared, \
+         {} of them matte; by method: {:?}; by policy: {:?}; by interpolation: {:?}; by channels: {:?}",
         met.answers.iter().sum::<u64>(),
         met.answers,
         met.whole,

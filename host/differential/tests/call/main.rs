@@ -1,4 +1,5 @@
-//! The exported distort call: against the original, on turned pictures too, against the stored answers, and lists of calls against the exact chain.
+//! The exported distort call: against the original, on turned pictures too, against the stored answers, and lists of
+//! calls against the exact chain.
 
 mod chain;
 mod compiled;

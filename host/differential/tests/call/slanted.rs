@@ -1,5 +1,6 @@
-//! Pictures wide enough for whole stretches, turned by small angles: whole and in bands against the original, bit for bit. A stretch that goes over
-//! several rows of the picture is read ahead, which the small pictures of the other jobs seldom have.
+//! Pictures wide enough for whole stretches, turned by small angles: whole and in bands against the original, bit for
+//! bit. A stretch that goes over several rows of the picture is read ahead, which the small pictures of the other jobs
+//! seldom have.
 
 use crate::compiled;
 use differential::answer::parting;

@@ -1,4 +1,5 @@
-//! The wrapper: that it hands the call what it was given and hands back what the call answered, whatever the threads and bands.
+//! The wrapper: that it hands the call what it was given and hands back what the call answered, whatever the threads
+//! and bands.
 
 mod bands;
 mod header;

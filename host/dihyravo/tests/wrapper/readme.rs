@@ -1,5 +1,5 @@
-//! The lines of host/README.md and of the project's README.md that show the use from Rust and from C stand in programs that are
-//! run.
+//! The lines of host/README.md and of the project's README.md that show the use from Rust and from C stand in programs
+//! that are run.
 
 const READMES: [&str; 2] = [
     include_str!("../../../README.md"),

@@ -83,7 +83,8 @@ fn band_lengths() {
     assert_eq!(window.band_length(u64::MAX), usize::MAX);
 }
 
-/// The offset is where the distorted picture begins: a shift by whole pixels, and best fit finds it with a pixel around.
+/// The offset is where the distorted picture begins: a shift by whole pixels, and best fit finds it with a pixel
+/// around.
 #[test]
 fn an_offset() {
     let picture = picture(4, 3, 1);
@@ -98,7 +99,8 @@ fn an_offset() {
     assert!(difference.abs() < 1e-6);
 }
 
-/// `sx, ry, rx, sy, tx, ty`: x = sx·u + rx·v + tx, y = ry·u + sy·v + ty. Here x = u + 2·v and y = v; then x = u and y = 3·u + v.
+/// `sx, ry, rx, sy, tx, ty`: x = sx·u + rx·v + tx, y = ry·u + sy·v + ty. Here x = u + 2·v and y = v; then x = u and y =
+/// 3·u + v.
 #[test]
 fn the_order_of_a_projection() {
     let picture = picture(4, 3, 3);

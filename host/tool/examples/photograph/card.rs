@@ -1,4 +1,5 @@
-//! The card as it was printed: a white sheet of 800 by 600 with a label, a ramp of greys, and six tints in four strengths.
+//! The card as it was printed: a white sheet of 800 by 600 with a label, a ramp of greys, and six tints in four
+//! strengths.
 
 use crate::letters::ink;
 

@@ -1,5 +1,5 @@
-//! Makes the demo's photograph of a tint card: `photograph OUT.png [SEED]`. Prints the card's corners as `dihyravo square` takes
-//! them. The same seed gives the same picture everywhere.
+//! Makes the demo's photograph of a tint card: `photograph OUT.png [SEED]`. Prints the card's corners as
+//! `dihyravo square` takes them. The same seed gives the same picture everywhere.
 
 mod card;
 mod letters;

@@ -1,4 +1,5 @@
-//! Picture files: which formats there are, how they are read into floats and written from them, and how a file is put in place.
+//! Picture files: which formats there are, how they are read into floats and written from them, and how a file is put
+//! in place.
 
 mod format;
 mod orientation;

@@ -1,5 +1,5 @@
-//! The orientation that a camera leaves in a file, which viewers apply: tag 274 of a TIFF's first directory, and in a JPEG of the Exif part, which is
-//! a TIFF in small. Anything broken has none.
+//! The orientation that a camera leaves in a file, which viewers apply: tag 274 of a TIFF's first directory, and in a
+//! JPEG of the Exif part, which is a TIFF in small. Anything broken has none.
 
 const ORIENTATION: u16 = 274;
 const SHORT: u16 = 3;

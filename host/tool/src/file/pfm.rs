@@ -1,5 +1,6 @@
-//! PFM: a picture of 32-bit floats, grey (`Pf`) or colour (`PF`), rows from the bottom up. The sign of the third header number
-//! says the byte order; its size is a remark about brightness, which changes no sample here. Every bit of a sample is kept.
+//! PFM: a picture of 32-bit floats, grey (`Pf`) or colour (`PF`), rows from the bottom up. The sign of the third header
+//! number says the byte order; its size is a remark about brightness, which changes no sample here. Every bit of a
+//! sample is kept.
 
 use super::read::{Sizes, sized};
 use crate::failure::Failure;

@@ -1,4 +1,5 @@
-//! PNM: the crate `image` reads its samples but leaves the header's largest sample to the caller; what is written is binary.
+//! PNM: the crate `image` reads its samples but leaves the header's largest sample to the caller; what is written is
+//! binary.
 
 use image::codecs::pnm::{PnmDecoder, PnmSubtype};
 use std::io::Cursor;

@@ -1,5 +1,6 @@
-//! Reading: the format is found by the file's first bytes, the size is looked at before anything is unpacked, and samples become
-//! floats from 0 to 1 by one division. Colours are taken as they are stored; no profile, gamma or orientation is applied.
+//! Reading: the format is found by the file's first bytes, the size is looked at before anything is unpacked, and
+//! samples become floats from 0 to 1 by one division. Colours are taken as they are stored; no profile, gamma or
+//! orientation is applied.
 
 use super::orientation::orientation;
 use super::{Depth, pfm, pnm, tiff_file};
@@ -304,7 +305,13 @@ mod tests {
         );
         assert_eq!(samples(b"P1\n2 1\n1 0\n"), Ok(vec![0.0, 1.0]));
         assert_eq!(samples(b"P4\n2 1\n\x80"), Ok(vec![0.0, 1.0]));
-        assert_eq!(samples(b"P7\nWIDTH 2\nHEIGHT 1\nDEPTH 1\nMAXVAL 1\nTUPLTYPE BLACKANDWHITE\nENDHDR\n\x00\x01"), Ok(vec![0.0, 1.0]));
+        assert_eq!(
+            samples(
+                b"P7\nWIDTH 2\nHEIGHT 1\nDEPTH 1\nMAXVAL 1\n\
+                  TUPLTYPE BLACKANDWHITE\nENDHDR\n\x00\x01"
+            ),
+            Ok(vec![0.0, 1.0])
+        );
         assert!(samples(b"P5\n1 1\n0\n\x00").is_err());
         assert!(
             samples(b"P5\n1 1\n100\n\x65")

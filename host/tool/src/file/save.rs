@@ -1,5 +1,6 @@
-//! Putting a file in place: written whole beside its name, synced, then renamed over it. Whatever fails, the old file stands and
-//! nothing half-written is left; a run that is killed while it writes may leave a file `.dihyravo-*.part` beside it.
+//! Putting a file in place: written whole beside its name, synced, then renamed over it. Whatever fails, the old file
+//! stands and nothing half-written is left; a run that is killed while it writes may leave a file `.dihyravo-*.part`
+//! beside it.
 
 use crate::failure::Failure;
 use std::fs::{self, File, OpenOptions, Permissions};
@@ -7,8 +8,8 @@ use std::io::{self, Write};
 use std::path::{Path, PathBuf};
 use std::process;
 
-/// Before the work: whether the folder is there and the name can be a file's. A file that is read-only is meant to stay; to
-/// rename another over it would be allowed all the same.
+/// Before the work: whether the folder is there and the name can be a file's. A file that is read-only is meant to
+/// stay; to rename another over it would be allowed all the same.
 pub fn check(path: &Path) -> Result<(), Failure> {
     match fs::metadata(path) {
         Ok(found) if found.is_dir() => return Err(failed(path, "it is a folder")),

@@ -1,5 +1,5 @@
-//! TIFF: what the crate `image` does not read of it, and the writing of it in every depth, uncompressed. A fourth channel is tagged as alpha that the
-//! colours are not multiplied by, which readers ask for.
+//! TIFF: what the crate `image` does not read of it, and the writing of it in every depth, uncompressed. A fourth
+//! channel is tagged as alpha that the colours are not multiplied by, which readers ask for.
 
 use super::read::{Sizes, picture, sized};
 use crate::failure::Failure;
@@ -21,7 +21,8 @@ pub fn is_float(bytes: &[u8]) -> bool {
     numbers(bytes, Tag::SampleFormat).first() == Some(&SampleFormat::IEEEFP.to_u16())
 }
 
-/// Why the first picture's samples are not what the decoder takes them for, if they are not: it does not look at these tags.
+/// Why the first picture's samples are not what the decoder takes them for, if they are not: it does not look at these
+/// tags.
 pub fn misread(bytes: &[u8]) -> Option<&'static str> {
     const PLANAR: u16 = 2;
     const ASSOCIATED: u16 = 1;

@@ -1,4 +1,5 @@
-//! Writing, into memory first: samples are clamped to 0 to 1 and rounded to the nearest whole step, floats stay as they are.
+//! Writing, into memory first: samples are clamped to 0 to 1 and rounded to the nearest whole step, floats stay as they
+//! are.
 
 use super::tiff_file::{self, Samples};
 use super::{Depth, Format, pfm, pnm};

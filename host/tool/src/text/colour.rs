@@ -39,7 +39,8 @@ pub fn colour(text: &str) -> Result<[f32; 4], String> {
     read.ok_or_else(|| {
         let names = NAMED.map(|(name, _)| name).join(", ");
         format!(
-            "'{text}' is not a colour: give #rgb, #rgba, #rrggbb, #rrggbbaa, rgb(r,g,b), rgba(r,g,b,a), four numbers of which 1 is full, or one of {names}"
+            "'{text}' is not a colour: give #rgb, #rgba, #rrggbb, #rrggbbaa, rgb(r,g,b), rgba(r,g,b,a), four \
+             numbers of which 1 is full, or one of {names}"
         )
     })
 }
@@ -94,7 +95,8 @@ fn component_of(part: &str, full: f64) -> Option<f32> {
     (0.0..=1.0).contains(&value).then_some(value as f32)
 }
 
-/// Four numbers as they are: a picture of floats may have colours beyond 1, and the call knows the limits. An alpha beyond 1 is of another range.
+/// Four numbers as they are: a picture of floats may have colours beyond 1, and the call knows the limits. An alpha
+/// beyond 1 is of another range.
 fn four(text: &str) -> Option<[f32; 4]> {
     let values = numbers(text).ok()?;
     let four: [f64; 4] = values.try_into().ok()?;

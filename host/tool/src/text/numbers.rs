@@ -35,7 +35,8 @@ pub fn corners(text: &str) -> Result<([(f64, f64); 4], bool), String> {
     let [a, b, c, d, e, f, g, h] = values[..] else {
         let count = values.len();
         return Err(format!(
-            "four corners are eight numbers, u,v for each of top-left, top-right, bottom-right and bottom-left: here are {count}"
+            "four corners are eight numbers, u,v for each of top-left, top-right, bottom-right and bottom-left: \
+             here are {count}"
         ));
     };
     let corners = [(a, b), (c, d), (e, f), (g, h)];

@@ -46,7 +46,8 @@ fn the_photograph_squared_is_imagemagicks() {
         &corners,
     ];
     folder.run(words).good();
-    let words = "photograph.png -filter point -interpolate bilinear -virtual-pixel edge -define distort:viewport=800x600+0+0";
+    let words = "photograph.png -filter point -interpolate bilinear -virtual-pixel edge \
+                 -define distort:viewport=800x600+0+0";
     let convert = Command::new("convert")
         .current_dir(folder.path("."))
         .args(words.split(' '))

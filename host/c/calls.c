@@ -55,10 +55,10 @@ static struct dihyravo_job plain(void)
 
 /* The answer of an accepted call is this, and nothing else. */
 static int is(const struct dihyravo_answer *a, uint64_t width, uint64_t height, int64_t x, int64_t y, uint64_t channels,
-              uint64_t matte)
+              uint64_t matte_pixels)
 {
     return a->width == width && a->height == height && a->x == x && a->y == y && a->channels == channels &&
-           a->matte == matte;
+           a->matte_pixels == matte_pixels;
 }
 
 /* The original's own answer for the same job, bit for bit. */
@@ -72,7 +72,8 @@ static void known_pixels(void)
     float band[WIDTH * HEIGHT];
     uint64_t number = dihyravo_run(&job, band, sizeof band, &answer);
     test("four corners askew: the original's pixels", number == 0 && memcmp(band, original, sizeof band) == 0);
-    test("four corners askew: size, offset, channels, matte", number == 0 && is(&answer, WIDTH, HEIGHT, 0, 0, 1, 0));
+    test("four corners askew: size, offset, channels, matte pixels",
+         number == 0 && is(&answer, WIDTH, HEIGHT, 0, 0, 1, 0));
 }
 
 static void halfway_to_clear(void)

@@ -130,7 +130,7 @@ struct dihyravo_answer {
     int64_t x, y;           /* where its upper left corner lies */
     uint64_t channels;      /* 4 if the picture has 4, the policy is Transparent or the background's alpha is below 1;
                                else the picture's */
-    uint64_t matte;         /* the band's pixels that have no source point that can be used, and so show the matte
+    uint64_t matte_pixels;  /* the band's pixels that have no source point that can be used, and so show the matte
                                colour */
 };
 

@@ -15,7 +15,7 @@ pub enum Verdict {
         y: i64,
         channels: u64,
         /// Pixels of the band without a usable source point.
-        undefined: u64,
+        matte_pixels: u64,
     },
 }
 
@@ -47,10 +47,10 @@ impl fmt::Display for Verdict {
                 x,
                 y,
                 channels,
-                undefined,
+                matte_pixels,
             } => write!(
                 f,
-                "accepted {width}x{height}@{x},{y}, {channels} channels, {undefined} undefined"
+                "accepted {width}x{height}@{x},{y}, {channels} channels, {matte_pixels} matte pixels"
             ),
         }
     }

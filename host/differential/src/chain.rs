@@ -157,7 +157,7 @@ impl<'a> Chain<'a> {
         let mut calls = self.group(job);
         let last = (job.clone(), answer.clone());
         calls.push(&last);
-        let row = (w.width * job.output_channels() * 4) as usize;
+        let row = (w.width * job.out_channels() * 4) as usize;
         let mut band = Vec::new();
         for r in 0..w.height {
             let holders = calls.iter().filter(|(other, _)| holds(other, r));

@@ -90,14 +90,14 @@ fn distorted(r: Reference, job: &Job, w: Window, first: u64, rows: u64) -> Vec<f
         policy: job.policy as u8,
         interpolation: job.interpolation as u8,
         background: job.background,
-        undefined: job.undefined,
+        undefined: job.matte,
         picture: picture(job),
     });
     let output: Output = output.expect("an accepted job is distorted");
     let size = (output.width as u64, output.height as u64);
     assert_eq!(size, (part.width, part.height));
     assert_eq!((output.x, output.y), (part.x, part.y));
-    assert_eq!(output.channels as u64, job.output_channels());
+    assert_eq!(output.channels as u64, job.out_channels());
     output.samples
 }
 
@@ -110,7 +110,7 @@ fn rows(r: Reference, job: &Job, w: Window) -> Vec<f32> {
     if w.width * w.height > LIGHT {
         return distorted(r, job, w, job.first_row, job.rows);
     }
-    let row = (w.width * job.output_channels()) as usize;
+    let row = (w.width * job.out_channels()) as usize;
     let whole = distorted(r, job, w, 0, w.height);
     whole[job.first_row as usize * row..][..job.rows as usize * row].to_vec()
 }
@@ -118,17 +118,17 @@ fn rows(r: Reference, job: &Job, w: Window) -> Vec<f32> {
 fn accepted(r: Reference, job: &Job) -> Answer {
     let mapping = fit(r, job).expect("an accepted job has a fit");
     let w = window(job, &mapping);
-    let channels = job.output_channels();
-    let undefined_pixel = narrowed(job.undefined, channels);
-    let mut undefined = 0;
+    let channels = job.out_channels();
+    let matte = narrowed(job.matte, channels);
+    let mut matte_pixels = 0;
     let mut samples = rows(r, job, w);
     for (k, pixel) in samples.chunks_exact_mut(channels as usize).enumerate() {
         let (i, j) = (k as u64 % w.width, k as u64 / w.width);
         let point = source_point(&mapping, w, i, job.first_row + j);
         let good = point.is_some_and(usable);
-        undefined += u64::from(!good);
+        matte_pixels += u64::from(!good);
         if point.is_some() && !good {
-            pixel.copy_from_slice(&undefined_pixel);
+            pixel.copy_from_slice(&matte);
         }
     }
     let verdict = Verdict::Accepted {
@@ -137,7 +137,7 @@ fn accepted(r: Reference, job: &Job) -> Answer {
         x: w.x,
         y: w.y,
         channels,
-        undefined,
+        matte_pixels,
     };
     let band = samples.iter().flat_map(|x| x.to_le_bytes()).collect();
     Answer { verdict, band }

@@ -22,8 +22,8 @@ pub struct Job {
     pub bestfit: bool,
     pub viewport: Option<Window>,
     pub background: [f32; 4],
-    /// The colour of a pixel without a usable source point, the matte of specification 1.
-    pub undefined: [f32; 4],
+    /// The colour of a pixel without a usable source point.
+    pub matte: [f32; 4],
     pub width: u64,
     pub height: u64,
     pub channels: u64,
@@ -48,7 +48,7 @@ impl Job {
             bestfit: false,
             viewport: None,
             background: [1.0; 4],
-            undefined: [0.0, 0.0, 0.0, 1.0],
+            matte: [0.0, 0.0, 0.0, 1.0],
             width: 1,
             height: 1,
             channels: 1,
@@ -80,7 +80,7 @@ impl Job {
     }
 
     /// Four channels if the picture has four, the policy is `Transparent`, or background alpha is below 1.
-    pub fn output_channels(&self) -> u64 {
+    pub fn out_channels(&self) -> u64 {
         let alpha = self.policy == crate::codes::TRANSPARENT || self.background[3] < 1.0;
         if alpha { 4 } else { self.channels }
     }
@@ -101,7 +101,7 @@ impl Job {
         self.rows = rows;
         let samples = rows
             .saturating_mul(window.width)
-            .saturating_mul(self.output_channels());
+            .saturating_mul(self.out_channels());
         self.band = samples.saturating_mul(4) as usize;
         self
     }

@@ -187,7 +187,7 @@ impl Run<'_> {
             // Another matte, which no pixel shows.
             4 => {
                 let mut other = some(r, job.clone(), w);
-                other.undefined[0] = r.unit() as f32;
+                other.matte[0] = r.unit() as f32;
                 other
             }
             // Another warp of the same picture, for some rows.

@@ -65,7 +65,7 @@ pub fn after_the_fit(job: &Job, w: Window) -> u8 {
     if job.first_row as u128 + job.rows as u128 > w.height as u128 {
         return 10;
     }
-    let needed = job.rows * w.width * job.output_channels();
+    let needed = job.rows * w.width * job.out_channels();
     if job.band as u64 != needed * 4 {
         return 11;
     }
@@ -116,7 +116,7 @@ fn number(job: &Job) -> bool {
     job.args.iter().any(bad_argument)
         || job.samples.iter().any(bad_sample)
         || job.background.iter().any(bad_sample)
-        || job.undefined.iter().any(bad_sample)
+        || job.matte.iter().any(bad_sample)
 }
 
 fn order(job: &Job) -> bool {

@@ -59,12 +59,12 @@ pub fn answer_bytes(verdict: Verdict) -> Option<[u8; 48]> {
         x,
         y,
         channels,
-        undefined,
+        matte_pixels,
     } = verdict
     else {
         return None;
     };
-    let words = [width, height, x as u64, y as u64, channels, undefined];
+    let words = [width, height, x as u64, y as u64, channels, matte_pixels];
     let mut bytes = [0; 48];
     for (part, word) in bytes.chunks_exact_mut(8).zip(words) {
         part.copy_from_slice(&word.to_le_bytes());
@@ -106,7 +106,7 @@ impl Stored {
                 job.rows,
             ],
             background: four(job.background),
-            matte: four(job.undefined),
+            matte: four(job.matte),
             picture: job.samples_bytes(),
             arguments: job.args_bytes(),
             band_length: job.band,
@@ -134,7 +134,7 @@ impl Stored {
             bestfit: n[6] != 0,
             viewport: (n[7] != 0).then_some(view),
             background: components(self.background),
-            undefined: components(self.matte),
+            matte: components(self.matte),
             width: n[0],
             height: n[1],
             channels: n[2],
@@ -259,7 +259,7 @@ mod tests {
             x: -1,
             y: i64::MIN,
             channels: 1,
-            undefined: u64::MAX,
+            matte_pixels: u64::MAX,
         };
         let job: Job = "args=-0,5e-324,1,2 viewport=1x1@-1,2 rows=0+1 samples=0.5~3"
             .parse()

@@ -50,7 +50,7 @@ fn accepted_jobs_cover_the_domain() {
     let r = reference_or_skip!();
     let window = |job: &Job| expected::window_of(r, job);
     let mut seen: BTreeMap<String, u64> = BTreeMap::new();
-    let (mut pixels, mut undefined) = (0, 0);
+    let (mut pixels, mut matte_pixels) = (0, 0);
     for index in 0..6_000 {
         let job = generate::job(SEED, index, &window);
         match expected::expected(r, &job).verdict {
@@ -60,11 +60,11 @@ fn accepted_jobs_cover_the_domain() {
             }
             Verdict::Accepted {
                 width,
-                undefined: m,
+                matte_pixels: m,
                 ..
             } => {
                 pixels += width * job.rows;
-                undefined += m;
+                matte_pixels += m;
                 for thing in things(&job) {
                     *seen.entry(thing).or_default() += 1;
                 }
@@ -74,7 +74,7 @@ fn accepted_jobs_cover_the_domain() {
     for (thing, count) in &seen {
         println!("{count:6} {thing}");
     }
-    println!("{pixels} pixels, {undefined} of them undefined");
+    println!("{pixels} pixels, {matte_pixels} of them matte");
     let mut needed: Vec<String> = (1..=11).map(|n| format!("refused {n:2}")).collect();
     needed.extend(codes::PRESENT.map(|m| format!("method {}", codes::METHODS[m as usize])));
     needed.extend(codes::POLICIES.map(|p| format!("policy {p}")));
@@ -95,7 +95,7 @@ fn accepted_jobs_cover_the_domain() {
             "no {pairs} pairs"
         );
     }
-    assert!(pixels > 4 * undefined, "too many pixels are undefined");
+    assert!(pixels > 4 * matte_pixels, "too many pixels are matte");
 }
 
 /// What the whole call's edges are, and how a job there has to be answered by the specification.

@@ -74,14 +74,14 @@ fn main() -> Result<(), Refusal> {
         size.width, size.height
     );
     let mut band = vec![0.0; size.band_length(4)];
-    let mut matte = 0;
+    let mut matte_pixels = 0;
     for first in (0..size.height).step_by(4) {
-        matte += square
+        matte_pixels += square
             .distort_rows(&picture, first..first + 4, &mut band)?
-            .matte;
+            .matte_pixels;
         show(&band, size.width);
     }
-    println!("Pixels without a source: {matte}.");
+    println!("Pixels without a source: {matte_pixels}.");
 
     let line = [
         0.0, 0.0, 0.0, 0.0, 1.0, 1.0, 1.0, 1.0, 2.0, 2.0, 2.0, 2.0, 3.0, 3.0, 3.0, 3.0,

@@ -190,7 +190,7 @@ impl Distort {
     /// let mut band = vec![0.0; window.band_length(2)];
     /// for first in (0..window.height).step_by(2) {
     ///     let answer = distort.distort_rows(&picture, first..first + 2, &mut band)?;
-    ///     assert_eq!(answer.matte, 0);
+    ///     assert_eq!(answer.matte_pixels, 0);
     /// }
     /// assert_eq!(distort.distort_rows(&picture, 7..9, &mut band), Err(Refusal::Rows));
     /// # Ok::<(), Refusal>(())
@@ -231,7 +231,7 @@ impl Distort {
         let window = prepared.size()?;
         let plan = self.plan(window);
         let mut samples = vec![0.0; window.band_length(window.height)];
-        let call = |rows, band: &mut [f32]| Ok(prepared.distort_rows(rows, band)?.matte);
+        let call = |rows, band: &mut [f32]| Ok(prepared.distort_rows(rows, band)?.matte_pixels);
         let matte_pixels = bands::work(plan, &mut samples, call, progress)?;
         let picture = Picture::new(window.width, window.height, window.channels, samples)?;
         let Window { x, y, .. } = window;

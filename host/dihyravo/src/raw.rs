@@ -60,7 +60,7 @@ pub struct Answer {
     /// The output's channels.
     pub channels: u64,
     /// How many pixels of the band have no source point that can be used, and so show the matte.
-    pub matte: u64,
+    pub matte_pixels: u64,
 }
 
 impl Answer {
@@ -75,7 +75,7 @@ impl Answer {
             x: offset(2),
             y: offset(3),
             channels: number(4),
-            matte: number(5),
+            matte_pixels: number(5),
         }
     }
 }

@@ -55,7 +55,7 @@ impl Lent {
             picture: job.samples_bytes(),
             arguments: job.args_bytes(),
             background: colour(job.background),
-            matte: colour(job.undefined),
+            matte: colour(job.matte),
             band: job.band,
         }
     }
@@ -79,7 +79,7 @@ impl Lent {
                 y: n[VIEW_X + 1] as i64,
             }),
             background: components(&self.background),
-            undefined: components(&self.matte),
+            matte: components(&self.matte),
             width: n[WIDTH],
             height: n[1],
             channels: n[2],

@@ -31,7 +31,7 @@ pub fn asked(r: Option<Reference>, job: &Job) -> Asked {
     match after_the_fit(job, window) {
         0 => Asked::Accepted {
             window,
-            channels: job.output_channels(),
+            channels: job.out_channels(),
             rows: job.rows,
         },
         number => Asked::Refused(number),
@@ -59,7 +59,8 @@ impl Asked {
             } => {
                 let size = (said.width, said.height, said.x, said.y)
                     != (window.width, window.height, window.x, window.y);
-                let wrong = size || said.channels != channels || said.matte > rows * window.width;
+                let wrong =
+                    size || said.channels != channels || said.matte_pixels > rows * window.width;
                 wrong.then(|| {
                     format!("the answer is {said:?} and not {window:?}, {channels} channels")
                 })

@@ -51,7 +51,7 @@ const BY_HAND: [&str; 42] = [
     "samples=65536",
     "samples=65536.008",
     "background=1*3,0.99999994 band=16",
-    "undefined=0,0,0,-65536.008",
+    "matte=0,0,0,-65536.008",
     "method=Polynomial args=5.000000000000001,0*84",
     "method=Polynomial args=2.5,0*36",
     "method=AffineProjection args=1,2,2,4,0,0",

@@ -14,7 +14,7 @@ pub fn fill(r: &mut Random, wild: bool, job: &mut Job) {
     if r.once_in(4) {
         job.background[3] = r.pick(&[0.0, 0.5, 1.0f32.next_down()]);
     }
-    job.undefined = colour(r, wild);
+    job.matte = colour(r, wild);
 }
 
 fn size(r: &mut Random, wild: bool) -> (u64, u64) {

@@ -69,7 +69,7 @@ pub fn warp(r: &mut Random, lent: &Lent) -> Job {
     let others = (0..POLICIES.len() as u64).filter(|p| *p != TRANSPARENT);
     job.policy = r.pick(&others.collect::<Vec<_>>());
     job.background = [sample(r), sample(r), sample(r), 1.0];
-    job.undefined = numbers::colour(r, true);
+    job.matte = numbers::colour(r, true);
     job.bestfit = r.once_in(4);
     if r.once_in(2) {
         job.viewport = Some(view(r, (0, 0)));

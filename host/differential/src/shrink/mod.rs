@@ -52,7 +52,7 @@ fn weigh(job: &Job, window: &dyn Fn(&Job) -> Option<Window>) -> (u128, usize, us
 
     let frame = format!("{:?} {}+{}", job.viewport, job.first_row, job.rows).len();
     let floats = job.args.iter().map(|x| x.write());
-    let colours = job.background.iter().chain(&job.undefined);
+    let colours = job.background.iter().chain(&job.matte);
     let floats = floats.chain(job.samples.iter().chain(colours).map(|x| x.write()));
     let (letters, plain) = floats.fold((frame, 0), |(letters, plain), text| {
         let odd = ["0", "1"].iter().position(|t| *t == text).unwrap_or(2);

@@ -170,15 +170,15 @@ fn kinds(job: &Job, put: Put) {
 fn numbers(job: &Job, put: Put) {
     for x in [0.0, 1.0] {
         put(&|j| j.background = [x; 4]);
-        put(&|j| j.undefined = [x; 4]);
+        put(&|j| j.matte = [x; 4]);
         put(&|j| j.args.fill(x as f64));
     }
     for k in 0..4 {
         for x in rounder(job.background[k]) {
             put(&|j| j.background[k] = x);
         }
-        for x in rounder(job.undefined[k]) {
-            put(&|j| j.undefined[k] = x);
+        for x in rounder(job.matte[k]) {
+            put(&|j| j.matte[k] = x);
         }
     }
     for k in 0..job.args.len() {

@@ -19,7 +19,7 @@ impl fmt::Display for Job {
     fn fmt(&self, f: &mut fmt::Formatter) -> fmt::Result {
         write!(
             f,
-            "method={} args={} policy={} interpolation={} bestfit={} viewport={} background={} undefined={} \
+            "method={} args={} policy={} interpolation={} bestfit={} viewport={} background={} matte={} \
              size={}x{}x{} samples={} rows={}+{} band={}",
             name(&codes::METHODS, self.method),
             list(&self.args, self.args_rest),
@@ -28,7 +28,7 @@ impl fmt::Display for Job {
             if self.bestfit { "yes" } else { "no" },
             viewport(self.viewport),
             list(&self.background, 0),
-            list(&self.undefined, 0),
+            list(&self.matte, 0),
             self.width,
             self.height,
             self.channels,
@@ -66,7 +66,7 @@ impl Job {
             "bestfit" => self.bestfit = ["no", "yes"].iter().position(|w| *w == value)? == 1,
             "viewport" => self.viewport = read_viewport(value)?,
             "background" => self.background = read_four(value)?,
-            "undefined" => self.undefined = read_four(value)?,
+            "matte" => self.matte = read_four(value)?,
             "size" => (self.width, self.height, self.channels) = read_size(value)?,
             "samples" => (self.samples, self.samples_rest) = read_list(value)?,
             "rows" => (self.first_row, self.rows) = read_rows(value)?,
@@ -122,7 +122,7 @@ mod tests {
             "method",
             "methods=1",
             "rows=1",
-            "undefined=1",
+            "matte=1",
             "size=1x1",
             "args=1,,2",
         ] {

@@ -48,7 +48,7 @@ fn raw<'a>(
         policy: job.policy,
         interpolation: job.interpolation,
         background: colour(job.background),
-        matte: colour(job.undefined),
+        matte: colour(job.matte),
         bestfit: if job.bestfit { yes } else { 0 },
         viewport: if job.viewport.is_some() { yes } else { 0 },
         view_width: view.width,
@@ -141,7 +141,7 @@ fn accepted(said: Given) -> Verdict {
         x: said.x,
         y: said.y,
         channels: said.channels,
-        undefined: said.matte,
+        matte_pixels: said.matte_pixels,
     }
 }
 
@@ -162,7 +162,7 @@ pub fn in_bands(job: &Job) -> Answer {
             band: job.fresh_band(),
         };
     };
-    let row = (width * job.output_channels() * 4) as usize;
+    let row = (width * job.out_channels() * 4) as usize;
     let mut whole = vec![0; row * height as usize];
     let mut total = 0;
     for (first, rows) in cut(&mut random, height) {
@@ -208,7 +208,7 @@ fn cut(r: &mut Random, height: u64) -> Vec<(u64, u64)> {
 
 fn count(verdict: Verdict) -> u64 {
     match verdict {
-        Verdict::Accepted { undefined, .. } => undefined,
+        Verdict::Accepted { matte_pixels, .. } => matte_pixels,
         _ => 0,
     }
 }
@@ -228,7 +228,7 @@ fn with_count(verdict: Verdict, total: u64) -> Verdict {
             x,
             y,
             channels,
-            undefined: total,
+            matte_pixels: total,
         },
         other => other,
     }

@@ -47,7 +47,7 @@ struct Met {
     channels: [u64; 5],
     whole: u64,
     pixels: u64,
-    undefined: u64,
+    matte_pixels: u64,
 }
 
 impl Met {
@@ -56,7 +56,9 @@ impl Met {
             Verdict::Stray(place) => panic!("the reference has no {place}"),
             Verdict::Refused(number) => self.answers[number as usize] += 1,
             Verdict::Accepted {
-                width, undefined, ..
+                width,
+                matte_pixels,
+                ..
             } => {
                 self.answers[0] += 1;
                 self.methods[job.method as usize] += 1;
@@ -64,7 +66,7 @@ impl Met {
                 self.interpolations[job.interpolation as usize] += 1;
                 self.channels[job.channels as usize] += 1;
                 self.pixels += width * job.rows;
-                self.undefined += undefined;
+                self.matte_pixels += matte_pixels;
             }
         }
     }
@@ -73,13 +75,13 @@ impl Met {
         if let Verdict::Accepted {
             width,
             height,
-            undefined,
+            matte_pixels,
             ..
         } = answer.verdict
         {
             self.whole += 1;
             self.pixels += 2 * width * height;
-            self.undefined += 2 * undefined;
+            self.matte_pixels += 2 * matte_pixels;
         }
     }
 
@@ -96,7 +98,7 @@ impl Met {
         }
         self.whole += other.whole;
         self.pixels += other.pixels;
-        self.undefined += other.undefined;
+        self.matte_pixels += other.matte_pixels;
     }
 }
 
@@ -176,7 +178,7 @@ fn pictures_offsets_counts_and_refusals() {
         met.answers,
         met.whole,
         met.pixels,
-        met.undefined,
+        met.matte_pixels,
         met.methods,
         met.policies,
         met.interpolations,
@@ -187,5 +189,5 @@ fn pictures_offsets_counts_and_refusals() {
     assert!(met.policies.iter().all(|&n| n > 0));
     assert!(met.interpolations.iter().all(|&n| n > 0));
     assert!([1, 3, 4].iter().all(|&c| met.channels[c] > 0));
-    assert!(met.whole > 0 && met.undefined > 0);
+    assert!(met.whole > 0 && met.matte_pixels > 0);
 }

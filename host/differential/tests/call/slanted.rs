@@ -1,6 +1,5 @@
-//! Pictures wide enough for whole stretches, turned by small angles: whole and in bands against the original, bit for
-//! bit. A stretch that goes over several rows of the picture is read ahead, which the small pictures of the other jobs
-//! seldom have.
+//! Pictures wide enough for whole spans, turned by small angles, whole and in bands, against the original, bit for bit.
+//! A span that goes over several rows is read ahead; the other jobs' pictures seldom have one.
 
 use crate::compiled;
 use differential::answer::parting;

@@ -15,7 +15,7 @@ pub enum Fault {
     ClampedFirst,
     FirstPivot,
     NoCount,
-    UndefinedBelow,
+    MatteBelow,
     SideLimit,
     PairLimit,
     OrderLimit,
@@ -65,7 +65,7 @@ fn accepted(r: Reference, job: &Job, fault: Fault) -> Answer {
     let other = (fault == Fault::FirstPivot)
         .then(|| first_pivot(job))
         .flatten();
-    let mut undefined = 0;
+    let mut matte_pixels = 0;
     let mut band = Vec::new();
     for j in job.first_row..job.first_row + job.rows {
         for i in 0..w.width {
@@ -79,26 +79,26 @@ fn accepted(r: Reference, job: &Job, fault: Fault) -> Answer {
             let colour = match point.filter(|p| usable(*p)) {
                 Some((u, v)) => read(r, &sampler, job, fault, u - 0.5, v - 0.5),
                 None => {
-                    undefined += 1;
-                    job.undefined
+                    matte_pixels += 1;
+                    job.matte
                 }
             };
-            let below = fault == Fault::UndefinedBelow && j > job.first_row;
-            let colour = if below { job.undefined } else { colour };
-            let pixel = narrowed(colour, job.output_channels());
+            let below = fault == Fault::MatteBelow && j > job.first_row;
+            let colour = if below { job.matte } else { colour };
+            let pixel = narrowed(colour, job.out_channels());
             band.extend(pixel.iter().flat_map(|x| x.to_le_bytes()));
         }
     }
     if fault == Fault::NoCount {
-        undefined = 0;
+        matte_pixels = 0;
     }
     let verdict = Verdict::Accepted {
         width: w.width,
         height: w.height,
         x: w.x,
         y: w.y,
-        channels: job.output_channels(),
-        undefined,
+        channels: job.out_channels(),
+        matte_pixels,
     };
     Answer { verdict, band }
 }

@@ -96,9 +96,9 @@ fn count_invented() {
 }
 
 #[test]
-fn undefined_below_the_first_row() {
+fn matte_below_the_first_row() {
     let r = reference_or_skip!();
-    finds(r, Fault::UndefinedBelow, 8, 200);
+    finds(r, Fault::MatteBelow, 8, 200);
 }
 
 #[test]
@@ -150,7 +150,7 @@ fn a_made_up_fault_is_shrunk_to_its_cause() {
     assert_eq!(
         found.smallest.to_string(),
         "method=Affine args=0*9 policy=Gray interpolation=Integer bestfit=no viewport=none \
-         background=0*4 undefined=0*4 size=1x1x1 samples=1 rows=0+0 band=0"
+         background=0*4 matte=0*4 size=1x1x1 samples=1 rows=0+0 band=0"
     );
     assert_eq!(found.parting, "the verdict: refused 0 against refused 1");
     assert!(first_difference(SEED, 0..100, &right, &right, &own).is_none());

@@ -11,7 +11,7 @@ fn same(distorted: &Distorted, answer: &Answer, samples: &[u32]) -> bool {
     let offset = (distorted.x, distorted.y);
     size == (answer.width, answer.height, answer.channels)
         && offset == (answer.x, answer.y)
-        && distorted.matte_pixels == answer.matte
+        && distorted.matte_pixels == answer.matte_pixels
         && bits(picture.samples()) == samples
 }
 
@@ -21,7 +21,7 @@ fn every_method_over_threads_and_bands() {
     for (k, given) in all().into_iter().enumerate() {
         let picture = picture(19, 13, [1, 3, 4][k % 3]);
         let (answer, samples) = given.raw(&picture);
-        with_matte += u64::from(answer.matte > 0);
+        with_matte += u64::from(answer.matte_pixels > 0);
         for threads in 0..=8 {
             for rows in 0..=answer.height + 1 {
                 let distort = given.distort().with_threads(threads).with_rows(rows);
@@ -57,7 +57,7 @@ fn rows_one_by_one() {
         let (answer, samples) = given.raw(&picture);
         let distort = given.distort();
         let size = distort.size(&picture).expect("the size");
-        let mut matte = 0;
+        let mut matte_pixels = 0;
         for (first, rows) in (0..size.height).zip([3, 1, 2].into_iter().cycle()) {
             let end = size.height.min(first + rows);
             let mut band = vec![f32::NAN; size.band_length(end - first)];
@@ -67,15 +67,15 @@ fn rows_one_by_one() {
             let from = size.band_length(first);
             assert_eq!(bits(&band), samples[from..from + band.len()]);
             if rows == 1 {
-                assert!(told.matte <= size.width);
+                assert!(told.matte_pixels <= size.width);
             }
             let one = &mut band[..size.band_length(1)];
-            matte += distort
+            matte_pixels += distort
                 .distort_rows(&picture, first..first + 1, one)
                 .expect("a row")
-                .matte;
+                .matte_pixels;
         }
-        assert_eq!(matte, answer.matte);
+        assert_eq!(matte_pixels, answer.matte_pixels);
     }
 }
 

@@ -54,7 +54,7 @@ pub(super) fn viewport(r: &mut Random, job: &mut Job) {
     if w.width <= SIDE && w.height <= SIDE {
         job.first_row = 0;
         job.rows = w.height;
-        job.band = (w.width * w.height * job.output_channels() * 4) as usize;
+        job.band = (w.width * w.height * job.out_channels() * 4) as usize;
     }
 }
 

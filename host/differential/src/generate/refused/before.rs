@@ -96,7 +96,7 @@ pub(super) fn number(r: &mut Random, job: &mut Job) {
     let k = r.below(4) as usize;
     match r.below(3) {
         0 => job.background[k] = x,
-        1 => job.undefined[k] = x,
+        1 => job.matte[k] = x,
         _ => {
             let places = [
                 0,

@@ -240,8 +240,8 @@ fn meets(job: &Job) -> bool {
         POLYNOMIAL,
     ];
     methods.contains(&job.method)
-        && job.interpolation == BILINEAR
-        && job.policy != TRANSPARENT
+        && job.interpolation == interpolation::BILINEAR
+        && job.policy != policy::TRANSPARENT
         && job.background.iter().all(|x| (0.0..=1.0).contains(x))
         && job.background[3] == 1.0
 }

@@ -1,5 +1,7 @@
 //! A job: all that a distort call is given.
 
+use crate::codes;
+
 /// Width, height and the offset of the top left corner.
 #[derive(Clone, Copy, Debug, PartialEq, Eq)]
 pub struct Window {
@@ -40,9 +42,9 @@ impl Job {
     /// A grey pixel that stays where it is: where shrinking ends, and a start for jobs written by hand.
     pub fn plain() -> Self {
         Self {
-            method: crate::codes::AFFINE,
-            policy: 0,
-            interpolation: crate::codes::BILINEAR,
+            method: codes::AFFINE,
+            policy: codes::policy::EDGE,
+            interpolation: codes::interpolation::BILINEAR,
             args: vec![0.0; 4],
             args_rest: 0,
             bestfit: false,
@@ -81,7 +83,7 @@ impl Job {
 
     /// Four channels if the picture has four, the policy is `Transparent`, or background alpha is below 1.
     pub fn out_channels(&self) -> u64 {
-        let alpha = self.policy == crate::codes::TRANSPARENT || self.background[3] < 1.0;
+        let alpha = self.policy == codes::policy::TRANSPARENT || self.background[3] < 1.0;
         if alpha { 4 } else { self.channels }
     }
 

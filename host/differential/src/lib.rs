@@ -1,6 +1,7 @@
 //! The differential runs: jobs made from a seed, two answers to each, the first difference as a smallest job.
 
 pub mod answer;
+pub mod call_numbers;
 pub mod chain;
 pub mod codes;
 pub mod exact;
@@ -17,6 +18,7 @@ pub mod stored;
 pub mod text;
 
 pub use answer::{Answer, Verdict};
+pub use call_numbers::CallNumbers;
 pub use job::{Job, Window};
 
 /// Whether the full counts are asked for: DIHYRAVO_FULL=1.

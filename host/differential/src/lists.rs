@@ -5,7 +5,7 @@ use crate::chain::{Chain, Fitting, Place};
 use crate::generate::{self, warps};
 use crate::random::Random;
 use crate::runner::Answering;
-use crate::{Job, Window};
+use crate::{Job, Window, codes};
 
 /// The most warps that a list is made for; bands that were left over may join into more.
 const WARPS: u64 = 6;
@@ -214,7 +214,7 @@ impl Run<'_> {
             1 => call.band += r.pick(&[1, 4]),
             2 => call.args.push(f64::NAN),
             3 => call.samples[0] = f32::INFINITY,
-            4 => call.policy = 14,
+            4 => call.policy = codes::POLICIES.len() as u64,
             _ => call.height += 1,
         }
         call

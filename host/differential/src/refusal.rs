@@ -14,6 +14,19 @@ pub const SAMPLE: f32 = 65_536.0;
 pub const ARGUMENTS: usize = 257;
 pub const PAIRS: usize = 64;
 
+/// The refusals' numbers, by their words; an accepted job has 0.
+pub const SIZE: u8 = 1;
+pub const STOCK: u8 = 2;
+pub const CODE: u8 = 3;
+pub const COUNT: u8 = 4;
+pub const NUMBER: u8 = 5;
+pub const ORDER: u8 = 6;
+pub const FEW: u8 = 7;
+pub const DEGENERATE: u8 = 8;
+pub const WINDOW: u8 = 9;
+pub const ROWS: u8 = 10;
+pub const TRAY: u8 = 11;
+
 /// The number of the refusal, 0 for an accepted job.
 pub fn refusal(r: Reference, job: &Job) -> u8 {
     let before = before_the_fit(job);
@@ -21,7 +34,7 @@ pub fn refusal(r: Reference, job: &Job) -> u8 {
         return before;
     }
     match fit(r, job) {
-        None => 8,
+        None => DEGENERATE,
         Some(mapping) => after_the_fit(job, window(job, &mapping)),
     }
 }
@@ -31,13 +44,13 @@ type Test = fn(&Job) -> bool;
 /// Refusals 1 to 7, or 0.
 pub fn before_the_fit(job: &Job) -> u8 {
     let tests: [(u8, Test); 7] = [
-        (1, size),
-        (2, length),
-        (3, code),
-        (4, count),
-        (5, number),
-        (6, order),
-        (7, few),
+        (SIZE, size),
+        (STOCK, length),
+        (CODE, code),
+        (COUNT, count),
+        (NUMBER, number),
+        (ORDER, order),
+        (FEW, few),
     ];
     let first = tests.iter().find(|(_, applies)| applies(job));
     first.map_or(0, |(number, _)| *number)
@@ -46,7 +59,7 @@ pub fn before_the_fit(job: &Job) -> u8 {
 /// The refusals of a fit alone: its picture's size, then those of the method and its arguments.
 pub fn of_the_fit(job: &Job) -> u8 {
     if bad_side(job.width) || bad_side(job.height) {
-        return 1;
+        return SIZE;
     }
     before_the_fit(&Job {
         method: job.method,
@@ -60,14 +73,14 @@ pub fn of_the_fit(job: &Job) -> u8 {
 pub fn after_the_fit(job: &Job, w: Window) -> u8 {
     let far = |offset: i64| !(-OFFSET..=OFFSET).contains(&offset);
     if bad_side(w.width) || bad_side(w.height) || far(w.x) || far(w.y) {
-        return 9;
+        return WINDOW;
     }
     if job.first_row as u128 + job.rows as u128 > w.height as u128 {
-        return 10;
+        return ROWS;
     }
     let needed = job.rows * w.width * job.out_channels();
     if job.band as u64 != needed * 4 {
-        return 11;
+        return TRAY;
     }
     0
 }

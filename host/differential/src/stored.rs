@@ -15,20 +15,18 @@
 //! The text, the picture, the arguments and the band are at most 4,096 bytes long. Of an accepted job every pixel has a
 //! source point within 2^30 or none by the reference, so the whole band is to be compared.
 
+use crate::call_numbers::{self, CallNumbers};
 use crate::random::Random;
 use crate::{Answer, Job, Verdict, Window};
 
 /// The most bytes of each part.
 pub const MOST: usize = 4_096;
 
-/// The numbers of a job, without lengths and refusal.
-const NUMBERS: usize = 14;
-
 /// A job as the file has it.
 #[derive(Clone, Debug, PartialEq, Eq)]
 pub struct Stored {
-    /// Width to rows.
-    pub numbers: [u64; NUMBERS],
+    /// Without lengths and refusal.
+    pub numbers: CallNumbers,
     pub background: [u8; 16],
     pub matte: [u8; 16],
     pub picture: Vec<u8>,
@@ -82,29 +80,13 @@ impl Stored {
             x: r.between(-9, 9),
             y: r.bits() as i64,
         };
-        let view = job.viewport.unwrap_or(any);
         let answer = match (answer.verdict, answer_bytes(answer.verdict)) {
             (_, Some(bytes)) => Ok((bytes, answer.band.clone())),
             (Verdict::Refused(number), _) => Err(u64::from(number)),
             (other, _) => panic!("{other}"),
         };
         Self {
-            numbers: [
-                job.width,
-                job.height,
-                job.channels,
-                job.method,
-                job.policy,
-                job.interpolation,
-                if job.bestfit { yes } else { 0 },
-                if job.viewport.is_some() { yes } else { 0 },
-                view.width,
-                view.height,
-                view.x as u64,
-                view.y as u64,
-                job.first_row,
-                job.rows,
-            ],
+            numbers: CallNumbers::of(job, yes, yes, any),
             background: four(job.background),
             matte: four(job.matte),
             picture: job.samples_bytes(),
@@ -119,29 +101,23 @@ impl Stored {
         let n = self.numbers;
         let (args, args_rest) = self.arguments.as_chunks::<8>();
         let (samples, samples_rest) = self.picture.as_chunks::<4>();
-        let view = Window {
-            width: n[8],
-            height: n[9],
-            x: n[10] as i64,
-            y: n[11] as i64,
-        };
         Job {
-            method: n[3],
-            policy: n[4],
-            interpolation: n[5],
+            method: n.method,
+            policy: n.policy,
+            interpolation: n.interpolation,
             args: args.iter().map(|b| f64::from_le_bytes(*b)).collect(),
             args_rest: args_rest.len(),
-            bestfit: n[6] != 0,
-            viewport: (n[7] != 0).then_some(view),
+            bestfit: n.bestfit != 0,
+            viewport: n.given_view(),
             background: components(self.background),
             matte: components(self.matte),
-            width: n[0],
-            height: n[1],
-            channels: n[2],
+            width: n.width,
+            height: n.height,
+            channels: n.channels,
             samples: samples.iter().map(|b| f32::from_le_bytes(*b)).collect(),
             samples_rest: samples_rest.len(),
-            first_row: n[12],
-            rows: n[13],
+            first_row: n.first_row,
+            rows: n.rows,
             band: self.band_length,
         }
     }
@@ -159,7 +135,7 @@ impl Stored {
             self.band_length as u64,
             self.answer.as_ref().err().copied().unwrap_or(0),
         ];
-        for number in self.numbers.iter().chain(&lengths) {
+        for number in self.numbers.in_order().iter().chain(&lengths) {
             file.extend(number.to_le_bytes());
         }
         file.extend(self.background);
@@ -212,14 +188,14 @@ impl<'a> Rest<'a> {
     }
 
     fn job(&mut self) -> Option<Stored> {
-        let mut numbers = [0; NUMBERS];
+        let mut numbers = [0; call_numbers::COUNT];
         for number in &mut numbers {
             *number = self.number()?;
         }
         let (picture, arguments) = (self.length()?, self.length()?);
         let (band_length, refusal) = (self.length()?, self.number()?);
         Some(Stored {
-            numbers,
+            numbers: numbers.into(),
             background: self.array()?,
             matte: self.array()?,
             picture: self.bytes(picture)?.to_vec(),
@@ -280,7 +256,7 @@ mod tests {
         assert_eq!(text, "made by hand");
         assert_eq!(back, jobs);
         assert_eq!(back[0].job(), job);
-        assert!(back[0].numbers[7] != 0 && back[0].numbers[6] == 0);
+        assert!(back[0].numbers.viewport != 0 && back[0].numbers.bestfit == 0);
         assert!(read(&file[..file.len() - 1]).is_none());
         let longer = [&file[..], &[0]].concat();
         assert!(read(&longer).is_none());

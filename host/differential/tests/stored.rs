@@ -20,10 +20,10 @@ fn every_kind_is_stored() {
     let mut seen = [[0; 9]; 14];
     let (mut methods, mut channels) = ([0; 14], [0; 5]);
     for job in accepted {
-        let [_, _, deep, method, policy, interpolation, ..] = job.numbers;
-        seen[policy as usize][interpolation as usize] += 1;
-        methods[method as usize] += 1;
-        channels[deep as usize] += 1;
+        let n = job.numbers;
+        seen[n.policy as usize][n.interpolation as usize] += 1;
+        methods[n.method as usize] += 1;
+        channels[n.channels as usize] += 1;
     }
     assert!(seen.iter().flatten().all(|&n| n > 10), "{seen:?}");
     assert!(codes::PRESENT.iter().all(|&m| methods[m as usize] > 50));

@@ -105,7 +105,7 @@ fn windows_and_refusals() {
             }
             Err(number) => {
                 answers[number as usize] += 1;
-                refused_boxes += u64::from(number == 9 && own);
+                refused_boxes += u64::from(number == u64::from(refusal::WINDOW) && own);
             }
         }
     }

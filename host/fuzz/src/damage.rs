@@ -1,6 +1,7 @@
 //! Damaged copies of good calls: bits, floats, lengths and numbers; and calls of noise alone.
 
-use crate::lent::{Lent, ROWS};
+use crate::lent::Lent;
+use differential::call_numbers::COUNT;
 use differential::random::Random;
 
 /// Numbers that no field may hold, or that look like a small one when they are cut.
@@ -106,31 +107,39 @@ pub fn length(r: &mut Random, lent: &mut Lent) {
     }
 }
 
+/// The place of one number.
+fn place(r: &mut Random) -> usize {
+    r.below(COUNT as u64) as usize
+}
+
 /// One number a little larger or smaller, or another small one.
 fn number(r: &mut Random, lent: &mut Lent) {
-    let k = r.below(14) as usize;
-    let n = &mut lent.numbers[k];
-    *n = match r.below(4) {
-        0 => n.wrapping_add(1),
-        1 => n.wrapping_sub(1),
-        2 => r.below(16),
-        _ => r.below(4_098),
-    };
+    let k = place(r);
+    lent.numbers.change(|n| {
+        n[k] = match r.below(4) {
+            0 => n[k].wrapping_add(1),
+            1 => n[k].wrapping_sub(1),
+            2 => r.below(16),
+            _ => r.below(4_098),
+        }
+    });
 }
 
 /// A huge number in one field.
 pub fn huge(r: &mut Random, lent: &mut Lent) {
-    let k = r.below(14) as usize;
-    lent.numbers[k] = match r.below(3) {
-        0 => r.bits(),
-        1 => lent.numbers[k].wrapping_add(r.pick(&HUGE)),
-        _ => r.pick(&HUGE),
-    };
+    let k = place(r);
+    lent.numbers.change(|n| {
+        n[k] = match r.below(3) {
+            0 => r.bits(),
+            1 => n[k].wrapping_add(r.pick(&HUGE)),
+            _ => r.pick(&HUGE),
+        }
+    });
 }
 
 fn swap(r: &mut Random, lent: &mut Lent) {
-    let (a, b) = (r.below(14) as usize, r.below(14) as usize);
-    lent.numbers.swap(a, b);
+    let (a, b) = (place(r), place(r));
+    lent.numbers.change(|n| n.swap(a, b));
 }
 
 /// One float again in another's place: pairs that are alike.
@@ -155,7 +164,7 @@ pub fn empty(r: &mut Random, lent: &mut Lent) {
             lent.band = 0;
         }
         _ => {
-            lent.numbers[ROWS] = 0;
+            lent.numbers.rows = 0;
             lent.band = 0;
         }
     }
@@ -163,8 +172,8 @@ pub fn empty(r: &mut Random, lent: &mut Lent) {
 
 /// Numbers and bytes of chance alone; small ones now and then, so that more than the first row of the table is met.
 pub fn noise(r: &mut Random) -> Lent {
-    let mut numbers = [0; 14];
-    let likely = [6, 6, 5, 14, 14, 9, 2, 2, 6, 6, 8, 8, 4, 6];
+    let mut numbers = [0; COUNT];
+    let likely: [u64; COUNT] = [6, 6, 5, 14, 14, 9, 2, 2, 6, 6, 8, 8, 4, 6];
     let tame = r.once_in(2);
     for (n, limit) in numbers.iter_mut().zip(likely) {
         *n = match r.below(8) {
@@ -187,7 +196,7 @@ pub fn noise(r: &mut Random) -> Lent {
     let mut sixteen = || [(); 16].map(|()| r.bits() as u8);
     let (background, matte) = (sixteen(), sixteen());
     Lent {
-        numbers,
+        numbers: numbers.into(),
         picture,
         arguments,
         background,

@@ -1,20 +1,12 @@
 //! A call as bytes and numbers: all that can be lent, fit or not; and the job that it is, for the model.
 
 use differential::random::Random;
-use differential::{Job, Window};
+use differential::{CallNumbers, Job, Window};
 
-/// Places of the numbers.
-pub const WIDTH: usize = 0;
-pub const VIEWPORT: usize = 7;
-pub const VIEW_X: usize = 10;
-pub const FIRST_ROW: usize = 12;
-pub const ROWS: usize = 13;
-
-/// All that a call is given. The numbers are width, height, channels, method, policy, interpolation, bestfit, viewport,
-/// view width, view height, view x, view y, first row and rows.
+/// All that a call is given.
 #[derive(Clone, Debug, PartialEq, Eq)]
 pub struct Lent {
-    pub numbers: [u64; 14],
+    pub numbers: CallNumbers,
     pub picture: Vec<u8>,
     pub arguments: Vec<u8>,
     pub background: [u8; 16],
@@ -34,24 +26,8 @@ impl Lent {
             x: r.bits() as i64,
             y: r.bits() as i64,
         });
-        let numbers = [
-            job.width,
-            job.height,
-            job.channels,
-            job.method,
-            job.policy,
-            job.interpolation,
-            if job.bestfit { bestfit } else { 0 },
-            if job.viewport.is_some() { viewport } else { 0 },
-            view.width,
-            view.height,
-            view.x as u64,
-            view.y as u64,
-            job.first_row,
-            job.rows,
-        ];
         Self {
-            numbers,
+            numbers: CallNumbers::of(job, bestfit, viewport, view),
             picture: job.samples_bytes(),
             arguments: job.args_bytes(),
             background: colour(job.background),
@@ -66,27 +42,22 @@ impl Lent {
         let (samples, samples_rest) = self.picture.as_chunks::<4>();
         let (args, args_rest) = self.arguments.as_chunks::<8>();
         Job {
-            method: n[3],
-            policy: n[4],
-            interpolation: n[5],
+            method: n.method,
+            policy: n.policy,
+            interpolation: n.interpolation,
             args: args.iter().map(|x| f64::from_le_bytes(*x)).collect(),
             args_rest: args_rest.len(),
-            bestfit: n[6] != 0,
-            viewport: (n[VIEWPORT] != 0).then(|| Window {
-                width: n[8],
-                height: n[9],
-                x: n[VIEW_X] as i64,
-                y: n[VIEW_X + 1] as i64,
-            }),
+            bestfit: n.bestfit != 0,
+            viewport: n.given_view(),
             background: components(&self.background),
             matte: components(&self.matte),
-            width: n[WIDTH],
-            height: n[1],
-            channels: n[2],
+            width: n.width,
+            height: n.height,
+            channels: n.channels,
             samples: samples.iter().map(|x| f32::from_le_bytes(*x)).collect(),
             samples_rest: samples_rest.len(),
-            first_row: n[FIRST_ROW],
-            rows: n[ROWS],
+            first_row: n.first_row,
+            rows: n.rows,
             band: self.band,
         }
     }

@@ -1,8 +1,12 @@
 //! What a call has to answer: its refusal by the model of specification 2, or its size, offset and channels.
 
-use differential::refusal::{after_the_fit, before_the_fit};
+use differential::refusal::{DEGENERATE, TRAY, after_the_fit, before_the_fit};
 use differential::{Job, Window, expected};
 use reference::Reference;
+use std::ops::RangeInclusive;
+
+/// The refusals from the fit on.
+const LATE: RangeInclusive<u64> = DEGENERATE as u64..=TRAY as u64;
 
 #[derive(Clone, Copy, Debug, PartialEq, Eq)]
 pub enum Asked {
@@ -12,7 +16,7 @@ pub enum Asked {
         channels: u64,
         rows: u64,
     },
-    /// The reference is not there to fit: accepted, or refused by 8 or a later row of the table.
+    /// The reference is not there to fit: accepted, or refused as degenerate or by a later row of the table.
     Late,
 }
 
@@ -25,7 +29,7 @@ pub fn asked(r: Option<Reference>, job: &Job) -> Asked {
         return Asked::Late;
     };
     let Some(mapping) = expected::fit(r, job) else {
-        return Asked::Refused(8);
+        return Asked::Refused(DEGENERATE);
     };
     let window = expected::window(job, &mapping);
     match after_the_fit(job, window) {
@@ -47,8 +51,10 @@ impl Asked {
             Asked::Refused(asked) => {
                 Some(format!("the answer is {number} and not refusal {asked}"))
             }
-            Asked::Late if number == 0 || (8..=11).contains(&number) => None,
-            Asked::Late => Some(format!("the answer is {number} and not 0 or from 8 to 11")),
+            Asked::Late if number == 0 || LATE.contains(&number) => None,
+            Asked::Late => Some(format!(
+                "the answer is {number} and not 0 or from {DEGENERATE} to {TRAY}"
+            )),
             Asked::Accepted { .. } if number != 0 => {
                 Some(format!("the answer is {number} and not accepted"))
             }

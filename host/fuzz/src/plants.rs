@@ -1,6 +1,8 @@
 //! Planted faults: callees that do as the product does and one thing wrong. Each has to be found.
 
-use crate::callee::{Distort, Pointers, dihyravo_distort};
+use crate::callee::{Distort, Parameters, dihyravo_distort};
+use differential::refusal::{COUNT, NUMBER, TRAY};
+use dihyravo_sys::stand_in;
 use std::hint::black_box;
 use std::sync::atomic::{AtomicU64, Ordering::Relaxed};
 
@@ -70,9 +72,9 @@ static CALLS: AtomicU64 = AtomicU64::new(0);
 ///
 /// # Safety
 /// The pointers are those of a call; what is done beyond them is the fault that is planted.
-unsafe fn wrong(which: usize, number: u64, last: u8, p: &Pointers) -> u64 {
+unsafe fn wrong(which: usize, number: u64, last: u8, p: &Parameters) -> u64 {
     let accepted = number == 0;
-    let rows = p.band.1 > 0;
+    let rows = p.band_length > 0;
     let read = |from: *const u8| {
         // SAFETY: none: this is the fault.
         black_box(unsafe { from.read_volatile() });
@@ -82,21 +84,21 @@ unsafe fn wrong(which: usize, number: u64, last: u8, p: &Pointers) -> u64 {
         unsafe { to.write_volatile(byte) }
     };
     match which {
-        0 if accepted && rows => write(p.band.0.wrapping_add(p.band.1), 0x77),
-        1 if accepted && rows => write(p.band.0.wrapping_sub(1), 0x77),
+        0 if accepted && rows => write(p.band.wrapping_add(p.band_length), 0x77),
+        1 if accepted && rows => write(p.band.wrapping_sub(1), 0x77),
         2 if accepted => write(p.answer.wrapping_add(48), 0x77),
         3 => write(p.answer.wrapping_sub(1), 0x77),
-        4 if accepted => read(p.picture.0.wrapping_add(p.picture.1)),
-        5 if accepted => read(p.picture.0.wrapping_sub(1)),
-        6 if accepted => read(p.arguments.0.wrapping_add(p.arguments.1)),
-        7 if accepted => read(p.arguments.0.wrapping_sub(1)),
+        4 if accepted => read(p.picture.wrapping_add(p.picture_length)),
+        5 if accepted => read(p.picture.wrapping_sub(1)),
+        6 if accepted => read(p.arguments.wrapping_add(p.arguments_length)),
+        7 if accepted => read(p.arguments.wrapping_sub(1)),
         8 => read(p.background.wrapping_add(16)),
         9 => read(p.matte.wrapping_sub(1)),
-        10 if accepted => write(p.picture.0.cast_mut(), 0),
-        11 if !accepted && rows => write(p.band.0, 0x77),
-        12 if number == 11 => write(p.answer.wrapping_add(47), 0x77),
-        13 if number == 4 => return 5,
-        14 if accepted && rows => write(p.band.0.wrapping_add(p.band.1 - 1), last),
+        10 if accepted => write(p.picture.cast_mut(), 0),
+        11 if !accepted && rows => write(p.band, 0x77),
+        12 if number == u64::from(TRAY) => write(p.answer.wrapping_add(47), 0x77),
+        13 if number == u64::from(COUNT) => return u64::from(NUMBER),
+        14 if accepted && rows => write(p.band.wrapping_add(p.band_length - 1), last),
         15 if accepted && rows => write(p.answer.wrapping_add(40), CALLS.load(Relaxed) as u8 & 1),
         16 if accepted => loop {
             black_box(());
@@ -106,81 +108,28 @@ unsafe fn wrong(which: usize, number: u64, last: u8, p: &Pointers) -> u64 {
     number
 }
 
-unsafe extern "C" fn planted<const WHICH: usize>(
-    picture: *const u8,
-    picture_length: usize,
-    width: u64,
-    height: u64,
-    channels: u64,
-    method: u64,
-    arguments: *const u8,
-    arguments_length: usize,
-    policy: u64,
-    interpolation: u64,
-    background: *const u8,
-    matte: *const u8,
-    bestfit: u64,
-    viewport: u64,
-    view_width: u64,
-    view_height: u64,
-    view_x: i64,
-    view_y: i64,
-    first_row: u64,
-    rows: u64,
-    band: *mut u8,
-    band_length: usize,
-    answer: *mut u8,
-) -> u64 {
-    let pointers = Pointers {
-        picture: (picture, picture_length),
-        arguments: (arguments, arguments_length),
-        background,
-        matte,
-        band: (band, band_length),
-        answer,
-    };
-    let last = last(WHICH, &pointers);
-    // SAFETY: the product is called as this is; what is wrong on purpose is done afterwards.
-    unsafe {
-        let number = dihyravo_distort(
-            picture,
-            picture_length,
-            width,
-            height,
-            channels,
-            method,
-            arguments,
-            arguments_length,
-            policy,
-            interpolation,
-            background,
-            matte,
-            bestfit,
-            viewport,
-            view_width,
-            view_height,
-            view_x,
-            view_y,
-            first_row,
-            rows,
-            band,
-            band_length,
-            answer,
-        );
-        match CALLS.fetch_add(1, Relaxed) >= STILL {
-            true => wrong(WHICH, number, last, &pointers),
-            false => number,
+stand_in! {
+    /// The product's call, and one thing wrong after it.
+    fn planted<const WHICH: usize>(lent) {
+        let last = last(WHICH, &lent);
+        // SAFETY: the product is called as this is; what is wrong on purpose is done afterwards.
+        unsafe {
+            let number = lent.call(dihyravo_distort);
+            match CALLS.fetch_add(1, Relaxed) >= STILL {
+                true => wrong(WHICH, number, last, &lent),
+                false => number,
+            }
         }
     }
 }
 
 /// The band's last byte before the call, for the plants that look at it.
-fn last(which: usize, p: &Pointers) -> u8 {
-    if which < 14 || p.band.1 == 0 {
+fn last(which: usize, p: &Parameters) -> u8 {
+    if which < 14 || p.band_length == 0 {
         return 0;
     }
     // SAFETY: a byte of the band.
-    let byte = unsafe { p.band.0.add(p.band.1 - 1).read_volatile() };
+    let byte = unsafe { p.band.add(p.band_length - 1).read_volatile() };
     if which == 17 && byte == 0x33 {
         CALLS.fetch_add(1, Relaxed);
     }

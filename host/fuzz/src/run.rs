@@ -135,7 +135,7 @@ pub fn told(seed: u64, index: u64, words: &str) -> String {
     let (kind, job) = (case.kind, case.lent.job());
     format!(
         "case {index} of seed {seed}, {kind:?}: {words}\n  {job}\n  numbers {:?}",
-        case.lent.numbers
+        case.lent.numbers.in_order()
     )
 }
 

@@ -4,6 +4,7 @@
 use crate::callee::{self, Distort, Pointers};
 use crate::lent::Lent;
 use crate::sys::{self, Start};
+use differential::CallNumbers;
 use std::ffi::c_void;
 use std::mem::MaybeUninit;
 use std::ptr;
@@ -22,7 +23,7 @@ pub struct Stack {
 /// What the thread is given.
 struct Task<'a> {
     callee: Distort,
-    numbers: &'a [u64; 14],
+    numbers: &'a CallNumbers,
     pointers: Pointers,
     number: u64,
 }

@@ -3,13 +3,15 @@
 use crate::cases::Kind;
 use crate::damage::HUGE;
 use crate::lent::{Lent, colour};
-use differential::codes::{self, BILINEAR, PRESENT};
+use differential::Window;
+use differential::call_numbers::{COUNT, CallNumbers};
+use differential::codes::{self, PRESENT, interpolation, policy};
 
 /// The seed whose cases are these.
 pub const SEED: u64 = 0;
 
-/// The good job itself, six lengths, fourteen fields with each huge number.
-const PER_METHOD: u64 = 1 + 6 + 14 * HUGE.len() as u64;
+/// The good job itself, six lengths, each number in turn as each huge one.
+const PER_METHOD: u64 = 1 + 6 + (COUNT * HUGE.len()) as u64;
 
 /// How many cases there are.
 pub const CASES: u64 = PER_METHOD * PRESENT.len() as u64;
@@ -38,9 +40,25 @@ fn good(method: u64) -> Lent {
     let sample = |k: u64| ((k * 7_919 % 10_007) as f32 / 10_006.0).to_le_bytes();
     let arguments = arguments(method).into_iter();
     let black = colour([0.0, 0.0, 0.0, 1.0]);
-    let numbers = [
-        WIDTH, HEIGHT, CHANNELS, method, 0, BILINEAR, 0, 1, WIDTH, HEIGHT, 0, 0, 0, HEIGHT,
-    ];
+    let view = Window {
+        width: WIDTH,
+        height: HEIGHT,
+        x: 0,
+        y: 0,
+    };
+    let numbers = CallNumbers {
+        width: WIDTH,
+        height: HEIGHT,
+        channels: CHANNELS,
+        method,
+        policy: policy::EDGE,
+        interpolation: interpolation::BILINEAR,
+        bestfit: 0,
+        viewport: 1,
+        view,
+        first_row: 0,
+        rows: HEIGHT,
+    };
     Lent {
         numbers,
         picture: (0..WIDTH * HEIGHT * CHANNELS).flat_map(sample).collect(),
@@ -59,7 +77,7 @@ pub fn case(index: u64) -> (Kind, Lent) {
         1..=6 => length(change - 1, &mut lent),
         _ => {
             let (field, which) = ((change - 7) / HUGE.len(), (change - 7) % HUGE.len());
-            lent.numbers[field] = HUGE[which];
+            lent.numbers.change(|n| n[field] = HUGE[which]);
             return (Kind::Huge, lent);
         }
     }

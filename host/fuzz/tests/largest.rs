@@ -2,7 +2,9 @@
 //! pages: an unmoved picture comes back byte for byte; the last row and the corners outside are read by every
 //! interpolation.
 
-use differential::codes::{AFFINE_PROJECTION, INTERPOLATIONS};
+use differential::codes::interpolation::NEAREST;
+use differential::codes::{AFFINE_PROJECTION, INTERPOLATIONS, policy};
+use differential::{CallNumbers, Window};
 use fuzz::arena::{Arenas, Lending, Place, Side};
 use fuzz::callee::{self, Pointers, dihyravo_distort};
 use fuzz::fault;
@@ -12,7 +14,6 @@ const SIDE: u64 = 4_096;
 const CHANNELS: u64 = 4;
 const ROW: usize = (SIDE * CHANNELS * 4) as usize;
 const BYTES: usize = ROW * SIDE as usize;
-const NEAREST: u64 = 1;
 
 fn place(side: Side) -> Place {
     Place {
@@ -45,23 +46,24 @@ fn call(
         .collect();
     let black = colour([0.0, 0.0, 0.0, 1.0]);
     let mut answer = [0; 48];
-    let at = offset as u64;
-    let numbers = [
-        SIDE,
-        SIDE,
-        CHANNELS,
-        AFFINE_PROJECTION,
-        0,
+    let numbers = CallNumbers {
+        width: SIDE,
+        height: SIDE,
+        channels: CHANNELS,
+        method: AFFINE_PROJECTION,
+        policy: policy::EDGE,
         interpolation,
-        0,
-        1,
-        SIDE,
-        SIDE,
-        at,
-        at,
-        first,
+        bestfit: 0,
+        viewport: 1,
+        view: Window {
+            width: SIDE,
+            height: SIDE,
+            x: offset,
+            y: offset,
+        },
+        first_row: first,
         rows,
-    ];
+    };
     let pointers = Pointers {
         picture: (picture.pointer, picture.length),
         arguments: (arguments.as_ptr(), arguments.len()),

@@ -1,7 +1,7 @@
 //! A day's work of a shop: 10,000 squarings in one process, each card with corner picks of its own, its size asked for,
 //! then its rows in bands. The memory that the process holds stays as it is after the first hundred.
 
-use differential::codes::{BILINEAR, PERSPECTIVE};
+use differential::codes::{PERSPECTIVE, interpolation, policy};
 use differential::random::Random;
 use dihyravo::{Answer, Job, distort_into};
 use std::fs;
@@ -77,8 +77,8 @@ fn ten_thousand_squarings_hold_no_more_memory() {
             channels: CHANNELS,
             method: PERSPECTIVE,
             arguments: &arguments,
-            policy: 0,
-            interpolation: BILINEAR,
+            policy: policy::EDGE,
+            interpolation: interpolation::BILINEAR,
             background: fuzz::lent::colour(BLACK),
             matte: fuzz::lent::colour(BLACK),
             bestfit: 0,

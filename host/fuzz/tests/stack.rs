@@ -3,6 +3,7 @@
 
 use differential::codes::{INTERPOLATIONS, METHODS, PRESENT};
 use differential::{Job, expected, generate};
+use dihyravo_sys::stand_in;
 use fuzz::SEED;
 use fuzz::callee::{Distort, dihyravo_distort};
 use fuzz::cases;
@@ -36,7 +37,8 @@ fn a_call_needs_less_than_32_kib() {
     for lent in calls() {
         let (bytes, number) = stack.of_call(dihyravo_distort, &lent);
         if number == 0 {
-            let place = &mut deepest[lent.numbers[3] as usize][lent.numbers[5] as usize];
+            let n = lent.numbers;
+            let place = &mut deepest[n.method as usize][n.interpolation as usize];
             *place = bytes.max(*place);
             accepted = bytes.max(accepted);
         } else {
@@ -54,34 +56,12 @@ fn a_call_needs_less_than_32_kib() {
     assert!(accepted < LIMIT && refused < LIMIT);
 }
 
-/// A callee that needs 32 KiB.
-unsafe extern "C" fn deep(
-    _: *const u8,
-    _: usize,
-    _: u64,
-    _: u64,
-    _: u64,
-    _: u64,
-    _: *const u8,
-    _: usize,
-    _: u64,
-    _: u64,
-    _: *const u8,
-    _: *const u8,
-    _: u64,
-    _: u64,
-    _: u64,
-    _: u64,
-    _: i64,
-    _: i64,
-    _: u64,
-    _: u64,
-    _: *mut u8,
-    _: usize,
-    _: *mut u8,
-) -> u64 {
-    let bytes = black_box([1u8; LIMIT]);
-    u64::from(bytes[0])
+stand_in! {
+    /// A callee that needs 32 KiB.
+    fn deep(_lent) {
+        let bytes = black_box([1u8; LIMIT]);
+        u64::from(bytes[0])
+    }
 }
 
 #[test]

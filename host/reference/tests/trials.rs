@@ -6,6 +6,7 @@ const AFFINE: u8 = 0;
 const AFFINE_PROJECTION: u8 = 1;
 const POLYNOMIAL: u8 = 7;
 const BARREL: u8 = 11;
+const EDGE: u8 = 0;
 const TILE: u8 = 6;
 const MIRROR: u8 = 7;
 const CHECKER_TILE: u8 = 12;
@@ -132,7 +133,7 @@ fn distort_by_nothing_gives_the_picture_in_its_window() {
         args: &[0.0; 4],
         bestfit: false,
         viewport: None,
-        policy: 0,
+        policy: EDGE,
         interpolation: BILINEAR,
         background: [1.0; 4],
         undefined: [0.5; 4],

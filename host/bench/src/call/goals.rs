@@ -4,11 +4,7 @@ use super::measure::Times;
 use super::memory::Memory;
 use super::rows::{EDGE, Row, Shape};
 use differential::codes;
-
-const INTEGER: u64 = 0;
-const NEAREST: u64 = 1;
-const CATROM: u64 = 6;
-const SPLINE: u64 = 7;
+use differential::codes::interpolation::{BILINEAR, CATROM, INTEGER, NEAREST, SPLINE};
 
 /// What another library's perspective takes a pixel, and how much more may be taken here.
 pub const OPENCV: f64 = 12.0;
@@ -27,7 +23,7 @@ fn named(row: &Row, interpolations: &[u64]) -> bool {
 
 /// What most people ask for.
 fn common(row: &Row) -> bool {
-    named(row, &[codes::BILINEAR]) && row.shape.channels == 3
+    named(row, &[BILINEAR]) && row.shape.channels == 3
 }
 
 /// Prints every goal with `met`, `not met` or `not measured`.

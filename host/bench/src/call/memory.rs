@@ -26,7 +26,7 @@ pub fn measure(source: &Source, seconds: f64) -> Memory {
     let row = Row {
         shape: source.shape,
         method: codes::AFFINE,
-        interpolation: codes::BILINEAR,
+        interpolation: codes::interpolation::BILINEAR,
         policy: EDGE,
     };
     // One pair: a shift, whose fit takes no time.

@@ -2,9 +2,7 @@
 
 use differential::codes::{self, INTERPOLATIONS, METHODS, POLICIES};
 
-pub const EDGE: u64 = 0;
-pub const TILE: u64 = 6;
-pub const RANDOM: u64 = 13;
+pub use differential::codes::policy::{EDGE, RANDOM, TILE};
 
 /// A picture's size and what is in its fourth channel.
 #[derive(Clone, Copy, Debug, PartialEq, Eq)]
@@ -150,7 +148,7 @@ pub fn all() -> Vec<Row> {
 }
 
 fn pairs_of(every: bool) -> impl Iterator<Item = (u64, u64)> {
-    let (plain, named) = (codes::BILINEAR, codes::PERSPECTIVE);
+    let (plain, named) = (codes::interpolation::BILINEAR, codes::PERSPECTIVE);
     let all = codes::PRESENT.into_iter();
     let all = all.flat_map(|m| (0..INTERPOLATIONS.len() as u64).map(move |i| (m, i)));
     all.filter(move |&(m, i)| every || i == plain || m == named)
@@ -169,7 +167,8 @@ pub fn chosen(words: &[String], quick: bool) -> Vec<Row> {
 }
 
 fn common(row: &Row) -> bool {
-    let plain = row.method == codes::PERSPECTIVE && row.interpolation == codes::BILINEAR;
+    let plain =
+        row.method == codes::PERSPECTIVE && row.interpolation == codes::interpolation::BILINEAR;
     row.policy == EDGE || plain
 }
 

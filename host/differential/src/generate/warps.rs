@@ -65,8 +65,8 @@ pub fn first(r: &mut Random) -> Lent {
 pub fn warp(r: &mut Random, lent: &Lent) -> Job {
     let mut job = lent.lend(Job::plain());
     job.method = r.pick(&METHODS);
-    job.interpolation = BILINEAR;
-    let others = (0..POLICIES.len() as u64).filter(|p| *p != TRANSPARENT);
+    job.interpolation = interpolation::BILINEAR;
+    let others = (0..POLICIES.len() as u64).filter(|p| *p != policy::TRANSPARENT);
     job.policy = r.pick(&others.collect::<Vec<_>>());
     job.background = [sample(r), sample(r), sample(r), 1.0];
     job.matte = numbers::colour(r, true);

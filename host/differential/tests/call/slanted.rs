@@ -47,7 +47,7 @@ fn turned_pictures() {
     let mut r = Random::new(31);
     for interpolation in 0..codes::INTERPOLATIONS.len() as u64 {
         // Only `Bilinear` reads ahead.
-        let step = if interpolation == codes::BILINEAR {
+        let step = if interpolation == codes::interpolation::BILINEAR {
             1
         } else {
             10

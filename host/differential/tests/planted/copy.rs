@@ -28,7 +28,7 @@ pub fn copy(r: Reference, job: &Job, fault: Fault) -> Answer {
         0 => accepted(r, job, fault),
         number => {
             let mut answer = Answer::refused(job, number);
-            if fault == Fault::Writes && number == 11 {
+            if fault == Fault::Writes && number == refusal::TRAY {
                 answer.band.fill(0);
             }
             answer
@@ -38,14 +38,16 @@ pub fn copy(r: Reference, job: &Job, fault: Fault) -> Answer {
 
 fn refused(r: Reference, job: &Job, fault: Fault) -> u8 {
     let right = refusal::refusal(r, job);
+    let one_pair_more = job.args.len() == 4 * (refusal::PAIRS + 1);
+    let wraps_to_0 = job.first_row.wrapping_add(job.rows) == 0;
     match fault {
-        Fault::SideLimit if job.width == 4096 => 1,
-        Fault::PairLimit if right == 4 && job.args.len() == 260 => 5,
-        Fault::OrderLimit if right == 0 || right > 6 => match job.method {
-            POLYNOMIAL if job.args[0] >= 5.0 => 6,
+        Fault::SideLimit if job.width == refusal::SIDE => refusal::SIZE,
+        Fault::PairLimit if right == refusal::COUNT && one_pair_more => refusal::NUMBER,
+        Fault::OrderLimit if right == 0 || right > refusal::ORDER => match job.method {
+            POLYNOMIAL if job.args[0] >= 5.0 => refusal::ORDER,
             _ => right,
         },
-        Fault::RowsWrap if right == 10 && job.first_row.wrapping_add(job.rows) == 0 => 11,
+        Fault::RowsWrap if right == refusal::ROWS && wraps_to_0 => refusal::TRAY,
         _ => right,
     }
 }
@@ -53,15 +55,13 @@ fn refused(r: Reference, job: &Job, fault: Fault) -> u8 {
 fn accepted(r: Reference, job: &Job, fault: Fault) -> Answer {
     let mapping = fit(r, job).unwrap();
     let w = window(job, &mapping);
-    let mut policy = job.policy as u8;
-    if fault == Fault::MirrorIsTile && policy == 7 {
-        policy = 6;
-    }
-    if fault == Fault::ClampedFirst && policy == 1 {
-        policy = 0;
-    }
+    let policy = match job.policy {
+        policy::MIRROR if fault == Fault::MirrorIsTile => policy::TILE,
+        policy::BACKGROUND if fault == Fault::ClampedFirst => policy::EDGE,
+        right => right,
+    };
     let picture = expected::picture(job);
-    let sampler = r.sampler(picture, policy, job.background).unwrap();
+    let sampler = r.sampler(picture, policy as u8, job.background).unwrap();
     let other = (fault == Fault::FirstPivot)
         .then(|| first_pivot(job))
         .flatten();
@@ -104,11 +104,11 @@ fn accepted(r: Reference, job: &Job, fault: Fault) -> Answer {
 }
 
 fn read(r: Reference, s: &Sampler, job: &Job, fault: Fault, x: f64, y: f64) -> [f32; 4] {
-    if fault == Fault::Truncation && job.interpolation == 0 {
+    if fault == Fault::Truncation && job.interpolation == interpolation::INTEGER {
         return s.at(x as i64, y as i64);
     }
     let right = s.interpolate(x, y, job.interpolation as u8).unwrap();
-    if fault != Fault::Unweighted || job.interpolation != BILINEAR {
+    if fault != Fault::Unweighted || job.interpolation != interpolation::BILINEAR {
         return right;
     }
     let (ix, iy) = (x.floor() as i64, y.floor() as i64);

@@ -3,6 +3,7 @@
 mod copy;
 
 use copy::{Fault, copy};
+use differential::codes::policy;
 use differential::expected::{expected, window_of};
 use differential::runner::{Difference, first_difference};
 use differential::{Answer, Job, Verdict};
@@ -139,7 +140,8 @@ fn a_made_up_fault_is_shrunk_to_its_cause() {
         band: vec![0; job.band],
     };
     let wrong = |job: &Job| {
-        let hit = job.samples.iter().any(|x| *x > 0.75) && job.args.len() > 8 && job.policy > 3;
+        let bright = job.samples.iter().any(|x| *x > 0.75);
+        let hit = bright && job.args.len() > 8 && job.policy >= policy::GRAY;
         Answer {
             verdict: Verdict::Refused(u8::from(hit)),
             band: vec![0; job.band],

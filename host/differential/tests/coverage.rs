@@ -75,7 +75,25 @@ fn accepted_jobs_cover_the_domain() {
         println!("{count:6} {thing}");
     }
     println!("{pixels} pixels, {matte_pixels} of them matte");
-    let mut needed: Vec<String> = (1..=11).map(|n| format!("refused {n:2}")).collect();
+    for thing in needed() {
+        assert!(
+            seen.get(&thing).is_some_and(|n| *n >= 5),
+            "too few: {thing}"
+        );
+    }
+    for pairs in 1..=refusal::PAIRS {
+        assert!(
+            seen.contains_key(&format!("pairs {pairs:2}")),
+            "no {pairs} pairs"
+        );
+    }
+    assert!(pixels > 4 * matte_pixels, "too many pixels are matte");
+}
+
+/// The things that are met often enough.
+fn needed() -> Vec<String> {
+    let refusals = refusal::SIZE..=refusal::TRAY;
+    let mut needed: Vec<String> = refusals.map(|n| format!("refused {n:2}")).collect();
     needed.extend(codes::PRESENT.map(|m| format!("method {}", codes::METHODS[m as usize])));
     needed.extend(codes::POLICIES.map(|p| format!("policy {p}")));
     needed.extend(codes::INTERPOLATIONS.map(|i| format!("interpolation {i}")));
@@ -83,19 +101,7 @@ fn accepted_jobs_cover_the_domain() {
     needed.extend([1.0, 1.5, 1.4999999999, 2.5, 4.5, 5.0].map(|n| format!("order {n}")));
     let more = ["viewport", "bestfit", "band", "no rows", "clear background"];
     needed.extend(more.map(String::from));
-    for thing in needed {
-        assert!(
-            seen.get(&thing).is_some_and(|n| *n >= 5),
-            "too few: {thing}"
-        );
-    }
-    for pairs in 1..=64 {
-        assert!(
-            seen.contains_key(&format!("pairs {pairs:2}")),
-            "no {pairs} pairs"
-        );
-    }
-    assert!(pixels > 4 * matte_pixels, "too many pixels are matte");
+    needed
 }
 
 /// What the whole call's edges are, and how a job there has to be answered by the specification.
@@ -118,90 +124,125 @@ fn calls_cover_the_edges() {
     assert!(few.is_empty(), "too few: {few:?}");
 }
 
-fn edges(job: &Job, w: Option<Window>, number: u8) -> Vec<(&'static str, bool)> {
-    let barrel = [codes::BARREL, codes::BARREL_INVERSE].contains(&job.method);
-    let unread = barrel && job.args.len() > 6 && number == 5;
-    let broken = |x: &f64| !x.is_finite();
+/// Edges, by name, and whether a job is at each.
+type Edges = Vec<(&'static str, bool)>;
+
+/// Numbers that are no small ones when they are cut to 32 bits.
+const HUGE: u64 = 1 << 32;
+
+fn edges(job: &Job, w: Option<Window>, number: u8) -> Edges {
     let w = w.unwrap_or(job.own_window());
-    let accepted = number == 0;
-    let wraps = job.first_row.checked_add(job.rows).is_none();
-    let far = [-refusal::OFFSET, refusal::OFFSET];
-    let alpha = |x: f32| accepted && job.background[3] == x;
-    let one = 1.0f32;
-    let huge = [job.width, job.height, job.channels]
-        .iter()
-        .any(|n| *n >= 1 << 32);
-    let unknown = [job.method, job.policy, job.interpolation];
-    let area = w.width.saturating_mul(w.height);
+    [
+        argument_edges(job, number),
+        picture_edges(job, number),
+        window_edges(job, w, number),
+        row_edges(job, w, number),
+        bestfit_edges(job, w, number),
+    ]
+    .concat()
+}
+
+/// What a barrel is given after its six arguments, which it does not read.
+fn argument_edges(job: &Job, number: u8) -> Edges {
+    let barrel = [codes::BARREL, codes::BARREL_INVERSE].contains(&job.method);
+    let more = barrel && job.args.len() > 6;
+    let unread = more && number == refusal::NUMBER;
+    let finite = |x: &f64| x.is_finite();
+    let codes = [job.method, job.policy, job.interpolation];
     vec![
         (
             "an unread argument is not finite",
-            unread && job.args[6..].iter().any(broken),
+            unread && !job.args[6..].iter().all(finite),
         ),
         (
             "an unread argument is too large",
-            unread && job.args[6..].iter().all(|x| x.is_finite()),
+            unread && job.args[6..].iter().all(finite),
+        ),
+        ("more than six arguments", more && number == 0),
+        (
+            "a huge code",
+            number == refusal::CODE && codes.iter().any(|n| *n >= HUGE),
+        ),
+    ]
+}
+
+fn picture_edges(job: &Job, number: u8) -> Edges {
+    let accepted = number == 0;
+    let refused = number == refusal::SIZE;
+    let size = [job.width, job.height, job.channels];
+    let alpha = |x: f32| accepted && job.background[3] == x;
+    let one = 1.0f32;
+    vec![
+        ("one pixel", accepted && job.width * job.height == 1),
+        (
+            "a picture 4,096 wide",
+            accepted && job.width == refusal::SIDE,
         ),
         (
-            "more than six arguments",
-            barrel && job.args.len() > 6 && accepted,
+            "a picture 4,096 high",
+            accepted && job.height == refusal::SIDE,
         ),
-        ("one pixel", accepted && job.width * job.height == 1),
+        (
+            "a picture 4,097 wide or high",
+            refused && job.width.max(job.height) == refusal::SIDE + 1,
+        ),
+        ("a huge size", refused && size.iter().any(|n| *n >= HUGE)),
+        ("an alpha just below 1", alpha(one.next_down())),
+        ("an alpha just above 1", alpha(one.next_up())),
+    ]
+}
+
+fn window_edges(job: &Job, w: Window, number: u8) -> Edges {
+    let accepted = number == 0;
+    let refused = number == refusal::WINDOW;
+    let far = [-refusal::OFFSET, refusal::OFFSET];
+    let largest = (w.width, w.height) == (refusal::SIDE, refusal::SIDE);
+    vec![
         (
             "an offset at a limit",
             accepted && far.contains(&w.x) && far.contains(&w.y),
         ),
         (
             "a window of 4,096 by 4,096",
-            accepted && area == 1 << 24 && job.rows > 0,
+            accepted && largest && job.rows > 0,
         ),
         (
             "a side of 4,097",
-            number == 9 && [w.width, w.height].contains(&4_097),
+            refused && [w.width, w.height].contains(&(refusal::SIDE + 1)),
         ),
-        ("a picture 4,096 wide", accepted && job.width == 4_096),
-        ("a picture 4,096 high", accepted && job.height == 4_096),
+        ("a huge window", refused && w.width.max(w.height) >= HUGE),
         (
-            "a picture 4,097 wide or high",
-            number == 1 && job.width.max(job.height) == 4_097,
+            "a huge offset",
+            refused && [i64::MIN, i64::MAX].contains(&w.x),
         ),
+    ]
+}
+
+fn row_edges(job: &Job, w: Window, number: u8) -> Edges {
+    let accepted = number == 0;
+    let refused = number == refusal::ROWS;
+    let wraps = job.first_row.checked_add(job.rows).is_none();
+    vec![
         ("no rows", accepted && job.rows == 0),
         (
             "no rows at the height",
             accepted && job.first_row == w.height,
         ),
-        ("no rows beyond the height", number == 10 && job.rows == 0),
-        ("rows that wrap", number == 10 && wraps),
-        ("an alpha just below 1", alpha(one.next_down())),
-        ("an alpha just above 1", alpha(one.next_up())),
-        ("a huge size", number == 1 && huge),
-        (
-            "a huge code",
-            number == 3 && unknown.iter().any(|n| *n >= 1 << 32),
-        ),
-        (
-            "a huge window",
-            number == 9 && w.width.max(w.height) >= 1 << 32,
-        ),
-        (
-            "a huge offset",
-            number == 9 && (w.x == i64::MAX || w.x == i64::MIN),
-        ),
-        (
-            "huge rows",
-            number == 10 && job.first_row.max(job.rows) >= 1 << 32,
-        ),
-        (
-            "a large bestfit window",
-            accepted && job.bestfit && job.viewport.is_none() && area > generate::LIGHT,
-        ),
+        ("no rows beyond the height", refused && job.rows == 0),
+        ("rows that wrap", refused && wraps),
+        ("huge rows", refused && job.first_row.max(job.rows) >= HUGE),
+    ]
+}
+
+fn bestfit_edges(job: &Job, w: Window, number: u8) -> Edges {
+    let asked = number == 0 && job.bestfit && job.viewport.is_none();
+    let area = w.width.saturating_mul(w.height);
+    let own = w == job.own_window();
+    vec![
+        ("a large bestfit window", asked && area > generate::LIGHT),
         (
             "a bestfit that is given up",
-            accepted
-                && job.bestfit
-                && job.viewport.is_none()
-                && w == job.own_window()
-                && job.method == codes::AFFINE_PROJECTION,
+            asked && own && job.method == codes::AFFINE_PROJECTION,
         ),
     ]
 }

@@ -3,6 +3,7 @@
 //! factors about 0; the other methods as the jobs have them. 2,000 jobs, 200,000 with DIHYRAVO_FULL=1.
 
 use differential::random::Random;
+use differential::refusal::{OFFSET, SIDE};
 use differential::{Job, codes, expected, generate, refusal};
 use probes::Rows;
 use reference::{Mapping, Reference, reference_or_skip};
@@ -188,6 +189,34 @@ fn every_method() {
     }
 }
 
+/// Rows that fit a picture of 4 by 4.
+const INSIDE: Rows = Rows {
+    x: 0,
+    y: 0,
+    first: 0,
+    rows: 2,
+};
+
+/// Rows that are beyond a window's limits, or more than their bytes.
+fn outside() -> Vec<Rows> {
+    let at = |x, y| Rows { x, y, ..INSIDE };
+    let from = |first, rows| Rows {
+        first,
+        rows,
+        ..INSIDE
+    };
+    vec![
+        at(OFFSET + 1, 0),
+        at(-OFFSET - 1, 0),
+        at(0, i64::MAX),
+        at(0, i64::MIN),
+        from(SIDE - 1, 2),
+        from(u64::MAX, 2),
+        from(0, u64::MAX),
+        from(0, 3),
+    ]
+}
+
 /// Rows beyond a window's limits and lengths that do not fit are refused by 12, and nothing is written.
 #[test]
 fn beyond_the_limits() {
@@ -195,55 +224,15 @@ fn beyond_the_limits() {
         .iter()
         .flat_map(|x| x.to_le_bytes())
         .collect();
-    let inside = Rows {
-        x: 0,
-        y: 0,
-        first: 0,
-        rows: 2,
-    };
-    let wrong = [
-        Rows {
-            x: 1_048_577,
-            ..inside
-        },
-        Rows {
-            x: -1_048_577,
-            ..inside
-        },
-        Rows {
-            y: i64::MAX,
-            ..inside
-        },
-        Rows {
-            y: i64::MIN,
-            ..inside
-        },
-        Rows {
-            first: 4_095,
-            ..inside
-        },
-        Rows {
-            first: u64::MAX,
-            ..inside
-        },
-        Rows {
-            rows: u64::MAX,
-            ..inside
-        },
-        Rows { rows: 3, ..inside },
-    ];
-    for rows in wrong {
-        let mut out = vec![probes::UNTOUCHED; 24 * 8];
+    let fresh = vec![probes::UNTOUCHED; 24 * 8];
+    for rows in outside() {
+        let mut out = fresh.clone();
         let answer = probes::rows(codes::BARREL, &args, 4, 4, rows, &mut out);
-        assert_eq!(
-            (answer, out),
-            (12, vec![probes::UNTOUCHED; 24 * 8]),
-            "{rows:?}"
-        );
+        assert_eq!((answer, &out), (12, &fresh), "{rows:?}");
     }
-    let mut out = vec![probes::UNTOUCHED; 24 * 8];
+    let mut out = fresh;
     assert_eq!(
-        probes::rows(codes::BARREL, &args, 4, 4, inside, &mut out),
+        probes::rows(codes::BARREL, &args, 4, 4, INSIDE, &mut out),
         0
     );
 }

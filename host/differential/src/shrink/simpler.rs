@@ -27,6 +27,23 @@ fn frame(job: &Job, put: Put) {
     put(&|j| j.bestfit = false);
     put(&|j| j.viewport = None);
     put(&|j| (j.args_rest, j.samples_rest) = (0, 0));
+    rows(job, put);
+    if let Some(w) = job.viewport {
+        viewport(w, put);
+    }
+    for n in [
+        0,
+        4,
+        job.band / 2,
+        job.band.saturating_sub(4),
+        job.band.saturating_sub(1),
+    ] {
+        put(&|j| j.band = n);
+    }
+}
+
+/// Fewer rows, from the first on or up to the last.
+fn rows(job: &Job, put: Put) {
     for n in [1, job.rows / 2, job.rows.saturating_sub(1)] {
         for first in [
             0,
@@ -39,44 +56,26 @@ fn frame(job: &Job, put: Put) {
             });
         }
     }
-    if let Some(w) = job.viewport {
-        for side in [1, 2, w.width / 2, w.width.saturating_sub(1)] {
-            put(&|j| j.viewport = Some(Window { width: side, ..w }));
-            let x = w.x.saturating_add(w.width.saturating_sub(side) as i64);
-            put(&|j| {
-                j.viewport = Some(Window {
-                    width: side,
-                    x,
-                    ..w
-                })
-            });
-        }
-        for side in [1, 2, w.height / 2, w.height.saturating_sub(1)] {
-            put(&|j| j.viewport = Some(Window { height: side, ..w }));
-            let y = w.y.saturating_add(w.height.saturating_sub(side) as i64);
-            put(&|j| {
-                j.viewport = Some(Window {
-                    height: side,
-                    y,
-                    ..w
-                })
-            });
-        }
-        for n in [0, 1, -1, w.x / 2, w.x / 10] {
-            put(&|j| j.viewport = Some(Window { x: n, ..w }));
-        }
-        for n in [0, 1, -1, w.y / 2, w.y / 10] {
-            put(&|j| j.viewport = Some(Window { y: n, ..w }));
-        }
+}
+
+/// A smaller viewport, cut on either side, and one nearer to 0, 0.
+fn viewport(w: Window, put: Put) {
+    let mut window = |w: Window| put(&|j| j.viewport = Some(w));
+    for width in [1, 2, w.width / 2, w.width.saturating_sub(1)] {
+        let x = w.x.saturating_add(w.width.saturating_sub(width) as i64);
+        window(Window { width, ..w });
+        window(Window { width, x, ..w });
     }
-    for n in [
-        0,
-        4,
-        job.band / 2,
-        job.band.saturating_sub(4),
-        job.band.saturating_sub(1),
-    ] {
-        put(&|j| j.band = n);
+    for height in [1, 2, w.height / 2, w.height.saturating_sub(1)] {
+        let y = w.y.saturating_add(w.height.saturating_sub(height) as i64);
+        window(Window { height, ..w });
+        window(Window { height, y, ..w });
+    }
+    for x in [0, 1, -1, w.x / 2, w.x / 10] {
+        window(Window { x, ..w });
+    }
+    for y in [0, 1, -1, w.y / 2, w.y / 10] {
+        window(Window { y, ..w });
     }
 }
 

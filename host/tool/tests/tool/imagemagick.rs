@@ -20,19 +20,18 @@ fn pairs() -> String {
     pairs.collect::<Vec<_>>().join("  ")
 }
 
-#[test]
-fn the_photograph_squared_is_imagemagicks() {
-    if !installed() {
-        println!("skipped: the_photograph_squared_is_imagemagicks: ImageMagick is not installed");
-        return;
-    }
-    let folder = Folder::new("imagemagick");
+/// Writes the demo's photograph.
+fn photograph(folder: &Folder) {
     let (width, height) = (scene::WIDTH as u32, scene::HEIGHT as u32);
     let photograph =
         image::RgbImage::from_raw(width, height, scene::photograph(7)).expect("a photograph");
     photograph
         .save(folder.path("photograph.png"))
         .expect("written");
+}
+
+/// Squares the photograph by the tool.
+fn ours(folder: &Folder) {
     let corners = scene::corners();
     let words = [
         "square",
@@ -46,6 +45,10 @@ fn the_photograph_squared_is_imagemagicks() {
         &corners,
     ];
     folder.run(words).good();
+}
+
+/// Squares the photograph by ImageMagick.
+fn theirs(folder: &Folder) {
     let words = "photograph.png -filter point -interpolate bilinear -virtual-pixel edge \
                  -define distort:viewport=800x600+0+0";
     let convert = Command::new("convert")
@@ -61,6 +64,18 @@ fn the_photograph_squared_is_imagemagicks() {
         ])
         .status();
     assert!(convert.expect("convert runs").success());
+}
+
+#[test]
+fn the_photograph_squared_is_imagemagicks() {
+    if !installed() {
+        println!("skipped: the_photograph_squared_is_imagemagicks: ImageMagick is not installed");
+        return;
+    }
+    let folder = Folder::new("imagemagick");
+    photograph(&folder);
+    ours(&folder);
+    theirs(&folder);
     let samples = |name: &str| {
         image::open(folder.path(name))
             .expect("a picture")

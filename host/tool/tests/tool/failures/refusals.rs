@@ -2,13 +2,21 @@
 
 use super::{CORNERS, Trial};
 
+/// `distort` by a method is refused, with these words.
+fn refused(trial: &Trial, method: &str, args: &str, more: &[&str], words: &[&str]) {
+    trial.fails(trial.distort("in.png", method, args, more), 1, words)
+}
+
+/// A shift with these options is refused, with these words.
+fn shift_refused(trial: &Trial, more: &[&str], words: &[&str]) {
+    refused(trial, "Affine", "0,0,1,1", more, words)
+}
+
 #[test]
-fn refusals_have_number_word_and_mend() {
-    let trial = Trial::new("refusals");
-    let refused = |method, args, more: &[&str], words: &[&str]| {
-        trial.fails(trial.distort("in.png", method, args, more), 1, words)
-    };
+fn names_that_are_none() {
+    let trial = Trial::new("refused-names");
     refused(
+        &trial,
         "Perspectiv",
         "0",
         &[],
@@ -18,96 +26,97 @@ fn refusals_have_number_word_and_mend() {
             "Shepards",
         ],
     );
-    refused("Arc", "60", &[], &["refusal 3 (code): ", "is absent"]);
     refused(
-        "Affine",
-        "0,0,1,1",
+        &trial,
+        "Arc",
+        "60",
+        &[],
+        &["refusal 3 (code): ", "is absent"],
+    );
+    shift_refused(
+        &trial,
         &["--virtual-pixel", "mirorr"],
         &["refusal 3 (code): ", "did you mean Mirror?"],
     );
-    refused(
-        "Affine",
-        "0,0,1,1",
+    shift_refused(
+        &trial,
         &["--interpolate", "sinc"],
         &["refusal 3 (code): ", "Catrom"],
     );
-    refused(
-        "Affine",
-        "0,0,1",
-        &[],
-        &["refusal 4 (count): Affine was given 3 numbers; "],
-    );
-    refused(
-        "Affine",
-        "",
-        &[],
-        &["refusal 4 (count): Affine was given 0 numbers; "],
-    );
-    refused(
-        "Affine",
-        "0,0,1e400,1",
-        &[],
-        &["refusal 5 (number): argument 3 is inf; "],
-    );
-    refused(
-        "Affine",
-        "0,0,1,1",
+}
+
+#[test]
+fn arguments_by_count_and_order() {
+    let trial = Trial::new("refused-counts");
+    for (method, args, words) in [
+        (
+            "Affine",
+            "0,0,1",
+            "refusal 4 (count): Affine was given 3 numbers; ",
+        ),
+        (
+            "Affine",
+            "",
+            "refusal 4 (count): Affine was given 0 numbers; ",
+        ),
+        ("Polynomial", "6,0,0,0,0", "refusal 6 (order): "),
+        (
+            "Perspective",
+            "0,0,0,0,1,1,1,1,2,2,2,2",
+            "refusal 7 (few): Perspective was given 12 numbers; ",
+        ),
+    ] {
+        refused(&trial, method, args, &[], &[words]);
+    }
+}
+
+#[test]
+fn arguments_and_colours_above_the_limits() {
+    let trial = Trial::new("refused-numbers");
+    let words = "refusal 5 (number): argument 3 is inf; ";
+    refused(&trial, "Affine", "0,0,1e400,1", &[], &[words]);
+    shift_refused(
+        &trial,
         &["--background", "70000,1,1,1"],
         &["refusal 5 (number): the background colour"],
     );
-    refused(
-        "Affine",
-        "0,0,1,1",
+    shift_refused(
+        &trial,
         &["--matte", "1e39,1,1,1"],
         &["refusal 5 (number): the matte colour"],
     );
-    refused("Polynomial", "6,0,0,0,0", &[], &["refusal 6 (order): "]);
-    refused(
-        "Perspective",
-        "0,0,0,0,1,1,1,1,2,2,2,2",
-        &[],
-        &["refusal 7 (few): Perspective was given 12 numbers; "],
-    );
-    refused(
-        "AffineProjection",
-        "1,2,2,4,0,0",
-        &[],
-        &["refusal 8 (degenerate): "],
-    );
-    refused(
-        "Affine",
-        "0,0,1,1",
-        &["--viewport", "0x0"],
-        &["refusal 9 (window): the output was to be 0x0+0+0; "],
-    );
-    refused(
-        "Affine",
-        "0,0,1,1",
-        &["--viewport", "4097x1"],
-        &["refusal 9 (window): "],
-    );
-    refused(
-        "Affine",
-        "0,0,1,1",
-        &["--viewport", "1x1+1048577+0"],
-        &["refusal 9 (window): "],
-    );
-    refused(
-        "AffineProjection",
-        "9999,0,0,1,0,0",
-        &["--best-fit"],
-        &["refusal 9 (window): the best fit is too large"],
-    );
-    refused(
-        "Perspective",
-        "0,0,0,0 1,1,1,1 2,2,2,2 3,3,3,3",
-        &[],
-        &["refusal 8 (degenerate): "],
-    );
+}
+
+#[test]
+fn arguments_that_no_mapping_fits() {
+    let trial = Trial::new("refused-fits");
+    let words = "refusal 8 (degenerate): ";
+    refused(&trial, "AffineProjection", "1,2,2,4,0,0", &[], &[words]);
+    let line = "0,0,0,0 1,1,1,1 2,2,2,2 3,3,3,3";
+    refused(&trial, "Perspective", line, &[], &[words]);
     trial.fails(
         trial.square("in.png", CORNERS, "0x0"),
         1,
         &["refusal 8 (degenerate): the output was to be 0x0; "],
+    );
+}
+
+#[test]
+fn windows_beyond_the_limits() {
+    let trial = Trial::new("refused-windows");
+    for (viewport, words) in [
+        ("0x0", "refusal 9 (window): the output was to be 0x0+0+0; "),
+        ("4097x1", "refusal 9 (window): "),
+        ("1x1+1048577+0", "refusal 9 (window): "),
+    ] {
+        shift_refused(&trial, &["--viewport", viewport], &[words]);
+    }
+    refused(
+        &trial,
+        "AffineProjection",
+        "9999,0,0,1,0,0",
+        &["--best-fit"],
+        &["refusal 9 (window): the best fit is too large"],
     );
 }
 

@@ -64,8 +64,8 @@ fn bad_usage_names_the_help_of_its_command() {
 }
 
 #[test]
-fn corners_and_numbers_that_are_none() {
-    let trial = Trial::new("numbers");
+fn corners_that_are_none() {
+    let trial = Trial::new("corners");
     trial.fails(
         trial.square("in.png", "0,0 8,0 8,6", "8x6"),
         2,
@@ -91,6 +91,11 @@ fn corners_and_numbers_that_are_none() {
         2,
         &["--size", "'8by6' is not a size"],
     );
+}
+
+#[test]
+fn numbers_and_colours_that_are_none() {
+    let trial = Trial::new("numbers");
     trial.fails(
         trial.distort("in.png", "Affine", "0,0,1,x", &[]),
         2,

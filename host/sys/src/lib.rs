@@ -1,5 +1,6 @@
-//! The C interface of libdihyravo.a as the header `include/dihyravo.h` has it: declarations alone, for every member of
-//! the workspace that calls the archive. The crate `dihyravo` wraps them in safe names.
+//! The C interface of libdihyravo.a as the header `include/dihyravo.h` has it: declarations, and the distort call's
+//! parameters by name, for every member of the workspace that calls the archive. The crate `dihyravo` wraps them in
+//! safe names.
 
 #![no_std]
 

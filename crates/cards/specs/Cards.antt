@@ -130,7 +130,8 @@ table =
     )
     -- halfway between opaque 1 and a clear pixel: colour 1, alpha 0.5
     ∷ ((
-      Colour (interpolate halfClear 2 1 4 edgeCode bilinearCode (greyBits 0 0) (double 0x3fe0_0000_0000_0000) (double 0)),
+      Colour (interpolate halfClear 2 1 4 edgeCode bilinearCode (greyBits 0 0) (double 0x3fe0_0000_0000_0000)
+          (double 0)),
       Colour (greyBits 0x3f80_0000 0x3f00_0000),
     )
     -- `AffineProjection` 1, 2, 2, 4, 0, 0: refusal 8

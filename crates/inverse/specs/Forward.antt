@@ -60,4 +60,5 @@ abbrev pub mostSteps : ℕ
 mostSteps = 30
 
 unfoldable pub bilinearForward : Vector → Float → Float → Point
-bilinearForward c x y = ended (λ (w : Float × Float). point (w .0) (w .1)) (upTo (newtonTurn c x y) 0 mostSteps (on (x, y)))
+bilinearForward c x y =
+    ended (λ (w : Float × Float). point (w .0) (w .1)) (upTo (newtonTurn c x y) 0 mostSteps (on (x, y)))

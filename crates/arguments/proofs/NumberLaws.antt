@@ -1,21 +1,16 @@
--- Where refusal 5 does not apply every argument is good, and a good number is finite. One bad number would have made
--- the test false for good, since a turn never makes it true again. Assumes nothing.
-use mathlib.Core.Path.{_≡_, refl, sym, ap, _∙_, subst}
+-- Where refusal 5 does not apply every argument is good. One bad number would have made the test false for good, since
+-- a turn never makes it true again. Assumes nothing.
+use mathlib.Core.Path.{_≡_, refl, sym, ap, _∙_}
 use mathlib.Core.Bool.{Bool, true, false, _&&_, true≢false}
 use mathlib.Core.List.{List}
 use Prim.Native.Nat.{ℕ, _+_, _<_, zero-le}
 use native.Mathlib.Omega.{arith}
-use lib.Dec.{T}
-use lib.Ieee.{Float, ofBits}
-use lib.Ieee.Scale.{finite}
 use borrow.Author.Tests.{not-false}
 use Rattle.exact.specs.Loop.{upTo}
 use Rattle.exact.proofs.Loop.{upTo-next, upTo-keep, upTo-join}
 use Rattle.endian.specs.Bytes.{argumentAt}
-use Rattle.number.specs.Magnitude.{within}
-use Rattle.number.proofs.MagnitudeLaws.{abs-limited}
 use Rattle.arguments.specs.Store.{countOf}
-use Rattle.arguments.specs.Refusal.{argumentLimit, goodNumber, stillGood, badArgument}
+use Rattle.arguments.specs.Refusal.{goodNumber, stillGood, badArgument}
 
 and-false : (b : Bool) → (b && false) ≡ false
 and-false true = refl
@@ -42,7 +37,3 @@ module _ (bytes : List ℕ) where
       go : (g : Bool) → goodNumber (argumentAt bytes k) ≡ g → g ≡ true
       go true e = refl
       go false e = absurd (true≢false (sym (not-false (all (countOf bytes)) fine) ∙ spoilt k (countOf bytes) h e))
-
-pub good-finite : (x : Float) → goodNumber x ≡ true → T (finite x)
-unfolding goodNumber within ofBits
-good-finite x e = abs-limited x argumentLimit tt (subst T (sym e) tt)

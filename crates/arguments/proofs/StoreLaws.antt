@@ -38,10 +38,6 @@ unfolding keep zeroArguments
 after bytes n = upTo-keep (keep bytes) 0 zeroArguments (λ (l : List Float). length l ≡ 257) n zero-le
     (λ j l a b h. length-set l j (argumentAt bytes j) ∙ h) refl
 
-pub values-length : (bytes : List ℕ) → length (valuesOf bytes) ≡ 257
-unfolding valuesOf zeroArguments
-values-length bytes = after bytes (heldOf bytes)
-
 -- the turn k, and those after it
 pub value-at : (bytes : List ℕ) (k : ℕ) (d : Float) → k < heldOf bytes → getD (valuesOf bytes) k d ≡ argumentAt bytes k
 unfolding valuesOf keep zeroArguments

@@ -31,7 +31,7 @@ keep bytes k values = set values k (argumentAt bytes k)
 
 -- the store's numbers
 unfoldable pub valuesOf : List ℕ → List Float
-valuesOf bytes = upTo (keep bytes) 0 (heldOf bytes) (replicate mostArguments nought)
+valuesOf bytes = upTo (keep bytes) 0 (heldOf bytes) zeroArguments
 
 -- the first argument, which is a polynomial's order; 0.0 where there is none
 unfoldable pub orderOf : List ℕ → Float

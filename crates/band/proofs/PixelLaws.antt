@@ -25,11 +25,6 @@ channels-pos n (inl e) = omega arith
 channels-pos n (inr (inl e)) = omega arith
 channels-pos n (inr (inr e)) = omega arith
 
-pub channels-most : (n : ℕ) → Channels n → n ≤ 4
-channels-most n (inl e) = omega arith
-channels-most n (inr (inl e)) = omega arith
-channels-most n (inr (inr e)) = omega arith
-
 -- ---- so far
 -- the first n bytes are done, and the others are b's
 pub record SoFar (b now done : List ℕ) (n : ℕ) : Type 0 where
@@ -189,19 +184,3 @@ pixel-next {b} {now} {done} {n} F channels p c (inr (inr e)) w h =
     subst (λ (m : ℕ). SoFar b (storePixel now m p c) (done ++ pixelBytes m c) (n + m * 4)) (sym e)
     (subst (λ (x : List ℕ). SoFar b (storePixel now 4 p c) (done ++ x) (n + 16)) (sym (bytes-four c))
     (unfold storePixel narrowed in four-next F (p * 4) c (pixel n p channels w e) (room n channels (length b) h e)))
-
--- the same at the definition: of a pixel that has room
-pub store-pixel-paste : (band : List ℕ) (channels p : ℕ) (c : Rgba) → Channels channels
-    → (p + 1) * channels * 4 ≤ length band
-    → storePixel band channels p c ≡ take (p * channels * 4) band ++ pixelBytes channels c
-    ++ drop ((p + 1) * channels * 4) band
-store-pixel-paste band channels p c C h =
-    pixel-next (so-far-from band (p * channels * 4) (less p channels (length band) h)) channels p c C refl
-    (subst (λ (n : ℕ). n ≤ length band) (sym (next p channels)) h) .is
-    ∙ ap (λ (n : ℕ). take (p * channels * 4) band ++ pixelBytes channels c ++ drop n band) (next p channels)
-  where
-    next : (p m : ℕ) → p * m * 4 + m * 4 ≡ (p + 1) * m * 4
-    next p m = omega arith
-
-    less : (p m l : ℕ) → (p + 1) * m * 4 ≤ l → p * m * 4 ≤ l
-    less p m l h = omega arith

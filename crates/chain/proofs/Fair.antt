@@ -7,7 +7,8 @@ use lib.Dec.{T}
 use lib.IntN.{ℤ}
 use Rattle.exact.specs.Fraction.{Fraction, frac, _+F_, _*F_, _/F_, absF}
 use Rattle.exact.specs.Loop.{upTo}
-use Rattle.exact.specs.Sums.{askedF, powF}
+use Rattle.exact.specs.Power.{powF}
+use Rattle.exact.specs.Sums.{askedF}
 use Rattle.exact.specs.Vector.{Vector, at}
 use Rattle.exact.proofs.Booleans.{both-pass}
 use Rattle.mappings.specs.declared.mapping.Fitted.{Fitted}

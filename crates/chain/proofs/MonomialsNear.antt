@@ -1,6 +1,6 @@
 -- The rounded monomials and the exact ones are two lists made in step, so that each rounded one is its exact one but
 -- for few roundings. Assumes nothing.
-use mathlib.Core.Path.{_≡_, refl, ap, subst}
+use mathlib.Core.Path.{_≡_, refl, ap}
 use mathlib.Core.Bool.{Bool, true, false, cond}
 use mathlib.Core.List.{List, [], _∷_, _++_}
 use Prim.Native.Nat.{ℕ, zero, suc, _+_, _-_, _≤_, _<_, min}
@@ -9,13 +9,13 @@ use native.Mathlib.Omega.{arith}
 use lib.Dec.{eqb, lit≤}
 use lib.ListN.{length, getD}
 use lib.Ieee.{Float}
-use Rattle.exact.specs.Double.{_⊗_}
+use Rattle.exact.specs.Double.{_⊗_, one}
 use Rattle.exact.specs.Loop.{upTo}
 use Rattle.exact.specs.Fraction.{Fraction, frac, _*F_}
-use Rattle.exact.specs.Sums.{PixelCoordinate, Relative, raised, powF}
+use Rattle.exact.specs.Power.{power, powF}
+use Rattle.exact.specs.Sums.{PixelCoordinate, Relative}
 use Rattle.exact.proofs.Relative.{relative-one, relative-more}
 use Rattle.exact.proofs.Powers.{coordinate-relative, monomial-relative, product-relative}
-use Rattle.number.specs.Power.{one, power}
 use Rattle.exact.specs.Vector.{Vector, at}
 use Rattle.mappings.specs.Monomials.{push, ofDegree, monomials}
 use Rattle.mappings.proofs.LoopLaws.{upTo-both}
@@ -45,22 +45,9 @@ alike-push : {ms : Vector} {Ms : List Fraction} {a : Float} {M : Fraction} → A
 alike-push none q = more q none
 alike-push (more r l) q = more r (alike-push l q)
 
--- ---- powers by either name
-raised-power : (x : Float) (n : ℕ) → raised x n ≡ power x n
-unfolding raised power
-raised-power x zero = refl
-raised-power x (suc zero) = refl
-raised-power x (suc (suc zero)) = refl
-raised-power x (suc (suc (suc zero))) = refl
-raised-power x (suc (suc (suc (suc zero)))) = refl
-raised-power x (suc (suc (suc (suc (suc n))))) = refl
-
 module _ {x y : Float} {X Y : Fraction} (c : PixelCoordinate x X) (d : PixelCoordinate y Y) where
   power-rounded : (i j : ℕ) → i + j ≤ 5 → Rounded (power x i ⊗ power y j) (powF X i *F powF Y j)
-  power-rounded i j h =
-      subst (λ (a : Float). Rounded (a ⊗ power y j) (powF X i *F powF Y j)) (raised-power x i)
-      (subst (λ (b : Float). Rounded (raised x i ⊗ b) (powF X i *F powF Y j)) (raised-power y j)
-      (record { degree = i + j; near = monomial-relative c d i j h }))
+  power-rounded i j h = record { degree = i + j; near = monomial-relative c d i j h }
 
   alike-degree : (total : ℕ) (ms : Vector) (Ms : List Fraction) → total ≤ 5 → Alike ms Ms
       → Alike (ofDegree x y total ms) (ofDegreeF X Y total Ms)

@@ -7,7 +7,7 @@ use Rattle.endian.specs.Bytes as Bytes
 use Rattle.number.specs.Floor as Floor
 use Rattle.number.specs.Magnitude as Magnitude
 use Rattle.number.specs.Narrow as Narrow
-use Rattle.number.specs.Power as Power
+use Rattle.exact.specs.Power as Power
 use Rattle.arguments.specs.Method as Method
 use Rattle.arguments.specs.Order as Order
 use Rattle.arguments.specs.Refusal as Arguments

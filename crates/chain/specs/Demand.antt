@@ -8,7 +8,7 @@ use lib.Dec.{T}
 use lib.ListN.{length}
 use lib.Ieee.{Float}
 use lib.Ieee.Scale.{finite}
-use Rattle.exact.specs.Fraction.{frac, value, Within, Unit01}
+use Rattle.exact.specs.Fraction.{Fraction, frac, value, Within, Unit01}
 use Rattle.exact.specs.Each.{Each}
 use Rattle.exact.specs.Sums.{askedF}
 use Rattle.endian.specs.Bytes.{sampleAt}
@@ -72,11 +72,15 @@ Lent w = w .lent ≡ w .chain
 abbrev pub sampleOf : Image → ℕ → ℕ → ℕ → Float
 sampleOf p i j k = sampleAt (p .bytes) (place (p .width) (p .channels) i j k)
 
+-- the error that n warps may pile up
+abbrev pub allowedError : ℕ → Fraction
+allowedError n = frac n 524288
+
 -- the sample of channel k at column i and row j: a number from 0 to 1, and at most n/524,288 from the exact one at its
 -- place
 pub record NearSample (p : Image) (q : ExactImage) (n i j k : ℕ) : Type 0 where
   pub is : InUnit (sampleOf p i j k)
-  pub near : Within (value (sampleOf p i j k)) (q .sample i j k) (frac n 524288)
+  pub near : Within (value (sampleOf p i j k)) (q .sample i j k) (allowedError n)
 
 -- the size and channels of the exact picture, and so at every sample; every alpha is 1
 pub record Near (p : Image) (q : ExactImage) (n : ℕ) : Type 0 where

@@ -9,7 +9,8 @@ use lib.Dec.{eqb}
 use lib.Ieee.{Float}
 use Rattle.exact.specs.Fraction.{Fraction, frac, value, _*F_, _/F_}
 use Rattle.exact.specs.Loop.{upTo}
-use Rattle.exact.specs.Sums.{linearF, summedF, powF}
+use Rattle.exact.specs.Power.{powF}
+use Rattle.exact.specs.Sums.{linearF, summedF}
 use Rattle.exact.specs.Vector.{Vector, at}
 use Rattle.inverse.specs.Polynomial.{ofU, ofV}
 

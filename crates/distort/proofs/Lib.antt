@@ -2,7 +2,6 @@
 pub mod AcceptedLaws
 pub mod BandLaws
 pub mod BandSamples
-pub mod ByteLaws
 pub mod CallLaws
 pub mod DistortLaws
 pub mod JobLaws

@@ -3,6 +3,7 @@
 ghost use mathlib.Core.Path.{_≡_};
 ghost use Prim.Native.Nat.{_≤_};
 ghost use lib.IntN.{natAbs};
+ghost use Rattle.exact.specs.Limits.{largestOffset, largestSide};
 ghost use Rattle.picture.specs.Pixel.{Shaped, Channels};
 ghost use Rattle.band.specs.Band.{sourced, framed};
 ghost use Rattle.window.specs.Window as Windows;
@@ -41,8 +42,8 @@ fn in_window(
 ) -> Answer
     requires { ⌜ Shaped (now picture) shape ⌝ }
     requires { ⌜ Channels (out .channels) ⌝ }
-    requires { ⌜ (out .width ≤ 4096) × (out .height ≤ 4096) ⌝ }
-    requires { ⌜ (natAbs (frame .x) ≤ 1048576) × (natAbs (frame .y) ≤ 1048576) ⌝ }
+    requires { ⌜ (out .width ≤ largestSide) × (out .height ≤ largestSide) ⌝ }
+    requires { ⌜ (natAbs (frame .x) ≤ largestOffset) × (natAbs (frame .y) ≤ largestOffset) ⌝ }
     ensures { λ r.
         ⌜ (r, now (band .exit)) ≡ inWindow (sourced (now (picture .entry)) shape look)
         (framed (now (coef .entry)) frame) out rows (now (band .entry)) ⌝ }

@@ -4,6 +4,7 @@ ghost use mathlib.Core.Path.{_≡_};
 ghost use mathlib.Core.Bool.{not};
 ghost use Prim.Native.Nat.{_+_, _*_, _≤_};
 ghost use lib.Dec.{eqb, ltb};
+ghost use Rattle.exact.specs.Limits.{largestSide};
 ghost use Rattle.distort.specs.Refusal as Refusal;
 use picture::colour::Rgba;
 use policies::policy::TRANSPARENT;
@@ -34,7 +35,7 @@ pub fn bad_rows(out_height: u64, first_row: u64, rows: u64) -> bool
 
 // 11, tray.
 pub fn bad_tray(length: usize, rows: u64, out_width: u64, out_channels: u64) -> bool
-    requires { ⌜ (rows ≤ 4096) × ((«out_width» ≤ 4096) × («out_channels» ≤ 4)) ⌝ }
+    requires { ⌜ (rows ≤ largestSide) × ((«out_width» ≤ largestSide) × («out_channels» ≤ 4)) ⌝ }
     ensures { λ r. ⌜ r ≡ not (eqb length (rows * «out_width» * «out_channels» * 4)) ⌝ }
 {
     length as u64 != rows * out_width * out_channels * 4

@@ -67,14 +67,7 @@ pub fn store_i64(s: &mut [u8], at: usize, n: i64)
     store_u64(s, at, pattern::bits_of_i64(n));
 }
 
-pub fn f32_at(s: &[u8], at: usize) -> f32
-    requires { ⌜ at + 4 ≤ length (now s) ⌝ }
-    ensures { λ r. ⌜ r ≡ f32At (now (s .entry)) at ⌝ }
-{
-    pattern::f32_of_bits(u32_at(s, at))
-}
-
-// The same where the pattern is known to be no NaN's: no test.
+// The f32 that four bytes are, where they are known to be no NaN's: no test.
 pub fn f32_plain_at(s: &[u8], at: usize) -> f32
     requires { ⌜ at + 4 ≤ length (now s) ⌝ }
     requires { ⌜ plainAt (now s) at ⌝ }

@@ -1,8 +1,7 @@
 -- Bounds as closed fractions: a bound b / d that is a power of two and an error e / g are checked against the format's
 -- unit by one computed test, so that a caller writes numbers and `tt`. Provides: `rounds-bound`, the law for both
--- formats and every power of two; `rounds-unit` (what lies from 0 to 1 rounds so); and examples: `within64-14`,
--- `within32-0`, `third` (1 / 3 in f32), `halfway`, `met` (the bound is reached), `one-third` (1 / -3 in f64). Assumes
--- nothing.
+-- formats and every power of two; `rounds-unit` (what lies from 0 to 1 rounds so); and examples: `within32-0`, `third`
+-- (1 / 3 in f32), `halfway`, `met` (the bound is reached), `one-third` (1 / -3 in f64). Assumes nothing.
 use mathlib.Core.Path.{_≡_, refl, sym, ap, subst}
 use mathlib.Core.Bool.{Bool, true, false, _&&_}
 use Prim.Native.Nat.{ℕ, _+_, _-_, _*_, _^_, _≤_, _<_}
@@ -71,10 +70,6 @@ rounds-unit {f} {r} {X} R h =
     (t, (rounds-nonneg R t (h .0), rounds-at-most R one (one-fits f) tt t (h .1)))
 
 -- ---- examples
-pub within64-14 : {r : Float} {X : Fraction} → Rounds binary64 r X → absF X ≤F frac 16384 1
-    → Close r X (frac 1 (2 ^ 40)) (frac 16384 1)
-within64-14 R h = rounds-bound R 1088 16384 1 1 (2 ^ 40) tt h
-
 pub within32-0 : {r : Float} {X : Fraction} → Rounds binary32 r X → absF X ≤F frac 1 1
     → Close r X (frac 1 (2 ^ 25)) (frac 1 1)
 within32-0 R h = rounds-bound R 149 1 1 1 (2 ^ 25) tt h

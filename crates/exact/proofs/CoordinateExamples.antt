@@ -10,19 +10,8 @@ use Rattle.exact.specs.Fraction.{Fraction, frac, value, _≤F_, _≈_, _
 use Rattle.exact.specs.Rounds.{Close}
 use Rattle.exact.specs.Double.{_⊗_, _⊘_}
 use Rattle.exact.specs.Loop.{upTo, turns}
-use Rattle.exact.specs.Sums.{
-  asked,
-  askedF,
-  linear,
-  linearF,
-  summed,
-  summedF,
-  raised,
-  powF,
-  PixelCoordinate,
-  Linear,
-  Term,
-}
+use Rattle.exact.specs.Power.{power, powF}
+use Rattle.exact.specs.Sums.{asked, askedF, linear, linearF, summed, summedF, PixelCoordinate, Linear, Term}
 use Rattle.exact.proofs.Pixels.{asked-coordinate}
 use Rattle.exact.proofs.Powers.{term-one, term-x, term-y, term-xy, term-monomial}
 use Rattle.exact.proofs.Perspective.{perspective-close}
@@ -106,7 +95,7 @@ monomial zero = ofBits binary64 0x3ff0_0000_0000_0000
 monomial (suc zero) = x
 monomial (suc (suc zero)) = y
 monomial (suc (suc (suc zero))) = x ⊗ y
-monomial (suc (suc (suc (suc n)))) = raised x 3 ⊗ raised y 2
+monomial (suc (suc (suc (suc n)))) = power x 3 ⊗ power y 2
 
 abbrev monomialF : ℕ → Fraction
 monomialF zero = frac 1 1

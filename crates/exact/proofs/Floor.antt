@@ -1,8 +1,8 @@
 -- The floor of a fraction: the one whole number k with k ≤ x < k + 1. The definition divides naturals, so both halves
 -- are the laws of that division; that k is the only one follows since k < j + 1 and j < k + 1 leave no other. Provides:
 -- `plusℤ`, `minusℤ`, `at-whole` (a whole number at a scale), `whole-next`; `floor-le`, `floor-lt`, `floor-only`,
--- `floor-same`, `floor-mono`, `floor-whole`; `part-unit`, `part-lt`, `part-add` (x is its floor and its part),
--- `split-only` (x = k + t with 0 ≤ t < 1 is that split). Assumes nothing.
+-- `floor-same`, `floor-whole`; `part-unit`, `part-lt`, `part-add` (x is its floor and its part), `split-only` (x = k +
+-- t with 0 ≤ t < 1 is that split). Assumes nothing.
 use mathlib.Core.Path.{_≡_, refl, sym, ap, subst}
 use mathlib.Core.List.{[], _∷_}
 use mathlib.Core.Bool.{Bool, true, false, not, cond}
@@ -14,7 +14,7 @@ use lib.IntN.{ℤ, pos, negsuc, negℤ, sucℤ}
 use Rattle.exact.specs.Fraction.{Fraction, over, frac, whole, _≤F_, _<F_, _≈_, _+F_, _-F_, Unit01}
 use Rattle.exact.specs.Surface.{floorF, partF}
 use Rattle.exact.proofs.Scale.{At, at-le, le-at, at-lt, lt-at, at-eq, eq-at, at-add, at-sub, over-pos, common}
-use Rattle.exact.proofs.Near.{le-refl, le-trans, lt-le, eq-le}
+use Rattle.exact.proofs.Near.{le-refl, lt-le, eq-le}
 use Rattle.exact.proofs.Products.{eq-refl, back, at-zero, at-one, le-same, le-lt-trans}
 
 -- ---- whole numbers: plusℤ k - minusℤ k
@@ -100,12 +100,6 @@ floor-only x k h l =
 pub floor-same : {x y : Fraction} → x ≈ y → floorF x ≡ floorF y
 floor-same {x} {y} h = floor-only x (floorF y) (le-same (eq-refl (whole (floorF y))) (back h) (floor-le y))
     (le-lt-trans (eq-le x y h) (floor-lt y))
-
-pub floor-mono : {x y : Fraction} → x ≤F y → whole (floorF x) ≤F whole (floorF y)
-floor-mono {x} {y} h =
-    at-le 1 (zero-lt-suc 0) (at-whole 1 (floorF x)) (at-whole 1 (floorF y))
-    (let a = within-one (floorF x) (floorF y)
-    (le-lt-trans (le-trans (whole (floorF x)) x y (floor-le x) h) (floor-lt y)) in omega arith)
 
 pub floor-whole : (k : ℤ) → floorF (whole k) ≡ k
 floor-whole k =

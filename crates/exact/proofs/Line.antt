@@ -1,7 +1,7 @@
 -- The line through values at whole numbers. It may be evaluated in any cell that x touches, at a border in either,
 -- since both mixes are the border's value there. So it moves by at most |x - x'|: within a cell the mix does; over one
 -- border go through its value; further apart |x - x'| is above 1, and both values are from 0 to 1. Provides:
--- `lin-unit`, `lin-near`, `lin-like`, `lin-eval`, `lin-same`, `lin-whole`, `lin-move`. Assumes nothing.
+-- `lin-unit`, `lin-near`, `lin-eval`, `lin-move`. Assumes nothing.
 use mathlib.Core.Path.{subst}
 use mathlib.Core.List.{[], _∷_}
 use mathlib.Core.Logic.{⊎-elim}
@@ -25,7 +25,7 @@ use Rattle.exact.proofs.Near.{
 }
 use Rattle.exact.proofs.Products.{eq-refl, _⨟_, back, at-zero, at-one, lt-or-le, add-zero, unit-zero}
 use Rattle.exact.proofs.NearProducts.{within-like, within-unit}
-use Rattle.exact.proofs.Floor.{whole-next, floor-le, floor-lt, part-unit, part-add, split-only}
+use Rattle.exact.proofs.Floor.{whole-next, floor-le, floor-lt, part-unit, split-only}
 use Rattle.exact.proofs.Mix.{mix-same, mix-zero, mix-one, mix-unit, mix-near, mix-slope}
 
 pub lin-unit : (a : ℤ → Fraction) (x : Fraction) → ((k : ℤ) → Unit01 (a k)) → Unit01 (lin a x)
@@ -37,11 +37,6 @@ unfolding lin
 lin-near a b x e h =
     mix-near (partF x) (part-unit x) (a (floorF x)) (b (floorF x)) (a (sucℤ (floorF x))) (b (sucℤ (floorF x))) e
     (h (floorF x)) (h (sucℤ (floorF x)))
-
--- two families with equal values
-pub lin-like : (a b : ℤ → Fraction) (x : Fraction) → ((k : ℤ) → a k ≈ b k) → lin a x ≈ lin b x
-unfolding lin
-lin-like a b x h = mix-same (eq-refl (partF x)) (h (floorF x)) (h (sucℤ (floorF x)))
 
 module _ (a : ℤ → Fraction) where
   -- t below 1: k is the floor and t the part
@@ -66,13 +61,6 @@ module _ (a : ℤ → Fraction) where
           ⨟ mix-zero (a (sucℤ k)) (a (sucℤ (sucℤ k)))
           ⨟ back (mix-one (a k) (a (sucℤ k)))
           ⨟ mix-same (back e) (eq-refl (a k)) (eq-refl (a (sucℤ k)))
-
-  pub lin-same : {x y : Fraction} → x ≈ y → lin a x ≈ lin a y
-  lin-same {x} {y} h = lin-eval x (partF y) (floorF y) (part-unit y) (h ⨟ part-add y) ⨟ back
-      (lin-eval y (partF y) (floorF y) (part-unit y) (part-add y))
-
-  pub lin-whole : (k : ℤ) → lin a (whole k) ≈ a k
-  lin-whole k = lin-eval (whole k) (frac 0 1) k unit-zero (back (add-zero (whole k))) ⨟ mix-zero (a k) (a (sucℤ k))
 
   -- ---- how far it moves, for values from 0 to 1
   module _ (u : (k : ℤ) → Unit01 (a k)) where

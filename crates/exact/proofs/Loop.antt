@@ -118,10 +118,3 @@ module _ {A : Type 0} (step : ℕ → A → A) (hi : ℕ) (x : A) where
 
   pub downTo-last : (k n : ℕ) {y : A} → k ≤ n → n ≤ k → y ≡ downTo step k hi x → y ≡ downTo step n hi x
   downTo-last k n a b e = e ∙ ap (λ (j : ℕ). downTo step j hi x) (le-antisymm a b)
-
-  pub downTo-keep : (P : A → Type 0) (lo : ℕ) → lo ≤ hi → ((j : ℕ) (y : A) → lo ≤ j → j < hi → P y → P (step j y))
-      → P x → P (downTo step lo hi x)
-  unfolding downTo turns
-  downTo-keep P lo le h p =
-      turns-keep (λ (n : ℕ). step (hi - 1 - n)) P 0 (hi - lo) x
-      (λ j y a b. h (hi - 1 - j) y (omega arith) (omega arith)) p

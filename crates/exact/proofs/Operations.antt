@@ -1,9 +1,9 @@
 -- Each operation on finite floats is the exact fractions' own operation, rounded once: the library hands `round` two
 -- naturals and a sign, which are the exact result at the scale of both denominators. So a chain of operations goes from
 -- record to record and no float is spelled out. Provides: `add-rounds`, `sub-rounds`, `mul-rounds`, `div-rounds` (a
--- divisor of either sign), `int-rounds`, `int-value`; `add-close`, `sub-close`, `mul-close`, `div-close` (finite,
--- within half an ulp, and of bounded size, from a power of two that bounds the exact result). The comparisons are in
--- Signed. Assumes nothing.
+-- divisor of either sign), `int-value`; `add-close`, `sub-close`, `mul-close`, `div-close` (finite, within half an ulp,
+-- and of bounded size, from a power of two that bounds the exact result). The comparisons are in Signed. Assumes
+-- nothing.
 use mathlib.Core.Path.{_≡_, refl, ap, _∙_, subst}
 use mathlib.Core.Bool.{Bool, true, false, not, cond}
 use Prim.Native.Nat.{ℕ, suc, _+_, _-_, _*_, _^_, _≤_, _<_}
@@ -58,7 +58,7 @@ use Rattle.exact.proofs.Products.{at-zero}
 use Rattle.exact.proofs.Signed.{has-value, has-finite, finite-both, neg-value, neg-finite}
 use Rattle.exact.proofs.Magnitude.{Sized, sized-signed, sized-more, sized-mul, abs-sized}
 use Rattle.exact.proofs.Quotients.{at-div, at-div-neg}
-use Rattle.exact.proofs.Rounds.{rounds-self, rounds-along, rounds-within}
+use Rattle.exact.proofs.Rounds.{rounds-along, rounds-within}
 
 -- ---- what `round` is handed, against the exact result at its scale
 of-round : (f : Format) (s : Bool) (a c : ℕ) → 0 < c → {Z : Fraction} (p n : ℕ) → At c Z p n
@@ -161,11 +161,6 @@ div-rounds f = finite-both (λ x y. frac 0 1 <F absF (value y) → Rounds f (div
         (left s m e d) (right t n d e)
 
 -- ---- an integer as a float, exact up to 2 ^ prec
-pub int-rounds : (f : Format) (z : ℤ) → Rounds f (ofInt f z) (whole z)
-unfolding ofInt
-int-rounds f (pos n) = rounds-self f false n 1 (zero-lt-suc 0)
-int-rounds f (negsuc n) = rounds-self f true (suc n) 1 (zero-lt-suc 0)
-
 pub int-value : (f : Format) (z : ℤ) → T (inFloat f z) → T (finite (ofInt f z)) × (value (ofInt f z) ≈ whole z)
 unfolding ofInt inFloat
 int-value f (pos n) t = let v = round-whole f false n (leb→le n (2 ^ prec f) t) in

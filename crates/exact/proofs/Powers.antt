@@ -1,7 +1,7 @@
 -- Powers, monomials and terms of a polynomial at a coordinate from 1/2 to 2 ^ 21 in size: each product is one rounding
 -- more, so a monomial of degree up to 5 is exact but for a factor within 10 2 ^ -53 of 1; and a coefficient of any size
 -- changes nothing about that, so a term of size up to 16,384 is near. Provides, of a `PixelCoordinate` (specs/Sums):
--- `coordinate-relative`, `raised-relative`, `monomial-relative`, `product-relative` (x y); terms with a coefficient:
+-- `coordinate-relative`, `power-relative`, `monomial-relative`, `product-relative` (x y); terms with a coefficient:
 -- `term`, `term-monomial`, `term-one`, `term-x`, `term-y`, `term-xy`, and `term-close` (within 11 2 ^ -39, at most
 -- 16,385 in size); `close-size`. Assumes nothing.
 use Prim.Native.Nat.{ℕ, zero, suc, _+_, _-_, _*_, _^_, _≤_}
@@ -12,7 +12,8 @@ use lib.Ieee.Scale.{finite}
 use Rattle.exact.specs.Fraction.{Fraction, frac, value, _≤F_, _≈_, _+F_, _*F_, absF, Within}
 use Rattle.exact.specs.Rounds.{Close}
 use Rattle.exact.specs.Double.{_⊗_}
-use Rattle.exact.specs.Sums.{PixelCoordinate, Term, raised, powF, Relative}
+use Rattle.exact.specs.Power.{power, powF}
+use Rattle.exact.specs.Sums.{PixelCoordinate, Term, Relative}
 use Rattle.exact.proofs.Near.{le-refl, le-trans}
 use Rattle.exact.proofs.Products.{eq-refl, _⨟_, back, mul-same, mul-one, mul-assoc}
 use Rattle.exact.proofs.NearProducts.{abs-near}
@@ -46,32 +47,32 @@ module _ (X : Fraction) where
   five = unfold powF in mul-same (eq-refl X) four
 
 module _ {x : Float} {X : Fraction} (c : PixelCoordinate x X) where
-  square : Relative (x ⊗ x) (X *F X) 2 2
-  square = relative-mul (coordinate-relative c) (coordinate-relative c) (lit≤ tt) (lit≤ tt) (lit≤ tt)
+  second : Relative (x ⊗ x) (X *F X) 2 2
+  second = relative-mul (coordinate-relative c) (coordinate-relative c) (lit≤ tt) (lit≤ tt) (lit≤ tt)
 
   fourth : Relative (x ⊗ x ⊗ (x ⊗ x)) (X *F X *F (X *F X)) 6 4
-  fourth = relative-mul square square (lit≤ tt) (lit≤ tt) (lit≤ tt)
+  fourth = relative-mul second second (lit≤ tt) (lit≤ tt) (lit≤ tt)
 
-  pub raised-relative : (i : ℕ) → i ≤ 5 → Relative (raised x i) (powF X i) (2 * i - 2) i
-  unfolding raised powF
-  raised-relative zero h = relative-one
-  raised-relative (suc zero) h = relative-along (coordinate-relative c) (back (mul-one X))
-  raised-relative (suc (suc zero)) h = relative-along square (two X)
-  raised-relative (suc (suc (suc zero))) h =
-      relative-along (relative-mul (coordinate-relative c) square (lit≤ tt) (lit≤ tt) (lit≤ tt)) (three X)
-  raised-relative (suc (suc (suc (suc zero)))) h = relative-along fourth (four X)
-  raised-relative (suc (suc (suc (suc (suc zero))))) h =
+  pub power-relative : (i : ℕ) → i ≤ 5 → Relative (power x i) (powF X i) (2 * i - 2) i
+  unfolding power powF
+  power-relative zero h = relative-one
+  power-relative (suc zero) h = relative-along (coordinate-relative c) (back (mul-one X))
+  power-relative (suc (suc zero)) h = relative-along second (two X)
+  power-relative (suc (suc (suc zero))) h =
+      relative-along (relative-mul (coordinate-relative c) second (lit≤ tt) (lit≤ tt) (lit≤ tt)) (three X)
+  power-relative (suc (suc (suc (suc zero)))) h = relative-along fourth (four X)
+  power-relative (suc (suc (suc (suc (suc zero))))) h =
       relative-along (relative-mul (coordinate-relative c) fourth (lit≤ tt) (lit≤ tt) (lit≤ tt)) (five X)
-  raised-relative (suc (suc (suc (suc (suc (suc n)))))) h = absurd (past n h)
+  power-relative (suc (suc (suc (suc (suc (suc n)))))) h = absurd (past n h)
     where
       past : (n : ℕ) → suc (suc (suc (suc (suc (suc n))))) ≤ 5 → ⊥
       past n h = omega arith
 
 -- ---- monomials: x ^ i y ^ j with i + j up to 5
 module _ {x y : Float} {X Y : Fraction} (c : PixelCoordinate x X) (d : PixelCoordinate y Y) where
-  pub monomial-relative : (i j : ℕ) → i + j ≤ 5 → Relative (raised x i ⊗ raised y j) (powF X i *F powF Y j) 10 (i + j)
+  pub monomial-relative : (i j : ℕ) → i + j ≤ 5 → Relative (power x i ⊗ power y j) (powF X i *F powF Y j) 10 (i + j)
   monomial-relative i j h =
-      relative-more (relative-mul (raised-relative c i (left i j h)) (raised-relative d j (right i j h)) (few i j h)
+      relative-more (relative-mul (power-relative c i (left i j h)) (power-relative d j (right i j h)) (few i j h)
       (few j i (turn i j h)) (less i j h)) 10 (all i j h)
     where
       left : (i j : ℕ) → i + j ≤ 5 → i ≤ 5
@@ -104,7 +105,7 @@ module _ {a : Float} {M : Fraction} {m k : ℕ} (R : Relative a M m k) (few : m 
 module _ {x y : Float} {X Y : Fraction} (p : PixelCoordinate x X) (q : PixelCoordinate y Y) (c : Float)
     (t : T (finite c)) where
   pub term-monomial : (i j : ℕ) → i + j ≤ 5 → absF (powF X i *F powF Y j *F value c) ≤F frac 16384 1
-      → Term (raised x i ⊗ raised y j) (powF X i *F powF Y j) c
+      → Term (power x i ⊗ power y j) (powF X i *F powF Y j) c
   term-monomial i j l h = term (monomial-relative p q i j l) (lit≤ tt) c t h
 
   -- the terms 1, x, y and x y of the order 1.5

@@ -1,17 +1,17 @@
 -- Products of fractions: at one scale a product of fractions is a product of naturals, so each ring law is one omega,
 -- and each law of order is one omega from the rearrangement p a + n b ≤ p b + n a (n ≤ p, a ≤ b). Provides: `eq-refl`,
 -- `_⨟_`, `back` (equality in chains); `at-zero`, `at-one`, `at-count` (at any scale); the ring: `mul-same`, `sub-same`,
--- `mul-comm`, `mul-assoc`, `mul-one`, `one-mul`, `mul-zero`, `mul-add`, `add-mul`, `mul-sub`, `sub-mul`, `sub-neg`,
--- `add-zero`, `add-comm`, `add-assoc`; the order: `lt-or-le`, `lt-le-trans`, `le-lt-trans`, `le-same`, `rearrange`,
--- `mul-le`, `le-mul`, `mul-mono`, `nonneg-mul`, `mul-cancel-le`; from 0 to 1: `unit-zero`, `unit-one`, `unit-same`,
--- `unit-mul`, `unit-rest` (1 - t). Assumes nothing.
+-- `mul-comm`, `mul-assoc`, `mul-one`, `one-mul`, `mul-zero`, `mul-add`, `add-mul`, `mul-sub`, `add-zero`, `add-comm`,
+-- `add-assoc`; the order: `lt-or-le`, `lt-le-trans`, `le-lt-trans`, `le-same`, `rearrange`, `mul-le`, `le-mul`,
+-- `mul-mono`, `nonneg-mul`, `mul-cancel-le`; from 0 to 1: `unit-zero`, `unit-one`, `unit-same`, `unit-mul`, `unit-rest`
+-- (1 - t). Assumes nothing.
 use mathlib.Core.Path.{_≡_, refl, ap, _∙_, subst}
 use mathlib.Core.List.{[], _∷_}
 use mathlib.Core.Logic.{_⊎_, inl, inr, ⊎-elim}
 use Prim.Native.Nat.{ℕ, _+_, _-_, _*_, _≤_, _<_}
 use native.Mathlib.Nat.{mul-le-mul-right, mul-pos, le-of-mul-le-mul-right}
 use native.Mathlib.Omega.{arith}
-use Rattle.exact.specs.Fraction.{Fraction, over, frac, _≤F_, _<F_, _≈_, negF, _+F_, _-F_, _*F_, Unit01}
+use Rattle.exact.specs.Fraction.{Fraction, over, frac, _≤F_, _<F_, _≈_, _+F_, _-F_, _*F_, Unit01}
 use Rattle.exact.proofs.Scale.{
   At,
   at-le,
@@ -100,10 +100,6 @@ module _ (x y : Fraction) where
   add-comm = common (x ∷ y ∷ [])
       (λ D D0 ((_, _, X), ((_, _, Y), _)). at-eq D D0 (at-add X Y) (at-add Y X) (omega arith))
 
-  pub sub-neg : x -F y ≈ x +F negF y
-  unfolding _-F_
-  sub-neg = eq-refl (x +F negF y)
-
 module _ (x y z : Fraction) where
   -- the same parts, one by one
   pub mul-assoc : x *F y *F z ≈ x *F (y *F z)
@@ -139,12 +135,6 @@ module _ (x y z : Fraction) where
       common (x ∷ y ∷ z ∷ [])
       (λ D D0 ((_, _, X), ((_, _, Y), ((_, _, Z), _))).
       at-eq (D * D) (mul-pos D0 D0) (at-mul (at-add X Y) Z) (at-add (at-mul X Z) (at-mul Y Z)) (omega arith))
-
-  pub sub-mul : (x -F y) *F z ≈ x *F z -F y *F z
-  sub-mul =
-      common (x ∷ y ∷ z ∷ [])
-      (λ D D0 ((_, _, X), ((_, _, Y), ((_, _, Z), _))).
-      at-eq (D * D) (mul-pos D0 D0) (at-mul (at-sub X Y) Z) (at-sub (at-mul X Z) (at-mul Y Z)) (omega arith))
 
 -- ---- the order
 pub lt-or-le : (x y : Fraction) → (x <F y) ⊎ (y ≤F x)

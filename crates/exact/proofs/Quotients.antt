@@ -1,7 +1,7 @@
 -- Quotients of fractions: at one scale x / y is (p - n) / (q - m), so that x / y times y is x; the order and the
 -- distances follow by multiplying with a divisor above 0. Provides: `at-div`, `at-div-neg` (the working form);
--- `div-mul-pos`, `div-mul-neg`, `div-mul` (x / y times y is x), `div-le`, `le-of-div-le`, `le-div`, `le-of-le-div`,
--- `div-only`, `div-same`, `within-cancel`, `within-div`. Assumes nothing.
+-- `div-mul-pos`, `div-mul-neg`, `div-mul` (x / y times y is x), `div-le`, `le-div`, `div-only`, `within-cancel`,
+-- `within-div`. Assumes nothing.
 use mathlib.Core.Path.{_≡_, sym, ap, _∙_, subst}
 use mathlib.Core.List.{[], _∷_}
 use mathlib.Core.Logic.{⊎-elim}
@@ -16,7 +16,6 @@ use Rattle.exact.proofs.Scale.{At, lt-at, at-eq, at-more, at-ratio, at-
 use Rattle.exact.proofs.Near.{
   le-refl,
   le-trans,
-  lt-le,
   le-antisym,
   eq-le,
   add-mono,
@@ -33,12 +32,10 @@ use Rattle.exact.proofs.Products.{
   lt-or-le,
   lt-le-trans,
   le-same,
-  mul-same,
   mul-comm,
   mul-zero,
   add-mul,
   mul-le,
-  le-mul,
   mul-cancel-le,
 }
 use Rattle.exact.proofs.NearProducts.{within-like, mul-within, within-nonneg}
@@ -140,23 +137,12 @@ module _ (x y z : Fraction) (y0 : frac 0 1 <F y) where
   pub div-le : x ≤F z *F y → x /F y ≤F z
   div-le h = mul-cancel-le y0 (le-same (back (div-mul-pos x y y0)) (eq-refl (z *F y)) h)
 
-  pub le-of-div-le : x /F y ≤F z → x ≤F z *F y
-  le-of-div-le h = le-same (div-mul-pos x y y0) (eq-refl (z *F y)) (le-mul (lt-le (frac 0 1) y y0) h)
-
   pub le-div : z *F y ≤F x → z ≤F x /F y
   le-div h = mul-cancel-le y0 (le-same (eq-refl (z *F y)) (back (div-mul-pos x y y0)) h)
-
-  pub le-of-le-div : z ≤F x /F y → z *F y ≤F x
-  le-of-le-div h = le-same (eq-refl (z *F y)) (div-mul-pos x y y0) (le-mul (lt-le (frac 0 1) y y0) h)
 
   -- the quotient is the one number that gives x when multiplied by y
   pub div-only : z *F y ≈ x → x /F y ≈ z
   div-only h = le-antisym (x /F y) z (div-le (eq-le x (z *F y) (back h))) (le-div (eq-le (z *F y) x h))
-
-pub div-same : {x x' y y' : Fraction} → frac 0 1 <F y → x ≈ x' → y ≈ y' → x /F y ≈ x' /F y'
-div-same {x} {x'} {y} {y'} y0 h k =
-    div-only x y (x' /F y') y0 (mul-same (eq-refl (x' /F y')) k ⨟ div-mul-pos x' y' (lt-le-trans y0 (eq-le y y' k)) ⨟
-    back h)
 
 -- ---- distances: (u - u') y is (x - x') + u' (y' - y), where u = x / y and u' = x' / y'
 module _ (u u' c b y : Fraction) (b0 : frac 0 1 <F b) (by : b ≤F y) where

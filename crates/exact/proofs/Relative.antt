@@ -1,8 +1,7 @@
 -- Relative errors of products: a float is its exact value times a factor near 1, factors multiply, and each rounding in
 -- the normal range is one factor more. So the errors of powers and monomials count roundings, whatever their size.
 -- Provides, of `Relative r X m k` (specs/Sums): `relative-own` (a coordinate), `relative-one`, `relative-mul`,
--- `relative-more`, `relative-along`; `relative-near` (the distance), `relative-within` (of a product with any other
--- factor). Assumes nothing.
+-- `relative-more`, `relative-along`; `relative-within` (of a product with any other factor). Assumes nothing.
 use mathlib.Core.Path.{_≡_, subst}
 use mathlib.Core.Bool.{false}
 use Prim.Native.Nat.{ℕ, _+_, _*_, _^_, _≤_, _<_}
@@ -69,11 +68,6 @@ module _ {r : Float} {X : Fraction} {m k : ℕ} (R : Relative r X m k) where
     least = R .least;
     most = R .most;
   }
-
-  pub relative-near : Within (value r) X (absF X *F frac m (2 ^ 53))
-  relative-near =
-      within-like (back (R .is)) (mul-one X) (eq-refl (absF X *F frac m (2 ^ 53)))
-      (mul-within (R .factor) (frac 1 1) (frac m (2 ^ 53)) X (absF X) (le-refl (absF X) (absF X)) (R .near))
 
   -- with any other factor c, whose product with X is at most b in size
   pub relative-within : (c b : Fraction) → absF (X *F c) ≤F b → Within (value r *F c) (X *F c) (b *F frac m (2 ^ 53))

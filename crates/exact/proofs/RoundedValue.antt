@@ -1,7 +1,7 @@
 -- The value of a rounded fraction, with the sign asked for: where the result is finite it is `grid` units, a unit being
 -- the format's smallest value. Provides: `round-under`, `round-has` (finite exactly where `grid` is below the overflow,
--- and then its value); `round-le-pow` (powers of two bound the result as they bound the fraction); `round-to-whole` (a
--- fraction whose whole part has the digits that the format keeps). Assumes nothing.
+-- and then its value); `round-to-whole` (a fraction whose whole part has the digits that the format keeps). Assumes
+-- nothing.
 use mathlib.Core.Path.{_≡_, sym, ap, _∙_, subst}
 use Prim.Native.Nat.{ℕ, suc, _+_, _-_, _*_, _^_, _≤_, _<_}
 use native.Mathlib.Nat.{
@@ -21,7 +21,7 @@ use native.Mathlib.Nat.{
 use mathlib.Core.Bool.{Bool, true, false, cond}
 use lib.Dec.{T, ltb, ltb→lt}
 use lib.Pow.{pow-add, pow-pos, pow-lt}
-use lib.Ieee.{Float, inf, Format, prec, emax, low, odd, units, round}
+use lib.Ieee.{Float, inf, Format, prec, low, odd, units, round}
 use lib.Ieee.Exact.{HasValue, units-val}
 use lib.Ieee.Fits.{round-is}
 use lib.Ieee.Nearest.{closest, closest-same}
@@ -29,7 +29,7 @@ use lib.Ieee.Order.{drop, kept}
 use lib.Ieee.Scale.{grid, overflow, finite}
 use Rattle.exact.proofs.Closest.{closest-le}
 use Rattle.exact.proofs.Formats.{prec-pos, whole-room}
-use Rattle.exact.proofs.Ulp.{drop-is, grid-under}
+use Rattle.exact.proofs.Ulp.{drop-is}
 use Rattle.exact.proofs.Value.{rescale}
 
 units-under : (f : Format) (s : Bool) (q k : ℕ) → T (finite (units f s q k)) → q * 2 ^ k < overflow f
@@ -50,13 +50,7 @@ module _ (f : Format) (s : Bool) (a c : ℕ) where
   round-has h =
       subst (λ (z : Float). HasValue z s (grid f a c) (2 ^ low f)) (sym (round-is f s a c))
       (units-val f s (kept (prec f) (a * 2 ^ low f) c) (drop (prec f) (a * 2 ^ low f) c) h)
-
   -- ---- a / c is at most 2 ^ j units, and so is its rounded value
-  pub round-le-pow : (j : ℕ) → 0 < c → a * 2 ^ low f ≤ 2 ^ j * c → j < low f + suc (emax f) → (g : ℕ)
-      × HasValue (round f s a c) s g (2 ^ low f) × (g ≤ 2 ^ j)
-  round-le-pow j C h l =
-      let g : grid f a c ≤ 2 ^ j = grid-under (prec f) (a * 2 ^ low f) c (prec-pos f) C j h in
-      (grid f a c, round-has (lt-of-le-of-lt g (pow-lt l)), g)
 
 -- ---- the whole part of a / c has exactly the digits that the format keeps: all the digits below 1 are dropped, and no
 -- others

@@ -1,12 +1,12 @@
 -- The surface is a line of lines, so its laws are the line's twice: once over the columns, once over the rows.
--- Provides: `surface-unit`, `surface-near`, `surface-move`, `surface-eval`, `surface-same`. Assumes nothing.
+-- Provides: `surface-unit`, `surface-near`, `surface-move`, `surface-eval`. Assumes nothing.
 use lib.IntN.{ℤ, sucℤ}
 use Rattle.exact.specs.Fraction.{Fraction, whole, _≈_, _+F_, Within, Unit01}
 use Rattle.exact.specs.Surface.{mixF, lin, surface}
 use Rattle.exact.proofs.Near.{within-trans}
 use Rattle.exact.proofs.Products.{eq-refl, _⨟_}
 use Rattle.exact.proofs.Mix.{mix-same}
-use Rattle.exact.proofs.Line.{lin-unit, lin-near, lin-like, lin-eval, lin-same, lin-move}
+use Rattle.exact.proofs.Line.{lin-unit, lin-near, lin-eval, lin-move}
 
 -- the values of row j
 abbrev row : (ℤ → ℤ → Fraction) → ℤ → ℤ → Fraction
@@ -26,11 +26,6 @@ unfolding surface
 surface-near a b x y e h = lin-near (along a x) (along b x) y e (λ j. lin-near (row a j) (row b j) x e (λ i. h i j))
 
 module _ (a : ℤ → ℤ → Fraction) where
-  pub surface-same : {x x' y y' : Fraction} → x ≈ x' → y ≈ y' → surface a x y ≈ surface a x' y'
-  unfolding surface
-  surface-same {x} {x'} {y} {y'} h k =
-      lin-like (along a x) (along a x') y (λ j. lin-same (row a j) h) ⨟ lin-same (along a x') k
-
   -- in any cell that the point touches: the fractions may be 1
   pub surface-eval : (x y t s : Fraction) (k l : ℤ) → Unit01 t → Unit01 s → x ≈ whole k +F t → y ≈ whole l +F s
       → surface a x y ≈ mixF s (mixF t (a k l) (a (sucℤ k) l)) (mixF t (a k (sucℤ l)) (a (sucℤ k) (sucℤ l)))

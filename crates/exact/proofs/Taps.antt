@@ -1,7 +1,6 @@
--- Blends along two axes and three, as mixes and as sums of taps; and the surface as such a blend. The law that the
--- callers use is `taps-near`: however the point was put into a cell, with a fraction of 1 too, four taps near the
--- surface's values give a blend near the surface. Provides: `bilinear`, `trilinear`, `four-taps`, `surface-blend`,
--- `taps-near`. Assumes nothing.
+-- Blends along two axes, as mixes and as sums of taps; and the surface as such a blend. The law that the callers use is
+-- `taps-near`: however the point was put into a cell, with a fraction of 1 too, four taps near the surface's values
+-- give a blend near the surface. Provides: `bilinear`, `four-taps`, `surface-blend`, `taps-near`. Assumes nothing.
 use mathlib.Core.Path.{refl}
 use mathlib.Core.List.{List, [], _∷_}
 use mathlib.Core.Bool.{Bool, false, cond, _&&_}
@@ -27,14 +26,6 @@ unfolding foldedF
 bilinear t s a b c d =
     blend-fold t (s ∷ []) (a ∷ b ∷ c ∷ d ∷ []) ⨟ blend-fold s [] (mixF t a b ∷ mixF t c d ∷ []) ⨟ blend-one
     (mixF s (mixF t a b) (mixF t c d))
-
-pub trilinear : (t s r a b c d a' b' c' d' : Fraction)
-    → blendF (t ∷ s ∷ r ∷ []) (a ∷ b ∷ c ∷ d ∷ a' ∷ b' ∷ c' ∷ d' ∷ []) ≈ mixF r (mixF s (mixF t a b) (mixF t c d))
-    (mixF s (mixF t a' b') (mixF t c' d'))
-unfolding foldedF
-trilinear t s r a b c d a' b' c' d' =
-    blend-fold t (s ∷ r ∷ []) (a ∷ b ∷ c ∷ d ∷ a' ∷ b' ∷ c' ∷ d' ∷ []) ⨟ bilinear s r (mixF t a b) (mixF t c d)
-    (mixF t a' b') (mixF t c' d')
 
 -- the sum of four taps, from the left
 pub four-taps : (t s a b c d : Fraction)

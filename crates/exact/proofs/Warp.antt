@@ -3,8 +3,8 @@
 -- point is near the exact one, in whatever cell it was put (`taps-near`). The errors add up. Provides: `position` (a
 -- coordinate less 0.5, in its cell); `surface-taps` (the surface at a point is the sum of the four taps around it times
 -- their weights), `exact-unit`, `exact-opaque`; `warp-taps` (from four taps, 20 units), `warp-near` (from a picture, 20
--- units), `warp-alpha`; `to-demand`, `warp-demand` (in the words of specification 11.4). Assumes nothing.
-use mathlib.Core.Path.{_≡_, refl}
+-- units); `to-demand`, `warp-demand` (in the words of specification 11.4). Assumes nothing.
+use mathlib.Core.Path.{refl}
 use mathlib.Core.List.{[], _∷_}
 use Prim.Native.Nat.{_^_}
 use native.Mathlib.Omega.{arith}
@@ -17,7 +17,7 @@ use Rattle.exact.specs.Rounds.{Rounds}
 use Rattle.exact.specs.Surface.{floorF, partF, surface}
 use Rattle.exact.specs.Blend.{blendF}
 use Rattle.exact.specs.Double.{_⊖_}
-use Rattle.exact.specs.Weighted.{one, e00, e10, e01, e11, colour, alpha, Sample, blendError}
+use Rattle.exact.specs.Weighted.{e00, e10, e01, e11, colour, Sample, blendError}
 use Rattle.exact.specs.Warp.{
   half,
   cellError,
@@ -49,7 +49,7 @@ use Rattle.exact.proofs.Bounds.{rounds-bound}
 use Rattle.exact.proofs.Steps.{abs-sub}
 use Rattle.exact.proofs.Taps.{four-taps, surface-blend, taps-near}
 use Rattle.exact.proofs.Samples.{sample-more, sample-along}
-use Rattle.exact.proofs.Weighted.{total-one, alpha-one, colour-near}
+use Rattle.exact.proofs.Weighted.{total-one, colour-near}
 
 -- ---- the position: a coordinate less 0.5, put into a cell
 half-number : T (finite half)
@@ -159,9 +159,6 @@ module _ (Q : ℤ → ℤ → Fraction) (values : (i j : ℤ) → Unit01 (Q i j)
 
         s : Sample r here blendError
         s = colour-near tx ty (px .fraction) (py .fraction) a b c d (sa .is) (sb .is) (sc .is) (sd .is)
-
-    pub warp-alpha : alpha tx ty ≡ one
-    warp-alpha = alpha-one tx ty (px .fraction) (py .fraction)
 
     -- ---- from a picture P near Q
     module _ (P : ℤ → ℤ → Float) (near : (i j : ℤ) → Sample (P i j) (Q i j) e) where

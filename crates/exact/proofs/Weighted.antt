@@ -1,8 +1,8 @@
 -- The f32 blend of four opaque taps against the exact one: the products' sum is within 9 units of the exact blend and
 -- the weights' sum within 7 of 1, so the quotient is within 17. It is from 0 to 1 since the products' sum is at most
--- the weights'; and alpha is 1 since both sums of weights are the same float. Provides: `four-turns` (a loop over four
--- taps), `one-is`, `total-one` (the exact weights), `weight-sum` (finite, above 0, near 1, above 1e-9), `alpha-sum`,
--- `alpha-one`, `colour-near`. Assumes nothing.
+-- the weights'; and alpha is 1 since both sums of weights are the same float. Provides: `one-is`, `total-one` (the
+-- exact weights), `weight-sum` (finite, above 0, near 1, above 1e-9), `alpha-sum`, `alpha-one`, `colour-near`. Assumes
+-- nothing.
 use mathlib.Core.Path.{_≡_, refl, sym, ap, _∙_, subst}
 use mathlib.Core.List.{[], _∷_}
 use mathlib.Core.Bool.{false}
@@ -15,8 +15,7 @@ use lib.Ieee.{Float, fin, ofBits, lt}
 use lib.Ieee.Scale.{finite}
 use Rattle.exact.specs.Fraction.{Fraction, frac, value, _≤F_, _<F_, _≈_, _+F_, _*F_, Within, Unit01}
 use Rattle.exact.specs.Blend.{blendF}
-use Rattle.exact.specs.Loop.{upTo}
-use Rattle.exact.specs.Single.{_⊕_, _⊗_, _⊘_, zero}
+use Rattle.exact.specs.Single.{_⊗_, _⊘_}
 use Rattle.exact.specs.Weighted.{
   one,
   least,
@@ -56,11 +55,6 @@ use Rattle.exact.proofs.Samples.{
 use Rattle.exact.proofs.Ones.{times-one, over-itself, above-least}
 use Rattle.exact.proofs.FourSum.{Taken, taken, Sums, sums-four}
 use Rattle.exact.proofs.SumQuotient.{sum-near, sum-least, sum-positive, quotient}
-
--- a loop over four taps is the sum written out
-pub four-turns : (f : ℕ → Float) → upTo (λ (k : ℕ) (acc : Float). acc ⊕ f k) 0 4 zero ≡ fourSum (f 0) (f 1) (f 2) (f 3)
-unfolding upTo
-four-turns f = refl
 
 pub one-is : one ≡ fin false 1 (pos 0)
 unfolding ofBits

@@ -5,6 +5,7 @@ pub mod Each
 pub mod Fraction
 pub mod Limits
 pub mod Loop
+pub mod Power
 pub mod Rounds
 pub mod Single
 pub mod Sums

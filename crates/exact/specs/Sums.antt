@@ -1,12 +1,12 @@
--- Sums in order and powers by repeated squaring, as the source coordinates are worked out: each in floats, rounded
--- operation by operation, and in exact fractions. Assumes nothing.
-use Prim.Native.Nat.{ℕ, zero, suc, _*_, _^_}
+-- Sums in order, as the source coordinates are worked out: each in floats, rounded operation by operation, and in
+-- exact fractions; and what a term of such a sum is. Assumes nothing.
+use Prim.Native.Nat.{ℕ, _*_, _^_}
 use lib.Dec.{T}
 use lib.IntN.{ℤ, pos}
 use lib.Ieee.{Float, binary64, ofInt}
 use lib.Ieee.Scale.{finite}
 use Rattle.exact.specs.Loop.{upTo}
-use Rattle.exact.specs.Double.{_⊕_, _⊗_, half, one}
+use Rattle.exact.specs.Double.{_⊕_, _⊗_, half}
 use Rattle.exact.specs.Fraction.{Fraction, frac, whole, value, _≤F_, _≈_, _+F_, _*F_, absF, Within}
 
 -- t 0 + t 1 + .. + t (n - 1), from z, each sum rounded
@@ -15,20 +15,6 @@ summed z t n = upTo (λ (k : ℕ) (s : Float). s ⊕ t k) 0 n z
 
 abbrev pub summedF : (ℕ → Fraction) → ℕ → Fraction
 summedF t n = upTo (λ (k : ℕ) (s : Fraction). s +F t k) 0 n (frac 0 1)
-
--- x to the exponents 0 to 5, by repeated squaring. One above 5 counts as 5.
-unfoldable pub raised : Float → ℕ → Float
-raised x zero = one
-raised x (suc zero) = x
-raised x (suc (suc zero)) = x ⊗ x
-raised x (suc (suc (suc zero))) = x ⊗ (x ⊗ x)
-raised x (suc (suc (suc (suc zero)))) = x ⊗ x ⊗ (x ⊗ x)
-raised x (suc (suc (suc (suc (suc n))))) = x ⊗ (x ⊗ x ⊗ (x ⊗ x))
-
-unfoldable pub powF : Fraction → ℕ → Fraction
-unfolding _*F_
-powF x zero = frac 1 1
-powF x (suc n) = x *F powF x n
 
 -- r is a number and X times a factor at most m 2 ^ -53 away from 1; it lies from 2 ^ -k to 2 ^ (21 k) in size, as a
 -- product of k coordinates does
@@ -71,10 +57,14 @@ pub record Linear (m n o : Float) (X Y b : Fraction) : Type 0 where
   pub term-y : absF (value n *F Y) ≤F b
   pub term-1 : absF (value o) ≤F b
 
+-- how large a term of the sums for u and v may be, and u and v themselves
+abbrev pub largestTerm : Fraction
+largestTerm = frac 16384 1
+
 -- a term of a polynomial: a is the monomial M with few roundings, c the coefficient, and their exact product is at most
--- 16,384 in size
+-- `largestTerm` in size
 pub record Term (a : Float) (M : Fraction) (c : Float) : Type 0 where
   pub degree : ℕ
   pub monomial : Relative a M 10 degree
   pub number : T (finite c)
-  pub size : absF (M *F value c) ≤F frac 16384 1
+  pub size : absF (M *F value c) ≤F largestTerm

@@ -6,6 +6,7 @@ ghost use mathlib.Core.Path.{_≡_};
 ghost use mathlib.Core.Bool.{true};
 ghost use Prim.Native.Nat.{ℕ, _+_, _*_, _≤_, _<_};
 ghost use lib.ListN.{length, getD};
+ghost use Rattle.exact.specs.Limits.{largestSide};
 ghost use Rattle.picture.specs.Pixel.{Picture, Shaped, Channels};
 ghost use Rattle.band.specs.Band.{putPixels};
 ghost use Rattle.fast_colours.specs.Plain.{CellsInside, Fractions, mixedAt, blendAt, Mixable};
@@ -181,7 +182,7 @@ fn store_broad(
 // Whether each of the first n cells has a pixel to its right, as those before column `last` have.
 fn next_columns_inside(columns: &[u32; 64], n: usize, width: u64) -> bool
     requires { ⌜ n ≤ 64 ⌝ }
-    requires { ⌜ width ≤ 4096 ⌝ }
+    requires { ⌜ width ≤ largestSide ⌝ }
     ensures { λ r. ⌜ (r ≡ true → (k : ℕ) → k < n → getD (now (columns .entry)) k 0 + 2 < width) ⌝ }
 {
     let last = side_less(width, 2) as u32;

@@ -5,6 +5,7 @@ ghost use mathlib.Core.Bool.{true};
 ghost use mathlib.Core.List.{[], _∷_};
 ghost use Prim.Native.Nat.{ℕ, _+_, _*_, _≤_, _<_};
 ghost use lib.ListN.{length, getD};
+ghost use Rattle.exact.specs.Limits.{largestSide};
 ghost use Rattle.picture.specs.Pixel.{Picture, Shaped, Channels};
 ghost use Rattle.taps.specs.Interpolation.{Cubic};
 ghost use Rattle.band.specs.Band.{putPixels, InnerOrUntouched};
@@ -126,7 +127,7 @@ fn cells_within(
     ys: &mut [f32; 64],
 ) -> bool
     requires { ⌜ n ≤ 64 ⌝ }
-    requires { ⌜ (shape .width ≤ 4096) × (shape .height ≤ 4096) ⌝ }
+    requires { ⌜ (shape .width ≤ largestSide) × (shape .height ≤ largestSide) ⌝ }
     ensures { λ r.
         ⌜ (r ≡ true → Standing (shape .width) (shape .height) n (now (us .entry)) (now (vs .entry))
         (now (columns .exit)) (now (rows .exit)) (now (xs .exit)) (now (ys .exit))) ⌝ }

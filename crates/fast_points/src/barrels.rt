@@ -6,6 +6,7 @@ ghost use mathlib.Core.Path.{_≡_};
 ghost use Prim.Native.Nat.{_+_, _≤_};
 ghost use lib.ListN.{length};
 ghost use lib.Ieee.{Float};
+ghost use Rattle.exact.specs.Limits.{largestSide};
 ghost use Rattle.number.specs.Root.{root, guess};
 ghost use Rattle.inverse.specs.Barrel.{barrelFrom, barrelInverseFrom};
 ghost use Rattle.fast_points.specs.Points.{PointsOf};
@@ -31,7 +32,7 @@ fn radii_squared(
     ds: &mut [f64; 64],
     ss: &mut [f64; 64],
 )
-    requires { ⌜ (n ≤ 64) × ((first + n ≤ 4096) × ((length (now ds) ≡ 64) × (length (now ss) ≡ 64))) ⌝ }
+    requires { ⌜ (n ≤ 64) × ((first + n ≤ largestSide) × ((length (now ds) ≡ 64) × (length (now ss) ≡ 64))) ⌝ }
     ensures { λ _. ⌜ RadiiSquared (now (coef .entry)) x dy first n (now (ds .exit)) (now (ss .exit)) ⌝ }
 {
     for k in 0..n {
@@ -116,7 +117,7 @@ pub fn barrel_points(
     us: &mut [f64; 64],
     vs: &mut [f64; 64],
 )
-    requires { ⌜ (n ≤ 64) × ((first + n ≤ 4096) × ((length (now us) ≡ 64) × (length (now vs) ≡ 64))) ⌝ }
+    requires { ⌜ (n ≤ 64) × ((first + n ≤ largestSide) × ((length (now us) ≡ 64) × (length (now vs) ≡ 64))) ⌝ }
     ensures { λ _. ⌜ PointsOf (λ (a : Float). barrelBy kind (now (coef .entry)) a y) x first n (now (us .exit))
         (now (vs .exit)) ⌝ }
 {

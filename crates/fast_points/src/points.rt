@@ -7,6 +7,7 @@ ghost use Prim.Native.Nat.{_+_, _≤_, _<_};
 ghost use lib.IntN.{natAbs};
 ghost use lib.ListN.{length};
 ghost use lib.Ieee.{Float};
+ghost use Rattle.exact.specs.Limits.{largestOffset, largestSide};
 ghost use Rattle.inverse.specs.Forward.{bilinearForward};
 ghost use Rattle.inverse.specs.Affine.{affine};
 ghost use Rattle.inverse.specs.Perspective.{perspective};
@@ -40,7 +41,7 @@ fn affine_points(
     us: &mut [f64; 64],
     vs: &mut [f64; 64],
 )
-    requires { ⌜ (n ≤ 64) × ((first + n ≤ 4096) × ((length (now us) ≡ 64) × (length (now vs) ≡ 64))) ⌝ }
+    requires { ⌜ (n ≤ 64) × ((first + n ≤ largestSide) × ((length (now us) ≡ 64) × (length (now vs) ≡ 64))) ⌝ }
     ensures { λ _.
         ⌜ PointsOf (λ (a : Float). affine (now (coef .entry)) a y) x first n (now (us .exit)) (now (vs .exit)) ⌝ }
 {
@@ -60,7 +61,7 @@ fn perspective_points(
     us: &mut [f64; 64],
     vs: &mut [f64; 64],
 )
-    requires { ⌜ (n ≤ 64) × ((first + n ≤ 4096) × ((length (now us) ≡ 64) × (length (now vs) ≡ 64))) ⌝ }
+    requires { ⌜ (n ≤ 64) × ((first + n ≤ largestSide) × ((length (now us) ≡ 64) × (length (now vs) ≡ 64))) ⌝ }
     ensures { λ _. ⌜ PointsOf (λ (a : Float). perspective (now (coef .entry)) a y) x first n (now (us .exit))
         (now (vs .exit)) ⌝ }
 {
@@ -81,7 +82,7 @@ fn polynomial_points(
     us: &mut [f64; 64],
     vs: &mut [f64; 64],
 )
-    requires { ⌜ (n ≤ 64) × ((first + n ≤ 4096) × ((length (now us) ≡ 64) × (length (now vs) ≡ 64))) ⌝ }
+    requires { ⌜ (n ≤ 64) × ((first + n ≤ largestSide) × ((length (now us) ≡ 64) × (length (now vs) ≡ 64))) ⌝ }
     ensures { λ _. ⌜ PointsOf (λ (a : Float). polynomial order (now (coef .entry)) a y) x first n (now (us .exit))
         (now (vs .exit)) ⌝ }
 {
@@ -101,7 +102,7 @@ fn forward_points(
     us: &mut [f64; 64],
     vs: &mut [f64; 64],
 )
-    requires { ⌜ (n ≤ 64) × ((first + n ≤ 4096) × ((length (now us) ≡ 64) × (length (now vs) ≡ 64))) ⌝ }
+    requires { ⌜ (n ≤ 64) × ((first + n ≤ largestSide) × ((length (now us) ≡ 64) × (length (now vs) ≡ 64))) ⌝ }
     ensures { λ _. ⌜ PointsOf (λ (a : Float). bilinearForward (now (coef .entry)) a y) x first n (now (us .exit))
         (now (vs .exit)) ⌝ }
 {
@@ -122,7 +123,7 @@ fn other_points(
     us: &mut [f64; 64],
     vs: &mut [f64; 64],
 )
-    requires { ⌜ (n ≤ 64) × ((first + n ≤ 4096) × ((length (now us) ≡ 64) × (length (now vs) ≡ 64))) ⌝ }
+    requires { ⌜ (n ≤ 64) × ((first + n ≤ largestSide) × ((length (now us) ≡ 64) × (length (now vs) ≡ 64))) ⌝ }
     ensures { λ _.
         ⌜ PointsOf (λ (a : Float). inverse (frame .kind) (frame .order) (frame .count) (now (coef .entry)) a y) x first
         n (now (us .exit)) (now (vs .exit)) ⌝ }
@@ -162,8 +163,8 @@ pub fn points(
     us: &mut [f64; 64],
     vs: &mut [f64; 64],
 )
-    requires { ⌜ (n ≤ 64) × ((first + n ≤ 4096) × (j ≤ 4096)) ⌝ }
-    requires { ⌜ (natAbs (frame .x) ≤ 1048576) × (natAbs (frame .y) ≤ 1048576) ⌝ }
+    requires { ⌜ (n ≤ 64) × ((first + n ≤ largestSide) × (j ≤ largestSide)) ⌝ }
+    requires { ⌜ (natAbs (frame .x) ≤ largestOffset) × (natAbs (frame .y) ≤ largestOffset) ⌝ }
     ensures { λ _. ⌜ Points frame (now (coef .entry)) first j n (now (us .exit)) (now (vs .exit)) ⌝ }
 {
     sized(*us);

@@ -20,7 +20,7 @@ use Rattle.fit.specs.Barrel.{fitBarrel}
 use Rattle.fit.specs.Build.{made, build}
 use Rattle.fit.specs.Fit.{both}
 use Rattle.mappings.specs.Mapping.{fitted, refused, solvedOr8}
-use Rattle.fit.specs.Matrix.{Vector}
+use Rattle.exact.specs.Vector.{Vector}
 use Rattle.fit.specs.Perspective.{fitPerspectiveProjection, fitPerspective}
 use Rattle.fit.specs.Shepards.{fitShepards}
 

@@ -5,8 +5,7 @@ use mathlib.Core.Bool.{cond}
 use mathlib.Core.List.{[], _∷_}
 use lib.Dec.{eqb}
 use lib.Ieee.{neg}
-use Rattle.exact.specs.Double.{_⊖_}
-use Rattle.number.specs.Power.{one}
+use Rattle.exact.specs.Double.{_⊖_, one}
 use Rattle.arguments.specs.Method.{affineTerms}
 use Rattle.linear.specs.declared.invert.AffineInverse.{AffineInverse}
 use Rattle.mappings.specs.declared.mapping.Fitted.{Fitted}

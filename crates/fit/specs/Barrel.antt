@@ -4,9 +4,8 @@ use mathlib.Core.Bool.{cond}
 use mathlib.Core.List.{[], _∷_}
 use lib.Dec.{ltb}
 use lib.Ieee.{Float}
-use Rattle.exact.specs.Double.{_⊕_, _⊖_, _⊘_, two}
+use Rattle.exact.specs.Double.{_⊕_, _⊖_, _⊘_, two, one}
 use Rattle.number.specs.Magnitude.{fmin}
-use Rattle.number.specs.Power.{one}
 use Rattle.mappings.specs.declared.mapping.Fitted.{Fitted}
 use Rattle.mappings.specs.Mapping.{mapping, fitted}
 use Rattle.exact.specs.Vector.{Vector, at}

@@ -3,7 +3,6 @@ pub mod Affine
 pub mod Barrel
 pub mod Build
 pub mod Fit
-pub mod Matrix
 pub mod Orient
 pub mod Perspective
 pub mod Polynomial

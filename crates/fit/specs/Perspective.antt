@@ -4,9 +4,8 @@ use Prim.Native.Nat.{ℕ, _+_}
 use mathlib.Core.List.{[], _∷_}
 use lib.IntN.{pos}
 use lib.Ieee.{Float, binary64, ofInt}
-use Rattle.exact.specs.Double.{_⊕_, _⊗_, _⊘_, two}
+use Rattle.exact.specs.Double.{_⊕_, _⊗_, _⊘_, two, one}
 use Rattle.exact.specs.Loop.{upTo}
-use Rattle.number.specs.Power.{one}
 use Rattle.linear.specs.declared.invert.Inverse.{Inverse}
 use Rattle.mappings.specs.declared.mapping.Fitted.{Fitted}
 use Rattle.mappings.specs.declared.rows.Side.{Side}

@@ -2,9 +2,8 @@
 -- the factor's four, the centre's two and the radius that counts as 1. Specification 7. Assumes nothing.
 use mathlib.Core.Bool.{cond}
 use lib.Ieee.{Float, lt}
-use Rattle.exact.specs.Double.{_⊕_, _⊖_, _⊗_, _⊘_, leastDivisor}
+use Rattle.exact.specs.Double.{_⊕_, _⊖_, _⊗_, _⊘_, leastDivisor, one}
 use Rattle.number.specs.Magnitude.{abs}
-use Rattle.number.specs.Power.{one}
 use Rattle.number.specs.Root.{root}
 use Rattle.exact.specs.Vector.{Vector, at}
 use Rattle.point.specs.declared.point.Point.{Point}

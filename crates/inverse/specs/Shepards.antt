@@ -3,9 +3,8 @@
 use Prim.Native.Nat.{ℕ, _+_, _*_, _/_, min}
 use mathlib.Core.Bool.{cond}
 use lib.Ieee.{Float, lt}
-use Rattle.exact.specs.Double.{_⊕_, _⊖_, _⊗_, _⊘_, leastDivisor}
+use Rattle.exact.specs.Double.{_⊕_, _⊖_, _⊗_, _⊘_, leastDivisor, one}
 use Rattle.exact.specs.Loop.{upTo}
-use Rattle.number.specs.Power.{one}
 use Rattle.exact.specs.Vector.{Vector, at}
 use Rattle.linear.specs.Matrix.{nought}
 use Rattle.point.specs.declared.point.Point.{Point}

@@ -2,5 +2,4 @@
 pub mod EliminateLaws
 pub mod InvertLaws
 pub mod NormalLaws
-pub mod ShapeLaws
 pub mod SolveLaws

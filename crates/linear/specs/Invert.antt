@@ -4,11 +4,10 @@ use mathlib.Core.Bool.{true, false, cond}
 use mathlib.Core.List.{[], _∷_}
 use lib.ListN.{replicate}
 use lib.Ieee.{Float, binary64, ofBits, lt, neg}
-use Rattle.exact.specs.Double.{_⊕_, _⊖_, _⊗_, _⊘_, leastDivisor}
+use Rattle.exact.specs.Double.{_⊕_, _⊖_, _⊗_, _⊘_, leastDivisor, one}
 use Rattle.number.specs.Magnitude.{abs}
 use Rattle.linear.specs.declared.invert.AffineInverse.{AffineInverse}
 use Rattle.linear.specs.declared.invert.Inverse.{Inverse}
-use Rattle.number.specs.Power.{one}
 use Rattle.exact.specs.Vector.{Vector, at}
 use Rattle.linear.specs.Matrix.{nought}
 

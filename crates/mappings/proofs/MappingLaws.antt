@@ -6,10 +6,10 @@ use Prim.Native.Nat.{ℕ, zero, suc, _+_, _-_, _≤_, _<_}
 use native.Mathlib.Nat.{sub-zero, zero-sub, suc-sub-suc}
 use native.Mathlib.Numerals.{add-one}
 use native.Mathlib.Omega.{arith}
-use lib.ListN.{List·getD-append, length, take, drop, set, getD, replicate, length-append, length-replicate}
+use lib.ListN.{length, take, drop, set, getD, replicate, length-append, length-replicate}
 use lib.Seq.{paste, paste-suc, length-paste, length-take-le, take-append-seam, drop-append-add}
 use lib.Ieee.{Float, nan}
-use Rattle.exact.specs.Vector.{Vector, at}
+use Rattle.exact.specs.Vector.{Vector}
 use Rattle.linear.specs.Matrix.{nought}
 use Rattle.mappings.specs.declared.mapping.Mapping.{Mapping}
 use Rattle.mappings.specs.Padded.{padded}
@@ -72,9 +72,3 @@ module _ (kind order n : ℕ) (xs : Vector) (h : n ≤ length xs) {coef : Vector
       (f ∙ ap (λ (l : Vector). paste l n ys n) (e ∙ paste-padded 256 [] xs n h)
       ∙ ap (λ (k : ℕ). paste (padded 256 (take n xs)) k ys n) (sym (length-take-le n xs h))
       ∙ paste-padded 256 (take n xs) ys n g)
-
--- ---- reading a coefficient
-
-pub coef-at : (kind order : ℕ) (xs : Vector) (k : ℕ) → k < length xs → at (mapping kind order xs .coef) k ≡ at xs k
-unfolding mapping
-coef-at kind order xs k h = List·getD-append xs _ nan k h

@@ -9,7 +9,7 @@ use lib.ListN.{length, set, replicate, length-append}
 use lib.Ieee.{Float}
 use Rattle.exact.specs.Double.{_⊗_}
 use Rattle.exact.specs.Loop.{upTo}
-use Rattle.number.specs.Power.{power}
+use Rattle.exact.specs.Power.{power}
 use Rattle.exact.proofs.Loop.{upTo-none, upTo-next}
 use Rattle.exact.specs.Vector.{Vector, at}
 use Rattle.linear.specs.Matrix.{nought}

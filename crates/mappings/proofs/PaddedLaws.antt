@@ -1,22 +1,14 @@
--- The laws of a padded list: its length, and a store at its end that makes it one longer. By opening `padded`. Assumes
--- nothing.
+-- A store at the end of a padded list makes it one longer. By opening `padded`. Assumes nothing.
 use mathlib.Core.Path.{_≡_, sym, ap, _∙_}
 use mathlib.Core.List.{[], _∷_, _++_}
-use Prim.Native.Nat.{ℕ, suc, _+_, _-_, _≤_, _<_}
+use Prim.Native.Nat.{ℕ, suc, _+_, _-_, _<_}
 use native.Mathlib.Omega.{arith}
-use lib.ListN.{length, set, replicate, length-append, length-replicate}
+use lib.ListN.{length, set, replicate, length-append}
 use lib.Seq.{set-append-seam, append-snoc}
 use lib.Ieee.{Float}
 use Rattle.exact.specs.Vector.{Vector}
 use Rattle.linear.specs.Matrix.{nought}
 use Rattle.mappings.specs.Padded.{padded}
-
-pub padded-length : (n : ℕ) (xs : Vector) → length xs ≤ n → length (padded n xs) ≡ n
-padded-length n xs h = length-append xs (replicate (n - length xs) nought)
-    ∙ rest (length xs) (length (replicate (n - length xs) nought)) h (length-replicate (n - length xs) nought)
-  where
-    rest : (k r : ℕ) → k ≤ n → r ≡ n - k → k + r ≡ n
-    rest k r h e = omega arith
 
 one-longer : (xs : Vector) (x : Float) → length (xs ++ (x ∷ [])) ≡ length xs + 1
 one-longer xs x = length-append xs (x ∷ [])

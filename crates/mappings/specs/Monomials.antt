@@ -6,9 +6,9 @@ use mathlib.Core.List.{List, [], _∷_, _++_}
 use lib.ListN.{getD, set}
 use lib.Dec.{eqb}
 use lib.Ieee.{Float}
-use Rattle.exact.specs.Double.{_⊗_}
+use Rattle.exact.specs.Double.{_⊗_, one}
 use Rattle.exact.specs.Loop.{upTo}
-use Rattle.number.specs.Power.{one, power}
+use Rattle.exact.specs.Power.{power}
 use Rattle.exact.specs.Vector.{Vector, at}
 
 -- x.powi(total - j) * y.powi(j)

@@ -2,8 +2,7 @@
 -- 5.2. Assumes nothing.
 use mathlib.Core.List.{[], _∷_}
 use lib.Ieee.{Float, neg}
-use Rattle.exact.specs.Double.{_⊗_}
-use Rattle.number.specs.Power.{one}
+use Rattle.exact.specs.Double.{_⊗_, one}
 use Rattle.mappings.specs.declared.pairs.Pair.{Pair}
 use Rattle.mappings.specs.declared.rows.Terms.{Terms}
 use Rattle.mappings.specs.declared.rows.Terms.the-variants.{Affine, Polynomial, Forward}

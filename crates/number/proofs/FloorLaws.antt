@@ -83,10 +83,6 @@ module _ (x : Float) where
   floor-zero d z = yes-of (inDomain x) (cond (isZero x) x (ofInt binary64 (floorℤ x))) nan d
       ∙ yes-of (isZero x) x (ofInt binary64 (floorℤ x)) z
 
-  pub floor-float-out : T (not (inDomain x)) → floorF64 x ≡ nan
-  unfolding floorF64
-  floor-float-out d = no-of (inDomain x) (cond (isZero x) x (ofInt binary64 (floorℤ x))) nan d
-
 -- ---- -0.25 gives -1, and -0 stays -0
 quarter : floorI64 (ofBits binary64 0xbfd0_0000_0000_0000) ≡ negsuc 0
 unfolding floorI64 floorℤ inDomain ofBits

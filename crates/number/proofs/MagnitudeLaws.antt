@@ -1,12 +1,11 @@
--- The laws of `abs`: what is known of x is known of it, a second time it changes nothing, and its pattern is that of x
--- with the sign's bit taken off. By the cases of a value. Assumes nothing.
+-- The laws of `abs`: what is known of x is known of it, and its pattern is that of x with the sign's bit taken off. By
+-- the cases of a value. Assumes nothing.
 use mathlib.Core.Path.{_≡_, refl, sym, ap, _∙_}
 use mathlib.Core.Bool.{Bool, true, false, cond}
 use Prim.Native.Nat.{ℕ, zero, suc, _+_, _/_, _%_}
 use native.Mathlib.Nat.{mod-lt, mod-eq-of-lt, mod-mod-of-dvd, dvd-mul-right}
 use lib.Dec.{T, leb, eqb}
-use lib.Ieee.{Float, nan, inf, fin, Format, neg, le, fits, isNan, prec, low, odd, hid, ones, top, ofFields, ofBits}
-use lib.Ieee.Exact.{HasValue}
+use lib.Ieee.{Float, nan, inf, fin, Format, le, fits, prec, low, odd, hid, ones, top, ofFields, ofBits}
 use lib.Ieee.Scale.{finite}
 use borrow.Author.Tests.{lt-leb}
 use Rattle.exact.proofs.Formats.{top-pos}
@@ -19,35 +18,11 @@ abs-fits f (inf s) t = t
 abs-fits f (fin s zero e) t = t
 abs-fits f (fin s (suc m) e) t = t
 
-pub abs-abs : (x : Float) → abs (abs x) ≡ abs x
-unfolding abs
-abs-abs nan = refl
-abs-abs (inf s) = refl
-abs-abs (fin s m e) = refl
-
-pub abs-neg : (x : Float) → abs (neg x) ≡ abs x
-unfolding abs neg
-abs-neg nan = refl
-abs-neg (inf s) = refl
-abs-neg (fin s m e) = refl
-
-pub abs-value : (x : Float) (s : Bool) (a c : ℕ) → HasValue x s a c → HasValue (abs x) false a c
-unfolding abs
-abs-value nan s a c v = absurd v
-abs-value (inf t) s a c v = absurd v
-abs-value (fin t m e) s a c v = (refl, v .1)
-
 pub abs-finite : (x : Float) → finite (abs x) ≡ finite x
 unfolding abs
 abs-finite nan = refl
 abs-finite (inf s) = refl
 abs-finite (fin s m e) = refl
-
-pub abs-nan : (x : Float) → isNan (abs x) ≡ isNan x
-unfolding abs isNan
-abs-nan nan = refl
-abs-nan (inf s) = refl
-abs-nan (fin s m e) = refl
 
 -- at most a finite limit in magnitude: finite
 pub abs-limited : (x limit : Float) → T (finite limit) → T (le (abs x) limit) → T (finite x)

@@ -6,22 +6,13 @@ use mathlib.Core.Path.{_≡_, sym, ap, _∙_, subst}
 use mathlib.Core.Logic.{_⊎_, inl, inr}
 use mathlib.Core.Bool.{true, false}
 use Prim.Native.Nat.{ℕ, zero, suc, _+_, _-_, _*_, _/_, _^_, _≤_, _<_}
-use native.Mathlib.Nat.{
-  le-trans,
-  le-of-eq,
-  lt-of-lt-of-le,
-  eq-or-lt-of-le,
-  mul-assoc,
-  mul-pos,
-  mul-le-mul-right,
-  zero-lt-suc,
-}
+use native.Mathlib.Nat.{le-trans, le-of-eq, lt-of-lt-of-le, eq-or-lt-of-le, mul-assoc, mul-le-mul-right}
 use native.Mathlib.Omega.{arith}
-use lib.Dec.{T, ltb→lt, lt→ltb}
+use lib.Dec.{T, ltb→lt}
 use lib.Pow.{pow-pos}
 use lib.Ieee.{Float, nan, inf, fin, binary64, up, down, fits, lt, size}
 use lib.Ieee.Fits.{round-fits, nan-fits, inf-fits}
-use lib.Ieee.Positive.{num, den, positive, positive-of-value}
+use lib.Ieee.Positive.{num, den, positive}
 use Rattle.exact.proofs.Midpoint.{midpoint-under, midpoint-over, square-le, square-ge}
 use Rattle.exact.proofs.Neighbours.{next-below, next-above}
 use Rattle.exact.proofs.Operands.{lt-values}
@@ -44,28 +35,6 @@ root-fits (inf false) f = inf-fits binary64 false
 root-fits (fin s zero e) f = f
 root-fits (fin true (suc m) e) f = nan-fits binary64
 root-fits (fin false (suc m) e) f = rootOf-fits (suc m * up e * 2 ^ 1074 / down e)
-
--- ---- the root is finite and above 0
-pub root-positive : (x : Float) → T (fits binary64 x) → T (positive x) → T (positive (root x))
-root-positive x f p = let r = rooted x f p in
-    positive-of-value (root x) (r .q * 2 ^ (r .g)) (2 ^ 1074) (r .root-is)
-    (mul-pos (lt-of-lt-of-le (pow-pos 52) (r .least)) (pow-pos (r .g)))
-
--- with the zero: what is finite with the sign clear has such a root
-pub root-unsigned : (x : Float) → T (fits binary64 x) → T (unsigned x) → T (unsigned (root x))
-unfolding root
-root-unsigned nan f u = absurd u
-root-unsigned (inf s) f u = absurd u
-root-unsigned (fin true m e) f u = absurd u
-root-unsigned (fin false zero e) f u = tt
-root-unsigned (fin false (suc m) e) f u =
-    of-positive (root (fin false (suc m) e)) (root-positive (fin false (suc m) e) f (lt→ltb 0 (suc m) (zero-lt-suc m)))
-  where
-    of-positive : (r : Float) → T (positive r) → T (unsigned r)
-    of-positive nan p = absurd p
-    of-positive (inf s) p = absurd p
-    of-positive (fin true m e) p = absurd p
-    of-positive (fin false m e) p = tt
 
 -- ---- no f64 is as near
 below-root : (x y : Float) (m k : ℕ) (r : Rooted x) → Units binary64 y false m k → m * 2 ^ k < r .q * 2 ^ (r .g)

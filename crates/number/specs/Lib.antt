@@ -2,6 +2,5 @@
 pub mod Floor
 pub mod Magnitude
 pub mod Narrow
-pub mod Power
 pub mod Root
 pub mod Wrapping

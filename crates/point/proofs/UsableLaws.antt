@@ -1,6 +1,6 @@
 -- A float whose value is at most 2^30 in magnitude passes the test of a usable coordinate: the float comparison of
 -- finite floats is that of their values. Assumes nothing.
-use mathlib.Core.Path.{_≡_, sym, ap, _∙_, subst, subst⁻¹}
+use mathlib.Core.Path.{_≡_, sym, ap, _∙_, subst}
 use mathlib.Core.Bool.{Bool, true, _&&_}
 use Prim.Native.Nat.{ℕ, _+_, _*_}
 use native.Mathlib.Nat.{le-refl}
@@ -12,13 +12,12 @@ use lib.Ieee.Fits.{down-pos}
 use Rattle.exact.specs.Double.{usableLimit}
 use Rattle.exact.specs.Fraction.{Fraction, frac, value, _≤F_, absF}
 use Rattle.exact.specs.Rounds.{Close}
-use Rattle.exact.proofs.Booleans.{both}
 use Rattle.exact.proofs.Scale.{at-le, at-ratio}
 use Rattle.exact.proofs.Near.{le-trans}
 use Rattle.exact.proofs.Magnitude.{sized-signed, abs-sized}
 use Rattle.exact.proofs.Signed.{le-value}
 use Rattle.number.specs.Magnitude.{abs, within}
-use Rattle.number.proofs.MagnitudeLaws.{abs-finite, abs-limited}
+use Rattle.number.proofs.MagnitudeLaws.{abs-finite}
 use Rattle.point.specs.Point.{usable}
 
 -- the value of the magnitude is the magnitude of the value
@@ -54,25 +53,3 @@ usable-close {u} {v} c d =
     ap (λ (t : Bool). t && within usableLimit v)
     (within-limit u (c .number) (le-trans (absF (value u)) (frac 16385 1) (value usableLimit) (c .small) room))
     ∙ within-limit v (d .number) (le-trans (absF (value v)) (frac 16385 1) (value usableLimit) (d .small) room)
-
--- ---- and the other way: what is usable is a number, at most 2^30 in magnitude
-limit-value : value usableLimit ≤F frac 1073741824 1
-unfolding ofBits
-limit-value = record { le = lit≤ tt }
-
-pub within-number : (x : Float) → within usableLimit x ≡ true → T (finite x) × (absF (value x) ≤F frac 1073741824 1)
-unfolding within
-within-number x h =
-    let l : T (le (abs x) usableLimit) = subst⁻¹ T h tt in
-    let t : T (finite x) = abs-limited x usableLimit limit-number l in (
-      t,
-      le-trans (absF (value x)) (value (abs x)) (frac 1073741824 1) (abs-fraction x t .1)
-          (le-trans (value (abs x)) (value usableLimit) (frac 1073741824 1)
-          (le-value (abs x) usableLimit (subst T (sym (abs-finite x)) t) limit-number .0 l) limit-value),
-    )
-
-pub usable-numbers : (u v : Float) → usable u v ≡ true → (T (finite u) × (absF (value u) ≤F frac 1073741824 1))
-    × (T (finite v) × (absF (value v) ≤F frac 1073741824 1))
-unfolding usable
-usable-numbers u v h = let p = both (within usableLimit u) (within usableLimit v) h in
-    (within-number u (p .0), within-number v (p .1))

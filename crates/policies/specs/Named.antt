@@ -7,6 +7,7 @@ use lib.Dec.{eqb}
 use lib.ListN.{getD}
 use lib.IntN.{ℤ}
 use lib.Signed.{mag}
+use Rattle.exact.specs.Limits.{largestSide}
 use Rattle.endian.specs.Bytes.{twosComplement}
 use Rattle.policies.specs.Index.{inRange, clamped, tile, mirror, parity}
 use Rattle.policies.specs.Random.{mix}
@@ -16,9 +17,9 @@ use Rattle.policies.specs.declared.named.Tap.the-variants as Tap
 -- the sizes that a call is accepted with
 pub record Sizes (width height : ℕ) : Type 0 where
   pub wide : 0 < width
-  pub width-most : width ≤ 4096
+  pub width-most : width ≤ largestSide
   pub high : 0 < height
-  pub height-most : height ≤ 4096
+  pub height-most : height ≤ largestSide
 
 -- the Rust's `VirtualPixel`
 pub data Policy : Type 0 where

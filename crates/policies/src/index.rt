@@ -2,6 +2,7 @@
 // that every number is unsigned: 2^63 and more stand for an index below 0, and are counted back from -1.
 ghost use mathlib.Core.Path.{_≡_};
 ghost use Prim.Native.Nat.{_≤_, _<_};
+ghost use Rattle.exact.specs.Limits.{largestSide};
 ghost use Rattle.policies.specs.Index as Index;
 ghost use Rattle.policies.specs.Index.{signed};
 
@@ -26,7 +27,7 @@ pub fn tile(v: u64, n: u64) -> u64
 }
 
 pub fn mirror(v: u64, n: u64) -> u64
-    requires { ⌜ (0 < n) × (n ≤ 4096) ⌝ }
+    requires { ⌜ (0 < n) × (n ≤ largestSide) ⌝ }
     ensures { λ r. ⌜ r ≡ Index.mirror (signed v) n ⌝ }
 {
     let m = tile(v, 2 * n);

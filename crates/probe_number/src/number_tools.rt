@@ -4,7 +4,7 @@ ghost use lib.Ieee.{binary32, binary64, ofBits, toBits};
 ghost use Rattle.number.specs.Floor.{floorI64};
 ghost use Rattle.number.specs.Narrow as Narrow;
 ghost use Rattle.number.specs.Root as Root;
-ghost use Rattle.number.specs.Power.{power};
+ghost use Rattle.exact.specs.Power.{power};
 ghost use Rattle.number.specs.Wrapping.{wrapped};
 use endian::pattern::bits_of_f32;
 use endian::pattern::bits_of_f64;

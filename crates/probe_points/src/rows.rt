@@ -4,6 +4,7 @@ ghost use mathlib.Core.Path.{_≡_};
 ghost use Prim.Native.Nat.{_+_, _*_, _≤_};
 ghost use lib.IntN.{natAbs};
 ghost use lib.ListN.{length};
+ghost use Rattle.exact.specs.Limits.{largestOffset, largestSide};
 ghost use Rattle.exact.specs.Loop.{upTo};
 ghost use Rattle.probe_points.specs.Rows.{storeKept, storeColumn, storeRow, wrongRows, probeRows};
 use crate::pointed::store_point;
@@ -37,8 +38,8 @@ fn store_span_points(
     n: usize,
     place: usize,
 )
-    requires { ⌜ (n ≤ 64) × ((first + n ≤ 4096) × (j ≤ 4096)) ⌝ }
-    requires { ⌜ (natAbs (frame .x) ≤ 1048576) × (natAbs (frame .y) ≤ 1048576) ⌝ }
+    requires { ⌜ (n ≤ 64) × ((first + n ≤ largestSide) × (j ≤ largestSide)) ⌝ }
+    requires { ⌜ (natAbs (frame .x) ≤ largestOffset) × (natAbs (frame .y) ≤ largestOffset) ⌝ }
     requires { ⌜ (place + (first + n)) * 24 ≤ length (now out) ⌝ }
     ensures { λ _. ⌜ now (out .exit) ≡ upTo (storeColumn frame (now (coef .entry)) j place) first
         (first + n) (now (out .entry)) ⌝ }
@@ -58,8 +59,8 @@ fn store_row_points(
     j: u64,
     place: usize,
 )
-    requires { ⌜ (width ≤ 4096) × (j ≤ 4096) ⌝ }
-    requires { ⌜ (natAbs (frame .x) ≤ 1048576) × (natAbs (frame .y) ≤ 1048576) ⌝ }
+    requires { ⌜ (width ≤ largestSide) × (j ≤ largestSide) ⌝ }
+    requires { ⌜ (natAbs (frame .x) ≤ largestOffset) × (natAbs (frame .y) ≤ largestOffset) ⌝ }
     requires { ⌜ (place + width) * 24 ≤ length (now out) ⌝ }
     ensures { λ _. ⌜ now (out .exit) ≡ upTo (storeColumn frame (now (coef .entry)) j place) 0 width
         (now (out .entry)) ⌝ }
@@ -81,8 +82,8 @@ fn store_rows_points(
     first: u64,
     rows: u64,
 )
-    requires { ⌜ (width ≤ 4096) × (first + rows ≤ 4096) ⌝ }
-    requires { ⌜ (natAbs (frame .x) ≤ 1048576) × (natAbs (frame .y) ≤ 1048576) ⌝ }
+    requires { ⌜ (width ≤ largestSide) × (first + rows ≤ largestSide) ⌝ }
+    requires { ⌜ (natAbs (frame .x) ≤ largestOffset) × (natAbs (frame .y) ≤ largestOffset) ⌝ }
     requires { ⌜ length (now out) ≡ rows * width * 24 ⌝ }
     ensures { λ _. ⌜ now (out .exit) ≡ upTo (storeRow frame (now (coef .entry)) width first) 0 rows
         (now (out .entry)) ⌝ }

@@ -5,6 +5,7 @@ ghost use mathlib.Core.List.{_++_};
 ghost use Prim.Native.Nat.{_+_, _*_, _≤_};
 ghost use lib.IntN.{natAbs};
 ghost use lib.ListN.{length, take, drop};
+ghost use Rattle.exact.specs.Limits.{largestOffset, largestSide};
 ghost use Rattle.picture.specs.Pixel.{Shaped, Channels};
 ghost use Rattle.band.specs.Band.{sourced, framed, rowBytes, rowsBytes, rowMattePixels, rowsMattePixels};
 use crate::span::store_span;
@@ -29,8 +30,8 @@ fn store_row(
 ) -> u64
     requires { ⌜ Shaped (now picture) shape ⌝ }
     requires { ⌜ Channels (out .channels) ⌝ }
-    requires { ⌜ (out .width ≤ 4096) × (row .j ≤ 4096) ⌝ }
-    requires { ⌜ (natAbs (frame .x) ≤ 1048576) × (natAbs (frame .y) ≤ 1048576) ⌝ }
+    requires { ⌜ (out .width ≤ largestSide) × (row .j ≤ largestSide) ⌝ }
+    requires { ⌜ (natAbs (frame .x) ≤ largestOffset) × (natAbs (frame .y) ≤ largestOffset) ⌝ }
     requires { ⌜ (row .pixel + out .width) * out .channels * 4 ≤ length (now band) ⌝ }
     ensures { λ r.
         ⌜ (r ≡ rowMattePixels (framed (now (coef .entry)) frame) (out .width) (row .j))
@@ -71,8 +72,8 @@ pub fn store_rows(
 ) -> u64
     requires { ⌜ Shaped (now picture) shape ⌝ }
     requires { ⌜ Channels (out .channels) ⌝ }
-    requires { ⌜ (out .width ≤ 4096) × (rows .first + rows .count ≤ 4096) ⌝ }
-    requires { ⌜ (natAbs (frame .x) ≤ 1048576) × (natAbs (frame .y) ≤ 1048576) ⌝ }
+    requires { ⌜ (out .width ≤ largestSide) × (rows .first + rows .count ≤ largestSide) ⌝ }
+    requires { ⌜ (natAbs (frame .x) ≤ largestOffset) × (natAbs (frame .y) ≤ largestOffset) ⌝ }
     requires { ⌜ length (now band) ≡ rows .count * out .width * out .channels * 4 ⌝ }
     ensures { λ r.
         ⌜ (r ≡ rowsMattePixels (framed (now (coef .entry)) frame) (out .width) (rows .first) (rows .count))

@@ -5,6 +5,7 @@ ghost use mathlib.Core.Path.{_≡_};
 ghost use Prim.Native.Nat.{ℕ, _+_, _*_, _≤_};
 ghost use lib.IntN.{natAbs};
 ghost use lib.ListN.{length};
+ghost use Rattle.exact.specs.Limits.{largestOffset, largestSide};
 ghost use Rattle.exact.specs.Vector as Vectors;
 ghost use Rattle.picture.specs.Pixel.{Shaped, Channels};
 ghost use Rattle.band.specs.Band.{
@@ -101,8 +102,8 @@ pub fn store_span(
 ) -> u64
     requires { ⌜ Shaped (now picture) shape ⌝ }
     requires { ⌜ Channels «out_channels» ⌝ }
-    requires { ⌜ (span .n ≤ 64) × ((span .first + span .n ≤ 4096) × (span .j ≤ 4096)) ⌝ }
-    requires { ⌜ (natAbs (frame .x) ≤ 1048576) × (natAbs (frame .y) ≤ 1048576) ⌝ }
+    requires { ⌜ (span .n ≤ 64) × ((span .first + span .n ≤ largestSide) × (span .j ≤ largestSide)) ⌝ }
+    requires { ⌜ (natAbs (frame .x) ≤ largestOffset) × (natAbs (frame .y) ≤ largestOffset) ⌝ }
     requires { ⌜ (span .pixel + span .n) * «out_channels» * 4 ≤ length (now band) ⌝ }
     ensures { λ r.
         ⌜ (r ≡ totalled (λ (k : ℕ). mattePixelsAt (framed (now (coef .entry)) frame) (span .first + k) (span .j))

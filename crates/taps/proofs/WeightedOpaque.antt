@@ -1,7 +1,6 @@
--- Four opaque taps with `BilinearAt`'s weights: a loop over four is the sums written out, and with every alpha 1 they
--- are the sums whose laws are known (exact). So each colour is from 0 to 1 and within 17 units of 2 ^ -24 of the exact
--- blend, and alpha is 1. Provides: `four`, `summed-four`, `opaque-four` (the mean is these quotients);
--- `blended-opaque`, `opaque-mean`, `opaque-blend` (of `weighted` itself), `halfway` (an example). Assumes nothing.
+-- Four opaque taps with Bilinear's weights: a loop over four is the sums written out, and with every alpha 1 they are
+-- the sums whose laws are known (exact). Provides: `four`, `summed-four`, `opaque-four` (the mean is these quotients),
+-- `halfway` (an example). Assumes nothing.
 use mathlib.Core.Path.{_≡_, refl, sym, ap, _∙_, subst}
 use mathlib.Core.Bool.{false, cond}
 use mathlib.Core.List.{List, [], _∷_}
@@ -14,23 +13,10 @@ use Rattle.exact.specs.Single.{_⊗_, _⊘_}
 use Rattle.exact.specs.Weighted.{w00, w10, w01, w11, fourSum, weightSum, alphaSum, colourSum, colour, alpha, Unit32}
 use Rattle.exact.proofs.Booleans.{yes-of}
 use Rattle.exact.proofs.Ones.{positive-sign}
-use Rattle.exact.proofs.Weighted.{alpha-sum, weight-sum, alpha-one, colour-near}
+use Rattle.exact.proofs.Weighted.{alpha-sum, weight-sum}
 use Rattle.number.specs.Magnitude.{abs}
 use Rattle.picture.specs.Colour.{zero, half, one, grey}
-use Rattle.taps.specs.Weighted.{
-  nothing,
-  added,
-  least,
-  quotient,
-  mean,
-  tapAt,
-  weightAt,
-  tapSums,
-  weighted,
-  Opaque,
-  BilinearAt,
-  Blended,
-}
+use Rattle.taps.specs.Weighted.{nothing, added, least, quotient, mean, tapAt, weightAt, tapSums, weighted}
 use Rattle.picture.specs.declared.colour.Rgba.{Rgba}
 use Rattle.taps.specs.declared.weighted.Sums.{Sums}
 
@@ -92,32 +78,7 @@ module _ (tx ty : Float) (x : Unit32 tx) (y : Unit32 ty) where
     }
 
 -- ---- the result at the code's definition
-pub blended-opaque : {m : Rgba} {tx ty : Float} {p q r s : Rgba} → Blended m tx ty p q r s → Opaque m
-blended-opaque h = record { red = h .red .is; green = h .green .is; blue = h .blue .is; alpha = h .alpha }
-
 module _ (tx ty : Float) (x : Unit32 tx) (y : Unit32 ty) where
-  pub opaque-mean : (p q r s : Rgba) → Opaque p → Opaque q → Opaque r → Opaque s
-      → Blended (mean (four p q r s (w00 tx ty) (w10 tx ty) (w01 tx ty) (w11 tx ty))) tx ty p q r s
-  opaque-mean p q r s P Q R S =
-      subst (λ (m : Rgba). Blended m tx ty p q r s)
-      (sym (opaque-four tx ty x y p q r s (P .alpha) (Q .alpha) (R .alpha) (S .alpha)))
-      (record {
-        red = colour-near tx ty x y (p .r) (q .r) (r .r) (s .r) (P .red) (Q .red) (R .red) (S .red);
-        green = colour-near tx ty x y (p .g) (q .g) (r .g) (s .g) (P .green) (Q .green) (R .green) (S .green);
-        blue = colour-near tx ty x y (p .b) (q .b) (r .b) (s .b) (P .blue) (Q .blue) (R .blue) (S .blue);
-        alpha = alpha-one tx ty x y;
-      })
-
-  pub opaque-blend : (taps : List Rgba) (weights : List Float) → BilinearAt weights tx ty
-      → Opaque (tapAt taps 0) → Opaque (tapAt taps 1) → Opaque (tapAt taps 2) → Opaque (tapAt taps 3)
-      → Blended (weighted taps weights 4) tx ty (tapAt taps 0) (tapAt taps 1) (tapAt taps 2) (tapAt taps 3)
-  unfolding weighted
-  opaque-blend taps weights B P Q R S =
-      subst (λ (m : Rgba). Blended m tx ty (tapAt taps 0) (tapAt taps 1) (tapAt taps 2) (tapAt taps 3))
-      (sym (ap mean (summed-four taps weights
-      ∙ (λ i. four (tapAt taps 0) (tapAt taps 1) (tapAt taps 2) (tapAt taps 3) (B .at-00 i) (B .at-10 i)
-      (B .at-01 i) (B .at-11 i)))))
-      (opaque-mean (tapAt taps 0) (tapAt taps 1) (tapAt taps 2) (tapAt taps 3) P Q R S)
 
 -- ---- by example: halfway between an opaque white and a clear pixel
 abbrev white : Rgba

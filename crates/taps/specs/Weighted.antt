@@ -3,14 +3,13 @@
 use Prim.Native.Nat.{ℕ, _+_, _*_}
 use mathlib.Core.Path.{_≡_}
 use mathlib.Core.Bool.{cond}
-use mathlib.Core.List.{List, [], _∷_}
+use mathlib.Core.List.{List}
 use lib.ListN.{getD}
 use lib.Ieee.{Float, nan, lt}
-use Rattle.exact.specs.Blend.{blendF}
-use Rattle.exact.specs.Fraction.{Fraction, value}
+use Rattle.exact.specs.Fraction.{Fraction}
 use Rattle.exact.specs.Loop.{upTo}
 use Rattle.exact.specs.Single.{_⊕_, _⊗_, _⊘_}
-use Rattle.exact.specs.Weighted.{w00, w10, w01, w11, Unit32, Sample, blendError}
+use Rattle.exact.specs.Weighted.{Unit32}
 pub use Rattle.exact.specs.Weighted.{least}
 use Rattle.number.specs.Magnitude.{abs}
 pub use Rattle.cubic.specs.Bounded.{Bounded}
@@ -69,24 +68,6 @@ pub record Opaque (p : Rgba) : Type 0 where
   pub green : Unit32 (p .g)
   pub blue : Unit32 (p .b)
   pub alpha : p .a ≡ one
-
--- the first four weights are those of a point at tx, ty in its cell
-pub record BilinearAt (weights : List Float) (tx ty : Float) : Type 0 where
-  pub at-00 : weightAt weights 0 ≡ w00 tx ty
-  pub at-10 : weightAt weights 1 ≡ w10 tx ty
-  pub at-01 : weightAt weights 2 ≡ w01 tx ty
-  pub at-11 : weightAt weights 3 ≡ w11 tx ty
-
--- the exact blend of four samples at that point
-abbrev pub exactBlend : Float → Float → Float → Float → Float → Float → Fraction
-exactBlend tx ty a b c d = blendF (value tx ∷ value ty ∷ []) (value a ∷ value b ∷ value c ∷ value d ∷ [])
-
--- each colour of m is from 0 to 1 and near the exact blend of the taps' colours, and alpha is 1
-pub record Blended (m : Rgba) (tx ty : Float) (p q r s : Rgba) : Type 0 where
-  pub red : Sample (m .r) (exactBlend tx ty (p .r) (q .r) (r .r) (s .r)) blendError
-  pub green : Sample (m .g) (exactBlend tx ty (p .g) (q .g) (r .g) (s .g)) blendError
-  pub blue : Sample (m .b) (exactBlend tx ty (p .b) (q .b) (r .b) (s .b)) blendError
-  pub alpha : m .a ≡ one
 
 -- each component is a number of at most b in magnitude
 pub record BoundedBy (b : Fraction) (p : Rgba) : Type 0 where

@@ -27,7 +27,7 @@ use lib.Ieee.{
 }
 use Rattle.number.specs.Floor.{floorℤ}
 use Rattle.number.specs.Magnitude.{abs, fmin, fmax}
-use Rattle.number.specs.Power.{one}
+use Rattle.exact.specs.Double.{one}
 use Rattle.linear.specs.Invert.{invertAffine}
 use Rattle.mappings.specs.Mapping.{affineKind}
 use Rattle.exact.specs.Vector.{Vector}

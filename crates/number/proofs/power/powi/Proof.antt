@@ -4,7 +4,7 @@ use mathlib.Core.Path.{_≡_, refl}
 use Prim.Native.Nat.{ℕ, zero, suc}
 use lib.Ieee.{Float}
 use Rattle.exact.specs.Double.{_⊗_}
-use Rattle.number.specs.Power.{power, square}
+use Rattle.exact.specs.Power.{power, square}
 use Rattle.number.proofs.power.powi.Statement.{statement}
 use Rattle.number.proofs.power.powi.Tie as tie
 

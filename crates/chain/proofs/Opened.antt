@@ -51,26 +51,25 @@ use Rattle.distort.specs.Refusal.{refusal}
 
 unfoldable pub opened : Unit {0}
 unfolding left answer mattePixelsOf Joined.totalled Band.rowMattePixels Band.rowsMattePixels rowsOf refusal
-    Table.firstOf Refusal.badSize
-    Refusal.badSide Refusal.badChannels Refusal.badStock Refusal.badCode Method.present Arguments.badCount
-    Arguments.badFor Arguments.badValues Refusal.badNumber Arguments.badArgument Loop.upTo Arguments.stillGood
-    Arguments.goodNumber Magnitude.within Ieee.le Magnitude.abs Ieee.ofBits Bytes.numberAt Refusal.large
-    Arguments.badOrder Arguments.fewPairs Arguments.pairsOf Method.skip Method.leastPairs Store.orderOf
-    Refusal.degenerate Refusal.fitOf Build.build Arguments.argumentsRefusal Store.valuesOf Store.heldOf Store.keep
-    Affine.fitAffineProjection Affine.shift Affine.fitAffine Invert.invertAffine Invert.invert3 Mappings.solvedOr8
-    Mappings.mapping Refusal.badWindow Refusal.windowOf Window.window Window.ofExtents Extent.held Refusal.badRows
-    Refusal.badTray Refusal.widest Ieee.sub Ieee.mul Extent.goodOffset Extent.goodLength Pixel.pixelAt Pixel.widened
-    Ieee.add Ieee.div Ieee.ofInt Ieee.toBits Ieee.lt Ieee.isNan Band.shown Band.rowBytes Band.rowsBytes Joined.joined
-    At.at Index.inRange Index.clamped Index.tile Index.mirror Interpolate.interpolate Interpolation.interpolation
-    Named.policy Named.picked Named.named Stored.narrowed Stored.storePixel Taps.taps Weighted.added Weighted.quotient
-    Weighted.mean Weighted.weighted Inverse.inverse Point.usable Floor.floorI64 Floor.floorF64 Floor.floorℤ
-    Floor.inDomain Floor.isZero Narrow.narrow Bytes.storeNumber Perspective.fitPerspectiveProjection Orient.orient
-    Perspectives.perspective Eliminate.better Eliminate.takeTerm Eliminate.clearRow Eliminate.column Eliminate.columnOr
-    Eliminate.outcome Fit.both Monomials.push Monomials.ofDegree Monomials.monomials Monomials.storeTerm
-    Normal.addProduct Normal.addTerm Normal.normal Normal.lstsq Normal.inTurn Polynomial.orderNumber Solve.addKnown
-    Solve.substitute Solve.solutionOf Solve.solved Polynomials.polynomial Polynomials.terms Bytes.twosComplement
-    Magnitude.reaching Loop.downTo Random.mix Random.folded Order.termsOf Order.goodOrder Power.power
-    Perspective.fitPerspective Perspective.addPart Window.judged Bestfit.bestfit Bestfit.affineFound
-    Bestfit.perspectiveFound Edges.boxed Edges.grown Edges.unbounded Magnitude.fmin Magnitude.fmax Extent.extentOf
-    Ceil.ceilℤ
+    Table.firstOf Refusal.badSize Refusal.badSide Refusal.badChannels Refusal.badStock Refusal.badCode Method.present
+    Arguments.badCount Arguments.badFor Arguments.badValues Refusal.badNumber Arguments.badArgument Loop.upTo
+    Arguments.stillGood Arguments.goodNumber Magnitude.within Ieee.le Magnitude.abs Ieee.ofBits Bytes.numberAt
+    Refusal.large Arguments.badOrder Arguments.fewPairs Arguments.pairsOf Method.skip Method.leastPairs Store.orderOf
+    Refusal.degenerate Refusal.fitOf Build.build Arguments.argumentsRefusal Store.valuesOf Store.zeroArguments
+    Store.heldOf Store.keep Affine.fitAffineProjection Affine.shift Affine.fitAffine Invert.invertAffine Invert.invert3
+    Mappings.solvedOr8 Mappings.mapping Refusal.badWindow Refusal.windowOf Window.window Window.ofExtents Extent.held
+    Refusal.badRows Refusal.badTray Refusal.widest Ieee.sub Ieee.mul Extent.goodOffset Extent.goodLength Pixel.pixelAt
+    Pixel.widened Ieee.add Ieee.div Ieee.ofInt Ieee.toBits Ieee.lt Ieee.isNan Band.shown Band.rowBytes Band.rowsBytes
+    Joined.joined At.at Index.inRange Index.clamped Index.tile Index.mirror Interpolate.interpolate
+    Interpolation.interpolation Named.policy Named.picked Named.named Stored.narrowed Stored.storePixel Taps.taps
+    Weighted.added Weighted.quotient Weighted.mean Weighted.weighted Inverse.inverse Point.usable Floor.floorI64
+    Floor.floorF64 Floor.floorℤ Floor.inDomain Floor.isZero Narrow.narrow Bytes.storeNumber
+    Perspective.fitPerspectiveProjection Orient.orient Perspectives.perspective Eliminate.better Eliminate.takeTerm
+    Eliminate.clearRow Eliminate.column Eliminate.columnOr Eliminate.outcome Fit.both Monomials.push Monomials.ofDegree
+    Monomials.monomials Monomials.storeTerm Normal.addProduct Normal.addTerm Normal.normal Normal.lstsq Normal.inTurn
+    Polynomial.orderNumber Solve.addKnown Solve.substitute Solve.solutionOf Solve.solved Polynomials.polynomial
+    Polynomials.terms Bytes.twosComplement Magnitude.reaching Loop.downTo Random.mix Random.folded Order.termsOf
+    Order.goodOrder Power.power Perspective.fitPerspective Perspective.addPart Window.judged Bestfit.bestfit
+    Bestfit.affineFound Bestfit.perspectiveFound Edges.boxed Edges.grown Edges.unbounded Magnitude.fmin Magnitude.fmax
+    Extent.extentOf Ceil.ceilℤ
 opened = tt

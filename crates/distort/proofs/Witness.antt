@@ -33,7 +33,7 @@ use Rattle.number.specs.Magnitude.{abs, within}
 use Rattle.arguments.specs.Method as Method
 use Rattle.arguments.specs.Method.{present, skip, leastPairs}
 use Rattle.arguments.specs.Order.{bilinearOrder, degree, termsOf, goodOrder}
-use Rattle.arguments.specs.Store.{heldOf, keep, valuesOf, orderOf}
+use Rattle.arguments.specs.Store.{heldOf, zeroArguments, keep, valuesOf, orderOf}
 use Rattle.arguments.specs.Refusal as Arguments
 use Rattle.arguments.proofs.Witness.{zeros, float}
 use Rattle.fit.specs.Affine.{fitAffineProjection, shift, fitAffine}
@@ -97,8 +97,8 @@ pub numbers : map refusal calls ≡ 0 ∷ (0 ∷ (0 ∷ (1 ∷ (2 ∷ (3 ∷ (4 
 unfolding refusal firstOf badSide badChannels badSize badStock badCode large badNumber degenerate badWindow badRows
     badTray fitOf windowOf widest widened pixelAt present skip leastPairs Arguments.argumentsRefusal Arguments.badCount
     Arguments.badFor Arguments.badValues Arguments.badArgument Arguments.stillGood Arguments.goodNumber
-    Arguments.badOrder Arguments.pairsOf Arguments.fewPairs goodOrder termsOf bilinearOrder degree heldOf keep valuesOf
-    orderOf build made fitAffine shift fitAffineProjection invertAffine mapping refused solvedOr8 window ofExtents held
-    goodOffset goodLength upTo turns within abs numberAt ofBits ofFields ofInt odd lt le eq add sub mul div neg isNan
-    sum round units size span climb
+    Arguments.badOrder Arguments.pairsOf Arguments.fewPairs goodOrder termsOf bilinearOrder degree heldOf zeroArguments
+    keep valuesOf orderOf build made fitAffine shift fitAffineProjection invertAffine mapping refused solvedOr8 window
+    ofExtents held goodOffset goodLength upTo turns within abs numberAt ofBits ofFields ofInt odd lt le eq add sub mul
+    div neg isNan sum round units size span climb
 numbers = refl

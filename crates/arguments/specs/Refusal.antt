@@ -6,6 +6,7 @@ use mathlib.Core.List.{List, [], _∷_}
 use lib.ListN.{length}
 use lib.Dec.{eqb, ltb}
 use lib.Ieee.{Float, binary64, ofBits}
+use Rattle.exact.specs.Limits.{mostArguments, mostPairs}
 use Rattle.exact.specs.Loop.{upTo}
 use Rattle.exact.specs.Table.{firstOf}
 use Rattle.endian.specs.Bytes.{argumentAt}
@@ -21,12 +22,9 @@ use Rattle.arguments.specs.Method.{
   leastPairs,
 }
 use Rattle.arguments.specs.Order.{goodOrder}
-use Rattle.arguments.specs.Store.{countOf, mostArguments, orderOf}
+use Rattle.arguments.specs.Store.{countOf, orderOf}
 
 -- ---- 4, count
-abbrev pub mostPairs : ℕ
-mostPairs = 64
-
 abbrev pub affineProjectionArguments : ℕ
 affineProjectionArguments = 6
 

@@ -7,16 +7,13 @@ use lib.Dec.{eqb}
 use lib.ListN.{length, set, replicate}
 use lib.Ieee.{Float}
 use Rattle.exact.specs.Double.{nought}
+use Rattle.exact.specs.Limits.{mostArguments}
 use Rattle.exact.specs.Loop.{upTo}
 use Rattle.endian.specs.Bytes.{argumentAt}
 
 -- how many whole arguments the bytes hold
 abbrev pub countOf : List ℕ → ℕ
 countOf bytes = length bytes / 8
-
--- what the store has room for
-abbrev pub mostArguments : ℕ
-mostArguments = 257
 
 -- how many of them it holds: all, where no refusal applies
 unfoldable pub heldOf : List ℕ → ℕ

@@ -12,7 +12,7 @@ ghost use mathlib.Core.Path.{_≡_};
 ghost use Rattle.arguments.specs.Refusal.{badValues, badFor, badCount, badArgument, badOrder, pairsIn, fewPairs};
 ghost use Rattle.arguments.specs.Refusal as Refusal;
 
-const MOST_PAIRS: u64 = 64;
+pub const MOST_PAIRS: u64 = 64;
 
 // 1048576.0, the largest argument in magnitude, by its pattern.
 const ARGUMENT_LIMIT: u64 = 0x4130_0000_0000_0000;

@@ -3,6 +3,7 @@
 ghost use mathlib.Core.Path.{_≡_};
 ghost use Prim.Native.Nat.{ℕ, _+_, _*_, _≤_};
 ghost use lib.ListN.{length};
+ghost use Rattle.exact.specs.Limits.{longestSpan};
 ghost use Rattle.exact.specs.Vector as Vectors;
 ghost use Rattle.picture.specs.Pixel.{Shaped, Channels};
 ghost use Rattle.band.specs.Band.{sourced, spanBytes, keptMattePixels};
@@ -26,7 +27,7 @@ pub fn store_any(
 ) -> u64
     requires { ⌜ Shaped (now picture) shape ⌝ }
     requires { ⌜ Channels «out_channels» ⌝ }
-    requires { ⌜ span .n ≤ 64 ⌝ }
+    requires { ⌜ span .n ≤ longestSpan ⌝ }
     requires { ⌜ (span .pixel + span .n) * «out_channels» * 4 ≤ length (now band) ⌝ }
     ensures { λ r.
         ⌜ (r ≡ totalled (λ (k : ℕ). keptMattePixels (Vectors.at (now (us .entry)) k) (Vectors.at (now (vs .entry)) k))

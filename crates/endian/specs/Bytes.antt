@@ -49,8 +49,8 @@ abbrev pub f64At : List ℕ → ℕ → Float
 f64At s at = ofBits binary64 (u64At s at)
 
 -- the four bytes are no NaN's pattern: without the sign's bit they are at most the infinity's
-abbrev pub plainAt : List ℕ → ℕ → Type 0
-plainAt s at = u32At s at % 0x8000_0000 ≤ 0x7f80_0000
+abbrev pub noNanAt : List ℕ → ℕ → Type 0
+noNanAt s at = u32At s at % 0x8000_0000 ≤ 0x7f80_0000
 
 abbrev pub storeF32 : List ℕ → ℕ → Float → List ℕ
 storeF32 s at x = storeU32 s at (toBits binary32 x)

@@ -11,7 +11,7 @@ ghost use Rattle.endian.specs.Bytes.{
   u64At,
   f32At,
   f64At,
-  plainAt,
+  noNanAt,
   storeU32,
   storeU64,
   storeI64,
@@ -68,9 +68,9 @@ pub fn store_i64(s: &mut [u8], at: usize, n: i64)
 }
 
 // The f32 that four bytes are, where they are known to be no NaN's: no test.
-pub fn f32_plain_at(s: &[u8], at: usize) -> f32
+pub fn f32_number_at(s: &[u8], at: usize) -> f32
     requires { ⌜ at + 4 ≤ length (now s) ⌝ }
-    requires { ⌜ plainAt (now s) at ⌝ }
+    requires { ⌜ noNanAt (now s) at ⌝ }
     ensures { λ r. ⌜ r ≡ f32At (now (s .entry)) at ⌝ }
 {
     f32::from_bits(u32_at(s, at))
@@ -91,7 +91,7 @@ pub fn store_f32(s: &mut [u8], at: usize, x: f32)
 }
 
 // The same for a float that is known to be no NaN: no test.
-pub fn store_f32_plain(s: &mut [u8], at: usize, x: f32)
+pub fn store_f32_number(s: &mut [u8], at: usize, x: f32)
     requires { ⌜ (at + 4 ≤ length (now s)) × T (not (isNan x)) ⌝ }
     ensures { λ _. ⌜ now (s .exit) ≡ storeF32 (now (s .entry)) at x ⌝ }
 {

@@ -30,11 +30,15 @@ hasPlace reach u = le nought u && under reach (u ⊖ half ⊕ half)
 pub record Every (test : Float → Bool) (n : ℕ) (us : List Float) : Type 0 where
   pub each : (k : ℕ) → k < n → T (test (getD us k nan))
 
+-- the widest reach: a whole number below it has 16 bits
+abbrev pub widestReach : ℕ
+widestReach = 65536
+
 -- the whole number below z is a natural number of 16 bits
 pub record Low (z : Float) : Type 0 where
   pub domain : T (inDomain z)
   pub whole : ℕ
-  pub small : whole < 65536
+  pub small : whole < widestReach
   pub floor : floorℤ z ≡ pos whole
 
 -- the least number with all an f32's digits

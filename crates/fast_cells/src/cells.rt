@@ -5,9 +5,10 @@ ghost use mathlib.Core.Path.{_≡_};
 ghost use mathlib.Core.Bool.{true};
 ghost use Prim.Native.Nat.{_≤_};
 ghost use lib.ListN.{length};
+ghost use Rattle.exact.specs.Limits.{longestSpan};
 ghost use Rattle.taps.specs.Interpolation.{Integer, Nearest, Single, interpolation};
 ghost use Rattle.fast_cells.specs.Cells.{Cells, Places};
-ghost use Rattle.fast_cells.specs.Inner.{hasCell, hasPlace, Every};
+ghost use Rattle.fast_cells.specs.Inner.{hasCell, hasPlace, Every, widestReach};
 use crate::of_point::cell_of;
 use crate::of_point::integer_of;
 use crate::of_point::nearest_of;
@@ -17,11 +18,11 @@ use taps::interpolation::INTEGER;
 
 // An array has as many elements as its type says: a function is told so of one that it takes by value.
 fn f32_sized(a: [f32; 64])
-    ensures { λ _. ⌜ length a ≡ 64 ⌝ }
+    ensures { λ _. ⌜ length a ≡ longestSpan ⌝ }
 {}
 
 fn u32_sized(a: [u32; 64])
-    ensures { λ _. ⌜ length a ≡ 64 ⌝ }
+    ensures { λ _. ⌜ length a ≡ longestSpan ⌝ }
 {}
 
 // The cells of the first n points, if the answer is true: it is where each of them has one.
@@ -35,8 +36,8 @@ pub fn cells(
     xs: &mut [f32; 64],
     ys: &mut [f32; 64],
 ) -> bool
-    requires { ⌜ n ≤ 64 ⌝ }
-    requires { ⌜ (reach .wide ≤ 65536) × (reach .high ≤ 65536) ⌝ }
+    requires { ⌜ n ≤ longestSpan ⌝ }
+    requires { ⌜ (reach .wide ≤ widestReach) × (reach .high ≤ widestReach) ⌝ }
     ensures { λ r.
         ⌜ (r ≡ true → Cells (reach .wide) n (now (us .entry)) (now (columns .exit)) (now (xs .exit))
         × Cells (reach .high) n (now (vs .entry)) (now (rows .exit)) (now (ys .exit))) ⌝ }
@@ -71,8 +72,8 @@ fn integer_places(
     columns: &mut [u32; 64],
     rows: &mut [u32; 64],
 ) -> bool
-    requires { ⌜ n ≤ 64 ⌝ }
-    requires { ⌜ (reach .wide ≤ 65536) × (reach .high ≤ 65536) ⌝ }
+    requires { ⌜ n ≤ longestSpan ⌝ }
+    requires { ⌜ (reach .wide ≤ widestReach) × (reach .high ≤ widestReach) ⌝ }
     ensures { λ r.
         ⌜ (r ≡ true → Places Integer (reach .wide) n (now (us .entry)) (now (columns .exit))
         × Places Integer (reach .high) n (now (vs .entry)) (now (rows .exit))) ⌝ }
@@ -102,8 +103,8 @@ fn nearest_places(
     columns: &mut [u32; 64],
     rows: &mut [u32; 64],
 ) -> bool
-    requires { ⌜ n ≤ 64 ⌝ }
-    requires { ⌜ (reach .wide ≤ 65536) × (reach .high ≤ 65536) ⌝ }
+    requires { ⌜ n ≤ longestSpan ⌝ }
+    requires { ⌜ (reach .wide ≤ widestReach) × (reach .high ≤ widestReach) ⌝ }
     ensures { λ r.
         ⌜ (r ≡ true → Places Nearest (reach .wide) n (now (us .entry)) (now (columns .exit))
         × Places Nearest (reach .high) n (now (vs .entry)) (now (rows .exit))) ⌝ }
@@ -135,9 +136,9 @@ pub fn places(
     columns: &mut [u32; 64],
     rows: &mut [u32; 64],
 ) -> bool
-    requires { ⌜ n ≤ 64 ⌝ }
+    requires { ⌜ n ≤ longestSpan ⌝ }
     requires { ⌜ Single code ⌝ }
-    requires { ⌜ (reach .wide ≤ 65536) × (reach .high ≤ 65536) ⌝ }
+    requires { ⌜ (reach .wide ≤ widestReach) × (reach .high ≤ widestReach) ⌝ }
     ensures { λ r.
         ⌜ (r ≡ true → Places (interpolation code) (reach .wide) n (now (us .entry)) (now (columns .exit))
         × Places (interpolation code) (reach .high) n (now (vs .entry)) (now (rows .exit))) ⌝ }

@@ -10,12 +10,12 @@ ghost use Rattle.exact.specs.Warp.{half};
 ghost use Rattle.number.specs.Floor.{floorℤ};
 ghost use Rattle.number.specs.Narrow.{narrow};
 ghost use Rattle.taps.specs.Cell.{fraction};
-ghost use Rattle.fast_cells.specs.Inner.{nought, hasCell, hasPlace, Low, Short, Parted};
+ghost use Rattle.fast_cells.specs.Inner.{nought, hasCell, hasPlace, Low, Short, Parted, widestReach};
 use number::floor::whole_below;
 
 // Whether u has a cell.
 pub fn has_cell(u: f64, reach: u64) -> bool
-    requires { ⌜ reach ≤ 65536 ⌝ }
+    requires { ⌜ reach ≤ widestReach ⌝ }
     ensures { λ r. ⌜ r ≡ hasCell reach u ⌝ }
 {
     (u >= 0.5) & (u - 0.5 < reach as f64)
@@ -23,7 +23,7 @@ pub fn has_cell(u: f64, reach: u64) -> bool
 
 // What is worked with in any case: u in index space where it has a cell, and 0 elsewhere.
 pub fn kept(u: f64, reach: u64) -> f64
-    requires { ⌜ reach ≤ 65536 ⌝ }
+    requires { ⌜ reach ≤ widestReach ⌝ }
     ensures { λ z. ⌜ z ≡ cond (hasCell reach u) (u ⊖ half) nought ⌝ }
     ensures { λ z. ⌜ Low z × Parted z ⌝ }
 {
@@ -32,7 +32,7 @@ pub fn kept(u: f64, reach: u64) -> f64
 
 // Whether u has a place by `Nearest`. A u below 0 may have one too, and is passed over.
 pub fn has_place(u: f64, reach: u64) -> bool
-    requires { ⌜ reach ≤ 65536 ⌝ }
+    requires { ⌜ reach ≤ widestReach ⌝ }
     ensures { λ r. ⌜ r ≡ hasPlace reach u ⌝ }
 {
     (u >= 0.0) & (u - 0.5 + 0.5 < reach as f64)
@@ -40,7 +40,7 @@ pub fn has_place(u: f64, reach: u64) -> bool
 
 // What is worked with in any case, by `Nearest`.
 pub fn kept_place(u: f64, reach: u64) -> f64
-    requires { ⌜ reach ≤ 65536 ⌝ }
+    requires { ⌜ reach ≤ widestReach ⌝ }
     ensures { λ z. ⌜ z ≡ cond (hasPlace reach u) (u ⊖ half ⊕ half) nought ⌝ }
     ensures { λ z. ⌜ Low z ⌝ }
 {

@@ -7,7 +7,7 @@ ghost use Prim.Native.Nat.{_≤_};
 ghost use Rattle.point.specs.Point.{Whole};
 ghost use Rattle.taps.specs.Interpolation.{Integer, Nearest};
 ghost use Rattle.fast_cells.specs.Cells as Cells;
-ghost use Rattle.fast_cells.specs.Inner.{hasCell, hasPlace};
+ghost use Rattle.fast_cells.specs.Inner.{hasCell, hasPlace, widestReach};
 use crate::inner::column;
 use crate::inner::fraction_of;
 use crate::inner::has_cell;
@@ -35,7 +35,7 @@ pub struct Place {
 
 pub fn cell_of(p: Point, wide: u64, high: u64) -> Cell
     requires { ⌜ Whole p ⌝ }
-    requires { ⌜ (wide ≤ 65536) × (high ≤ 65536) ⌝ }
+    requires { ⌜ (wide ≤ widestReach) × (high ≤ widestReach) ⌝ }
     ensures { λ c. ⌜ c .inside ≡ (hasCell wide (p .u) && hasCell high (p .v)) ⌝ }
     ensures { λ c. ⌜ (c .inside ≡ true → p .usable ≡ true) ⌝ }
     ensures { λ c.
@@ -55,7 +55,7 @@ pub fn cell_of(p: Point, wide: u64, high: u64) -> Cell
 
 pub fn integer_of(p: Point, wide: u64, high: u64) -> Place
     requires { ⌜ Whole p ⌝ }
-    requires { ⌜ (wide ≤ 65536) × (high ≤ 65536) ⌝ }
+    requires { ⌜ (wide ≤ widestReach) × (high ≤ widestReach) ⌝ }
     ensures { λ c. ⌜ c .inside ≡ (hasCell wide (p .u) && hasCell high (p .v)) ⌝ }
     ensures { λ c. ⌜ (c .inside ≡ true → p .usable ≡ true) ⌝ }
     ensures { λ c.
@@ -71,7 +71,7 @@ pub fn integer_of(p: Point, wide: u64, high: u64) -> Place
 
 pub fn nearest_of(p: Point, wide: u64, high: u64) -> Place
     requires { ⌜ Whole p ⌝ }
-    requires { ⌜ (wide ≤ 65536) × (high ≤ 65536) ⌝ }
+    requires { ⌜ (wide ≤ widestReach) × (high ≤ widestReach) ⌝ }
     ensures { λ c. ⌜ c .inside ≡ (hasPlace wide (p .u) && hasPlace high (p .v)) ⌝ }
     ensures { λ c. ⌜ (c .inside ≡ true → p .usable ≡ true) ⌝ }
     ensures { λ c.

@@ -8,7 +8,7 @@ use lib.ListN.{getD}
 use Rattle.exact.specs.Weighted.{Unit32}
 use Rattle.picture.specs.Pixel.{Picture}
 use Rattle.picture.specs.Store.{Numbers}
-use Rattle.fast_colours.specs.Plain.{CellsInside, Fractions, Weights}
+use Rattle.fast_colours.specs.InsideSpan.{CellsInside, Fractions, Weights}
 use Rattle.fast_colours.proofs.NumberLaws.{blend-numbers}
 use Rattle.sampler.specs.TwoByTwo.{Weighed, mixed}
 use Rattle.sampler.proofs.MixedLaws.{mixed-blend}

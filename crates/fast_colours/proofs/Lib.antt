@@ -2,5 +2,5 @@
 pub mod BesideLaws
 pub mod CoverLaws
 pub mod FourLaws
+pub mod InsideSpanLaws
 pub mod NumberLaws
-pub mod PlainLaws

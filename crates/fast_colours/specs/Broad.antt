@@ -10,7 +10,7 @@ use Rattle.picture.specs.Pixel.{widened}
 use Rattle.picture.specs.declared.colour.Rgba.{Rgba}
 use Rattle.picture.specs.Store.{storeSample, Numbers}
 use Rattle.sampler.specs.TwoByTwo.{mixed}
-use Rattle.fast_colours.specs.Plain.{weight}
+use Rattle.fast_colours.specs.InsideSpan.{weight}
 
 -- `added` of opaque taps, sample by sample
 abbrev pub addedOpaque : Rgba → Float → Rgba → Rgba

@@ -1,3 +1,3 @@
 -- The definitions of a span inside, and of four samples at a time.
 pub mod Broad
-pub mod Plain
+pub mod InsideSpan

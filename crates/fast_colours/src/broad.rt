@@ -6,14 +6,14 @@ ghost use mathlib.Core.Path.{_≡_};
 ghost use mathlib.Core.Bool.{true};
 ghost use Prim.Native.Nat.{ℕ, _+_, _*_, _≤_, _<_};
 ghost use lib.ListN.{length, getD};
-ghost use Rattle.exact.specs.Limits.{largestSide};
+ghost use Rattle.exact.specs.Limits.{largestSide, longestSpan};
 ghost use Rattle.picture.specs.Pixel.{Picture, Shaped, Channels};
 ghost use Rattle.band.specs.Band.{putPixels};
-ghost use Rattle.fast_colours.specs.Plain.{CellsInside, Fractions, mixedAt, blendAt, Mixable};
+ghost use Rattle.fast_colours.specs.InsideSpan.{CellsInside, Fractions, mixedAt, blendAt, Mixable};
 ghost use Rattle.fast_colours.specs.Broad as Broad;
 ghost use Rattle.fast_colours.specs.Broad.{fourSums, Covered, Beside};
-use crate::plain::weigh;
-use crate::plain::wide;
+use crate::one_by_one::weigh;
+use crate::one_by_one::wide;
 use band::span::Span;
 use picture::colour::Rgba;
 use picture::colour::grey;
@@ -106,7 +106,7 @@ fn store_first(
 )
     requires { ⌜ Shaped (now picture) shape ⌝ }
     requires { ⌜ shape .channels ≡ 3 ⌝ }
-    requires { ⌜ m < 64 ⌝ }
+    requires { ⌜ m < longestSpan ⌝ }
     requires { ⌜ Beside (now picture) (shape .width) (shape .height) m (now columns) (now rows) (now w) ⌝ }
     requires { ⌜ (pixel + m) * 3 * 4 + 4 ≤ length (now band) ⌝ }
     ensures { λ _.
@@ -149,7 +149,7 @@ fn store_broad(
 )
     requires { ⌜ Shaped (now picture) shape ⌝ }
     requires { ⌜ shape .channels ≡ 3 ⌝ }
-    requires { ⌜ m < 64 ⌝ }
+    requires { ⌜ m < longestSpan ⌝ }
     requires { ⌜ Beside (now picture) (shape .width) (shape .height) (m + 1) (now columns) (now rows) (now w) ⌝ }
     requires { ⌜ Mixable (now picture) (shape .width) 3 (m + 1) (now columns) (now rows) (now w) ⌝ }
     requires { ⌜ (pixel + (m + 1)) * 3 * 4 ≤ length (now band) ⌝ }
@@ -181,7 +181,7 @@ fn store_broad(
 
 // Whether each of the first n cells has a pixel to its right, as those before column `last` have.
 fn next_columns_inside(columns: &[u32; 64], n: usize, width: u64) -> bool
-    requires { ⌜ n ≤ 64 ⌝ }
+    requires { ⌜ n ≤ longestSpan ⌝ }
     requires { ⌜ width ≤ largestSide ⌝ }
     ensures { λ r. ⌜ (r ≡ true → (k : ℕ) → k < n → getD (now (columns .entry)) k 0 + 2 < width) ⌝ }
 {
@@ -206,7 +206,7 @@ fn store_three(
 )
     requires { ⌜ Shaped (now picture) shape ⌝ }
     requires { ⌜ shape .channels ≡ 3 ⌝ }
-    requires { ⌜ (0 < span .n) × (span .n ≤ 64) ⌝ }
+    requires { ⌜ (0 < span .n) × (span .n ≤ longestSpan) ⌝ }
     requires { ⌜ CellsInside (shape .width) (shape .height) (span .n) (now columns) (now rows) ⌝ }
     requires { ⌜ ((k : ℕ) → k < span .n → getD (now columns) k 0 + 2 < shape .width) ⌝ }
     requires { ⌜ Fractions (span .n) (now xs) × Fractions (span .n) (now ys) ⌝ }
@@ -243,7 +243,7 @@ pub fn store_broad_cells(
 )
     requires { ⌜ Shaped (now picture) shape ⌝ }
     requires { ⌜ Channels (shape .channels) ⌝ }
-    requires { ⌜ span .n ≤ 64 ⌝ }
+    requires { ⌜ span .n ≤ longestSpan ⌝ }
     requires { ⌜ CellsInside (shape .width) (shape .height) (span .n) (now columns) (now rows) ⌝ }
     requires { ⌜ Fractions (span .n) (now xs) × Fractions (span .n) (now ys) ⌝ }
     requires { ⌜ (span .pixel + span .n) * shape .channels * 4 ≤ length (now band) ⌝ }
@@ -260,5 +260,5 @@ pub fn store_broad_cells(
             }
         }
     }
-    crate::plain::store_cells(picture, shape, columns, rows, xs, ys, span, band);
+    crate::one_by_one::store_cells(picture, shape, columns, rows, xs, ys, span, band);
 }

@@ -27,7 +27,7 @@ use Rattle.fast_cubic.specs.Kernels.{Kernels, ofFour}
 use Rattle.exact.proofs.Booleans.{both}
 use Rattle.fast_cubic.specs.FourByFours.{FourByFours, Past, Standing, fourByFour}
 use Rattle.band.proofs.InnerLaws.{Shows}
-use Rattle.fast_colours.proofs.PlainLaws.{marked}
+use Rattle.fast_colours.proofs.InsideSpanLaws.{marked}
 
 -- ---- the loop over columns or rows
 pub past-none : (cs : List ℕ) → Past 0 cs

@@ -20,8 +20,8 @@ use Rattle.cubic.specs.Cubic as Cubic
 use Rattle.cubic.specs.Cubic.{cubicWeights}
 use Rattle.taps.specs.Interpolation.{catromCode}
 use Rattle.sampler.specs.Sixteen.{kernelOf}
-use Rattle.fast_colours.specs.Plain.{Sized}
-use Rattle.fast_colours.proofs.PlainLaws.{put}
+use Rattle.fast_colours.specs.InsideSpan.{Sized}
+use Rattle.fast_colours.proofs.InsideSpanLaws.{put}
 use Rattle.fast_cubic.specs.Kernels.{Weighed4, Kernels}
 
 -- ---- the loop over weights

@@ -6,7 +6,7 @@ use lib.Ieee.{Float}
 use Rattle.cubic.specs.Cubic.{cubicWeights}
 use Rattle.exact.specs.Vector.{at}
 use Rattle.sampler.specs.Sixteen.{kernelOf}
-use Rattle.fast_colours.specs.Plain.{weight}
+use Rattle.fast_colours.specs.InsideSpan.{weight}
 
 -- the k-th of four lists
 abbrev pub ofFour : List (List Float) → ℕ → List Float

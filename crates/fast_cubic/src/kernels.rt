@@ -2,7 +2,8 @@
 ghost use mathlib.Core.Path.{_≡_};
 ghost use mathlib.Core.Bool.{true};
 ghost use Prim.Native.Nat.{_≤_};
-ghost use Rattle.fast_colours.specs.Plain.{Sized};
+ghost use Rattle.exact.specs.Limits.{longestSpan};
+ghost use Rattle.fast_colours.specs.InsideSpan.{Sized};
 ghost use Rattle.fast_cubic.specs.Kernels.{Weighed4, Kernels};
 use cubic::cubic::between;
 use cubic::cubic::middle;
@@ -17,7 +18,7 @@ fn sized(w: [[f32; 64]; 4])
 // The weights of the first n fractions, an array for each of the four taps, if the answer is true: it is where no
 // fraction is at a cell's end.
 fn weigh4(b: f32, c: f32, ts: &[f32; 64], n: usize, w: &mut [[f32; 64]; 4]) -> bool
-    requires { ⌜ n ≤ 64 ⌝ }
+    requires { ⌜ n ≤ longestSpan ⌝ }
     ensures { λ r. ⌜ (r ≡ true → Weighed4 b c n (now (ts .entry)) (now (w .exit))) ⌝ }
 {
     sized(*w);
@@ -40,7 +41,7 @@ fn weigh4(b: f32, c: f32, ts: &[f32; 64], n: usize, w: &mut [[f32; 64]; 4]) -> b
 
 // The same by the interpolation's code.
 fn kernels(code: u64, ts: &[f32; 64], n: usize, w: &mut [[f32; 64]; 4]) -> bool
-    requires { ⌜ n ≤ 64 ⌝ }
+    requires { ⌜ n ≤ longestSpan ⌝ }
     ensures { λ r. ⌜ (r ≡ true → Kernels code n (now (ts .entry)) (now (w .exit))) ⌝ }
 {
     if code == CATROM {
@@ -58,7 +59,7 @@ pub fn both_kernels(
     wx: &mut [[f32; 64]; 4],
     wy: &mut [[f32; 64]; 4],
 ) -> bool
-    requires { ⌜ n ≤ 64 ⌝ }
+    requires { ⌜ n ≤ longestSpan ⌝ }
     ensures { λ r.
         ⌜ (r ≡ true → Kernels code n (now (xs .entry)) (now (wx .exit))
         × Kernels code n (now (ys .entry)) (now (wy .exit))) ⌝ }

@@ -5,7 +5,7 @@ ghost use mathlib.Core.Bool.{true};
 ghost use mathlib.Core.List.{[], _∷_};
 ghost use Prim.Native.Nat.{ℕ, _+_, _*_, _≤_, _<_};
 ghost use lib.ListN.{length, getD};
-ghost use Rattle.exact.specs.Limits.{largestSide};
+ghost use Rattle.exact.specs.Limits.{largestSide, longestSpan};
 ghost use Rattle.picture.specs.Pixel.{Picture, Shaped, Channels};
 ghost use Rattle.taps.specs.Interpolation.{Cubic};
 ghost use Rattle.band.specs.Band.{putPixels, InnerOrUntouched};
@@ -16,7 +16,7 @@ use crate::kernels::both_kernels;
 use band::span::Span;
 use fast_cells::cells::cells;
 use fast_cells::reach::Reach;
-use fast_colours::plain::wide;
+use fast_colours::one_by_one::wide;
 use picture::colour::Rgba;
 use picture::shape::Shape;
 use picture::shape::side_less;
@@ -25,7 +25,7 @@ use sampler::fast_four_by_four::four_by_four;
 
 // Whether the first n are all above 0.
 fn past(cs: &[u32; 64], n: usize) -> bool
-    requires { ⌜ n ≤ 64 ⌝ }
+    requires { ⌜ n ≤ longestSpan ⌝ }
     ensures { λ r. ⌜ (r ≡ true → Past n (now (cs .entry))) ⌝ }
 {
     let mut good = true;
@@ -75,7 +75,7 @@ fn store_four_by_fours(
 )
     requires { ⌜ Shaped (now picture) shape ⌝ }
     requires { ⌜ Channels (shape .channels) ⌝ }
-    requires { ⌜ span .n ≤ 64 ⌝ }
+    requires { ⌜ span .n ≤ longestSpan ⌝ }
     requires { ⌜ FourByFours (shape .width) (shape .height) (span .n) (now columns) (now rows) ⌝ }
     requires { ⌜ (span .pixel + span .n) * shape .channels * 4 ≤ length (now band) ⌝ }
     ensures { λ _.
@@ -126,7 +126,7 @@ fn cells_within(
     xs: &mut [f32; 64],
     ys: &mut [f32; 64],
 ) -> bool
-    requires { ⌜ n ≤ 64 ⌝ }
+    requires { ⌜ n ≤ longestSpan ⌝ }
     requires { ⌜ (shape .width ≤ largestSide) × (shape .height ≤ largestSide) ⌝ }
     ensures { λ r.
         ⌜ (r ≡ true → Standing (shape .width) (shape .height) n (now (us .entry)) (now (vs .entry))
@@ -156,7 +156,7 @@ pub fn store_cubic(
     requires { ⌜ Shaped (now picture) shape ⌝ }
     requires { ⌜ Channels (shape .channels) ⌝ }
     requires { ⌜ Cubic code ⌝ }
-    requires { ⌜ span .n ≤ 64 ⌝ }
+    requires { ⌜ span .n ≤ longestSpan ⌝ }
     requires { ⌜ (span .pixel + span .n) * shape .channels * 4 ≤ length (now band) ⌝ }
     ensures { λ r.
         ⌜ InnerOrUntouched r (shapedImage (now (picture .entry)) shape) code (shape .channels) (now (us .entry))

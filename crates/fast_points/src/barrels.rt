@@ -6,7 +6,7 @@ ghost use mathlib.Core.Path.{_≡_};
 ghost use Prim.Native.Nat.{_+_, _≤_};
 ghost use lib.ListN.{length};
 ghost use lib.Ieee.{Float};
-ghost use Rattle.exact.specs.Limits.{largestSide};
+ghost use Rattle.exact.specs.Limits.{largestSide, longestSpan};
 ghost use Rattle.number.specs.Root.{root, guess};
 ghost use Rattle.inverse.specs.Barrel.{barrelFrom, barrelInverseFrom};
 ghost use Rattle.fast_points.specs.Points.{PointsOf};
@@ -32,7 +32,9 @@ fn radii_squared(
     ds: &mut [f64; 64],
     ss: &mut [f64; 64],
 )
-    requires { ⌜ (n ≤ 64) × ((first + n ≤ largestSide) × ((length (now ds) ≡ 64) × (length (now ss) ≡ 64))) ⌝ }
+    requires { ⌜ n ≤ longestSpan ⌝ }
+    requires { ⌜ first + n ≤ largestSide ⌝ }
+    requires { ⌜ (length (now ds) ≡ longestSpan) × (length (now ss) ≡ longestSpan) ⌝ }
     ensures { λ _. ⌜ RadiiSquared (now (coef .entry)) x dy first n (now (ds .exit)) (now (ss .exit)) ⌝ }
 {
     for k in 0..n {
@@ -44,7 +46,7 @@ fn radii_squared(
 
 // What the roots start from, several at a time.
 fn guesses(ss: &[f64; 64], n: usize, gs: &mut [f64; 64])
-    requires { ⌜ (n ≤ 64) × (length (now gs) ≡ 64) ⌝ }
+    requires { ⌜ (n ≤ longestSpan) × (length (now gs) ≡ longestSpan) ⌝ }
     ensures { λ _. ⌜ EachBy guess n (now (ss .entry)) (now (gs .exit)) ⌝ }
 {
     for k in 0..n {
@@ -54,7 +56,7 @@ fn guesses(ss: &[f64; 64], n: usize, gs: &mut [f64; 64])
 
 // The roots, whatever the guesses.
 fn roots(ss: &[f64; 64], gs: &[f64; 64], n: usize, rs: &mut [f64; 64])
-    requires { ⌜ (n ≤ 64) × (length (now rs) ≡ 64) ⌝ }
+    requires { ⌜ (n ≤ longestSpan) × (length (now rs) ≡ longestSpan) ⌝ }
     ensures { λ _. ⌜ EachBy root n (now (ss .entry)) (now (rs .exit)) ⌝ }
 {
     for k in 0..n {
@@ -72,7 +74,8 @@ fn barrel_moved(
     us: &mut [f64; 64],
     vs: &mut [f64; 64],
 )
-    requires { ⌜ (n ≤ 64) × ((length (now us) ≡ 64) × (length (now vs) ≡ 64)) ⌝ }
+    requires { ⌜ n ≤ longestSpan ⌝ }
+    requires { ⌜ (length (now us) ≡ longestSpan) × (length (now vs) ≡ longestSpan) ⌝ }
     ensures { λ _.
         ⌜ Moved (barrelFrom (now (coef .entry)) dy) n (now (ds .entry)) (now (rs .entry)) (now (us .exit))
         (now (vs .exit)) ⌝ }
@@ -94,7 +97,8 @@ fn barrel_inverse_moved(
     us: &mut [f64; 64],
     vs: &mut [f64; 64],
 )
-    requires { ⌜ (n ≤ 64) × ((length (now us) ≡ 64) × (length (now vs) ≡ 64)) ⌝ }
+    requires { ⌜ n ≤ longestSpan ⌝ }
+    requires { ⌜ (length (now us) ≡ longestSpan) × (length (now vs) ≡ longestSpan) ⌝ }
     ensures { λ _.
         ⌜ Moved (barrelInverseFrom (now (coef .entry)) dy) n (now (ds .entry)) (now (rs .entry)) (now (us .exit))
         (now (vs .exit)) ⌝ }
@@ -117,7 +121,9 @@ pub fn barrel_points(
     us: &mut [f64; 64],
     vs: &mut [f64; 64],
 )
-    requires { ⌜ (n ≤ 64) × ((first + n ≤ largestSide) × ((length (now us) ≡ 64) × (length (now vs) ≡ 64))) ⌝ }
+    requires { ⌜ n ≤ longestSpan ⌝ }
+    requires { ⌜ first + n ≤ largestSide ⌝ }
+    requires { ⌜ (length (now us) ≡ longestSpan) × (length (now vs) ≡ longestSpan) ⌝ }
     ensures { λ _. ⌜ PointsOf (λ (a : Float). barrelBy kind (now (coef .entry)) a y) x first n (now (us .exit))
         (now (vs .exit)) ⌝ }
 {

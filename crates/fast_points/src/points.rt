@@ -7,7 +7,7 @@ ghost use Prim.Native.Nat.{_+_, _≤_, _<_};
 ghost use lib.IntN.{natAbs};
 ghost use lib.ListN.{length};
 ghost use lib.Ieee.{Float};
-ghost use Rattle.exact.specs.Limits.{largestOffset, largestSide};
+ghost use Rattle.exact.specs.Limits.{largestOffset, largestSide, longestSpan};
 ghost use Rattle.inverse.specs.Forward.{bilinearForward};
 ghost use Rattle.inverse.specs.Affine.{affine};
 ghost use Rattle.inverse.specs.Perspective.{perspective};
@@ -41,7 +41,9 @@ fn affine_points(
     us: &mut [f64; 64],
     vs: &mut [f64; 64],
 )
-    requires { ⌜ (n ≤ 64) × ((first + n ≤ largestSide) × ((length (now us) ≡ 64) × (length (now vs) ≡ 64))) ⌝ }
+    requires { ⌜ n ≤ longestSpan ⌝ }
+    requires { ⌜ first + n ≤ largestSide ⌝ }
+    requires { ⌜ (length (now us) ≡ longestSpan) × (length (now vs) ≡ longestSpan) ⌝ }
     ensures { λ _.
         ⌜ PointsOf (λ (a : Float). affine (now (coef .entry)) a y) x first n (now (us .exit)) (now (vs .exit)) ⌝ }
 {
@@ -61,7 +63,9 @@ fn perspective_points(
     us: &mut [f64; 64],
     vs: &mut [f64; 64],
 )
-    requires { ⌜ (n ≤ 64) × ((first + n ≤ largestSide) × ((length (now us) ≡ 64) × (length (now vs) ≡ 64))) ⌝ }
+    requires { ⌜ n ≤ longestSpan ⌝ }
+    requires { ⌜ first + n ≤ largestSide ⌝ }
+    requires { ⌜ (length (now us) ≡ longestSpan) × (length (now vs) ≡ longestSpan) ⌝ }
     ensures { λ _. ⌜ PointsOf (λ (a : Float). perspective (now (coef .entry)) a y) x first n (now (us .exit))
         (now (vs .exit)) ⌝ }
 {
@@ -82,7 +86,9 @@ fn polynomial_points(
     us: &mut [f64; 64],
     vs: &mut [f64; 64],
 )
-    requires { ⌜ (n ≤ 64) × ((first + n ≤ largestSide) × ((length (now us) ≡ 64) × (length (now vs) ≡ 64))) ⌝ }
+    requires { ⌜ n ≤ longestSpan ⌝ }
+    requires { ⌜ first + n ≤ largestSide ⌝ }
+    requires { ⌜ (length (now us) ≡ longestSpan) × (length (now vs) ≡ longestSpan) ⌝ }
     ensures { λ _. ⌜ PointsOf (λ (a : Float). polynomial order (now (coef .entry)) a y) x first n (now (us .exit))
         (now (vs .exit)) ⌝ }
 {
@@ -102,7 +108,9 @@ fn forward_points(
     us: &mut [f64; 64],
     vs: &mut [f64; 64],
 )
-    requires { ⌜ (n ≤ 64) × ((first + n ≤ largestSide) × ((length (now us) ≡ 64) × (length (now vs) ≡ 64))) ⌝ }
+    requires { ⌜ n ≤ longestSpan ⌝ }
+    requires { ⌜ first + n ≤ largestSide ⌝ }
+    requires { ⌜ (length (now us) ≡ longestSpan) × (length (now vs) ≡ longestSpan) ⌝ }
     ensures { λ _. ⌜ PointsOf (λ (a : Float). bilinearForward (now (coef .entry)) a y) x first n (now (us .exit))
         (now (vs .exit)) ⌝ }
 {
@@ -123,7 +131,9 @@ fn other_points(
     us: &mut [f64; 64],
     vs: &mut [f64; 64],
 )
-    requires { ⌜ (n ≤ 64) × ((first + n ≤ largestSide) × ((length (now us) ≡ 64) × (length (now vs) ≡ 64))) ⌝ }
+    requires { ⌜ n ≤ longestSpan ⌝ }
+    requires { ⌜ first + n ≤ largestSide ⌝ }
+    requires { ⌜ (length (now us) ≡ longestSpan) × (length (now vs) ≡ longestSpan) ⌝ }
     ensures { λ _.
         ⌜ PointsOf (λ (a : Float). inverse (frame .kind) (frame .order) (frame .count) (now (coef .entry)) a y) x first
         n (now (us .exit)) (now (vs .exit)) ⌝ }
@@ -145,12 +155,19 @@ fn other_points(
     }
 }
 
+// The pixels of a row that are worked on at once.
+const LONGEST_SPAN: u64 = 64;
+
 // How many of the pixels that are left of a row make the next span.
 pub fn next_span(left: u64) -> usize
     requires { ⌜ 0 < left ⌝ }
-    ensures { λ r. ⌜ (0 < r) × ((r ≤ left) × (r ≤ 64)) ⌝ }
+    ensures { λ r. ⌜ (0 < r) × ((r ≤ left) × (r ≤ longestSpan)) ⌝ }
 {
-    if left < 64 { left as usize } else { 64 }
+    if left < LONGEST_SPAN {
+        left as usize
+    } else {
+        LONGEST_SPAN as usize
+    }
 }
 
 // The first n of us and vs: the pixels from column `first` of row j on, of the frame's window.
@@ -163,7 +180,7 @@ pub fn points(
     us: &mut [f64; 64],
     vs: &mut [f64; 64],
 )
-    requires { ⌜ (n ≤ 64) × ((first + n ≤ largestSide) × (j ≤ largestSide)) ⌝ }
+    requires { ⌜ (n ≤ longestSpan) × ((first + n ≤ largestSide) × (j ≤ largestSide)) ⌝ }
     requires { ⌜ (natAbs (frame .x) ≤ largestOffset) × (natAbs (frame .y) ≤ largestOffset) ⌝ }
     ensures { λ _. ⌜ Points frame (now (coef .entry)) first j n (now (us .exit)) (now (vs .exit)) ⌝ }
 {

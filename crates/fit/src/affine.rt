@@ -1,6 +1,7 @@
 // The makers of the two affine methods. Assumes that the pairs are in the store.
 ghost use mathlib.Core.Path.{_≡_};
 ghost use Prim.Native.Nat.{_*_, _≤_};
+ghost use Rattle.exact.specs.Limits.{mostArguments};
 ghost use Rattle.fit.specs.Affine as Maker;
 use crate::lstsq::Sides;
 use crate::lstsq::fit_both;
@@ -57,7 +58,7 @@ fn similarity(values: &[f64; 257]) -> Fitted
 }
 
 pub fn fit_affine(values: &[f64; 257], pairs: usize) -> Fitted
-    requires { ⌜ 4 * pairs ≤ 257 ⌝ }
+    requires { ⌜ 4 * pairs ≤ mostArguments ⌝ }
     ensures { λ r. ⌜ r ≡ Maker.fitAffine (now (values .entry)) pairs ⌝ }
 {
     if pairs == 1 {

@@ -1,6 +1,7 @@
 // The maker of the two barrel methods, whose arguments from the fourth on have defaults. Assumes nothing.
 ghost use mathlib.Core.Path.{_≡_};
 ghost use Prim.Native.Nat.{_<_};
+ghost use Rattle.exact.specs.Limits.{mostArguments};
 ghost use Rattle.fit.specs.Barrel.{givenOr};
 ghost use Rattle.fit.specs.Barrel as Maker;
 use mappings::mapping;
@@ -9,7 +10,7 @@ use number::magnitude::min;
 
 // args.get(k), or else what stands for it.
 fn given_or(values: &[f64; 257], count: usize, k: usize, other: f64) -> f64
-    requires { ⌜ k < 257 ⌝ }
+    requires { ⌜ k < mostArguments ⌝ }
     ensures { λ r. ⌜ r ≡ givenOr (now (values .entry)) count k other ⌝ }
 {
     if k < count { values[k] } else { other }

@@ -2,6 +2,7 @@
 // Assumes nothing.
 ghost use mathlib.Core.Path.{_≡_};
 ghost use Prim.Native.Nat.{_≤_};
+ghost use Rattle.exact.specs.Limits.{mostPairs};
 ghost use Rattle.fit.specs.Build.{made};
 ghost use Rattle.fit.specs.Build as Build;
 use crate::affine::fit_affine;
@@ -38,7 +39,7 @@ fn made(
     w: f64,
     h: f64,
 ) -> Fitted
-    requires { ⌜ pairs ≤ 64 ⌝ }
+    requires { ⌜ pairs ≤ mostPairs ⌝ }
     ensures { λ r. ⌜ r ≡ made method (now (values .entry)) count pairs order w h ⌝ }
 {
     if method == Affine::CODE {

@@ -2,6 +2,7 @@
 // there are at most 21 unknowns.
 ghost use mathlib.Core.Path.{_≡_};
 ghost use Prim.Native.Nat.{_+_, _*_, _≤_};
+ghost use Rattle.exact.specs.Limits.{mostArguments};
 ghost use Rattle.fit.specs.Fit.{fitOne, fitTwin};
 ghost use Rattle.fit.specs.Fit as Fit;
 use linear::normal::add_row;
@@ -23,7 +24,7 @@ pub fn fit_one(
     side: Side,
     n: usize,
 ) -> Solution
-    requires { ⌜ (skip + 4 * pairs ≤ 257) × (n ≤ 21) ⌝ }
+    requires { ⌜ (skip + 4 * pairs ≤ mostArguments) × (n ≤ 21) ⌝ }
     ensures { λ r. ⌜ r ≡ fitOne (now (values .entry)) skip pairs terms side n ⌝ }
 {
     let mut a = [[0.0; 21]; 21];
@@ -39,7 +40,7 @@ pub fn fit_one(
 
 // Two rows a pair: u and v share the unknowns.
 pub fn fit_twin(values: &[f64; 257], pairs: usize, twin: Twin, n: usize) -> Solution
-    requires { ⌜ (4 * pairs ≤ 257) × (n ≤ 21) ⌝ }
+    requires { ⌜ (4 * pairs ≤ mostArguments) × (n ≤ 21) ⌝ }
     ensures { λ r. ⌜ r ≡ fitTwin (now (values .entry)) pairs twin n ⌝ }
 {
     let mut a = [[0.0; 21]; 21];
@@ -71,7 +72,7 @@ pub fn fit_both(
     kind: u64,
     order: u64,
 ) -> Fitted
-    requires { ⌜ (skip + 4 * pairs ≤ 257) × (n ≤ 21) ⌝ }
+    requires { ⌜ (skip + 4 * pairs ≤ mostArguments) × (n ≤ 21) ⌝ }
     ensures { λ r. ⌜ r ≡ Fit.fitBoth (now (values .entry)) skip pairs terms sides n kind order ⌝ }
 {
     let first = sides.first;

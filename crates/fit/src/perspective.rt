@@ -1,6 +1,7 @@
 // The makers of the two perspective methods. Assumes that the pairs are in the store.
 ghost use mathlib.Core.Path.{_≡_};
 ghost use Prim.Native.Nat.{_*_, _≤_};
+ghost use Rattle.exact.specs.Limits.{mostArguments};
 ghost use Rattle.fit.specs.Perspective.{meanOfSide, projected};
 ghost use Rattle.fit.specs.Perspective as Maker;
 use crate::lstsq::fit_twin;
@@ -52,7 +53,7 @@ pub fn fit_perspective_projection(values: &[f64; 257], w: f64, h: f64) -> Fitted
 
 // The mean of one side of the pairs, each divided before it is added.
 fn mean_of_side(values: &[f64; 257], pairs: usize, side: Side) -> f64
-    requires { ⌜ 4 * pairs ≤ 257 ⌝ }
+    requires { ⌜ 4 * pairs ≤ mostArguments ⌝ }
     ensures { λ r. ⌜ r ≡ meanOfSide (now (values .entry)) pairs side ⌝ }
 {
     let n = std::num::nearest_u64_to_f64(pairs as u64);
@@ -64,7 +65,7 @@ fn mean_of_side(values: &[f64; 257], pairs: usize, side: Side) -> f64
 }
 
 pub fn fit_perspective(values: &[f64; 257], pairs: usize) -> Fitted
-    requires { ⌜ 4 * pairs ≤ 257 ⌝ }
+    requires { ⌜ 4 * pairs ≤ mostArguments ⌝ }
     ensures { λ r. ⌜ r ≡ Maker.fitPerspective (now (values .entry)) pairs ⌝ }
 {
     let s = fit_twin(

@@ -1,6 +1,7 @@
 // The makers of the methods whose terms are monomials. Assumes that the pairs are in the store.
 ghost use mathlib.Core.Path.{_≡_};
 ghost use Prim.Native.Nat.{_+_, _*_, _≤_};
+ghost use Rattle.exact.specs.Limits.{mostArguments};
 ghost use Rattle.fit.specs.Polynomial.{orderNumber, fitBilinearReverse, fitBilinearForward};
 ghost use Rattle.fit.specs.Polynomial as Maker;
 use crate::lstsq::Sides;
@@ -26,7 +27,7 @@ fn order_number(order: f64) -> u64
 
 // The pairs come after the order.
 pub fn fit_polynomial(values: &[f64; 257], pairs: usize, order: f64) -> Fitted
-    requires { ⌜ 1 + 4 * pairs ≤ 257 ⌝ }
+    requires { ⌜ 1 + 4 * pairs ≤ mostArguments ⌝ }
     ensures { λ r. ⌜ r ≡ Maker.fitPolynomial (now (values .entry)) pairs order ⌝ }
 {
     let number = order_number(order);
@@ -46,7 +47,7 @@ pub fn fit_polynomial(values: &[f64; 257], pairs: usize, order: f64) -> Fitted
 }
 
 pub fn fit_bilinear_reverse(values: &[f64; 257], pairs: usize) -> Fitted
-    requires { ⌜ 4 * pairs ≤ 257 ⌝ }
+    requires { ⌜ 4 * pairs ≤ mostArguments ⌝ }
     ensures { λ r. ⌜ r ≡ fitBilinearReverse (now (values .entry)) pairs ⌝ }
 {
     fit_both(
@@ -65,7 +66,7 @@ pub fn fit_bilinear_reverse(values: &[f64; 257], pairs: usize) -> Fitted
 }
 
 pub fn fit_bilinear_forward(values: &[f64; 257], pairs: usize) -> Fitted
-    requires { ⌜ 4 * pairs ≤ 257 ⌝ }
+    requires { ⌜ 4 * pairs ≤ mostArguments ⌝ }
     ensures { λ r. ⌜ r ≡ fitBilinearForward (now (values .entry)) pairs ⌝ }
 {
     fit_both(

@@ -3,6 +3,7 @@
 use Prim.Native.Nat.{ℕ, _+_, _*_, _/_, min}
 use mathlib.Core.Bool.{cond}
 use lib.Ieee.{Float, lt}
+use Rattle.exact.specs.Limits.{mostPairs}
 use Rattle.exact.specs.Double.{_⊕_, _⊖_, _⊗_, _⊘_, leastDivisor, one}
 use Rattle.exact.specs.Loop.{upTo}
 use Rattle.exact.specs.Vector.{Vector, at}
@@ -49,7 +50,7 @@ ofPairs c x y n = ended (movedBy x y) (upTo (pairTurn c x y) 0 n (on zeroSums))
 
 -- four coefficients a pair, and 64 pairs at most
 abbrev pub pairsKept : ℕ → ℕ
-pairsKept count = min (count / 4) 64
+pairsKept count = min (count / 4) mostPairs
 
 abbrev pub shepards : ℕ → Vector → Float → Float → Point
 shepards count c x y = ofPairs c x y (pairsKept count)

@@ -1,6 +1,7 @@
 // Shepards: the pairs' shifts, weighted by 1 over the squared distance. Assumes nothing.
 ghost use mathlib.Core.Path.{_≡_};
 ghost use Prim.Native.Nat.{_≤_};
+ghost use Rattle.exact.specs.Limits.{mostPairs};
 ghost use Rattle.inverse.specs.Shepards.{ofPairs, pairsKept};
 ghost use Rattle.inverse.specs.Shepards as Shepards;
 use number::magnitude::LEAST_DIVISOR;
@@ -9,7 +10,7 @@ use point::usable::point;
 
 // Over the first n pairs; one that lies at (x, y) is the answer.
 fn of_pairs(c: &[f64; 256], x: f64, y: f64, n: usize) -> Point
-    requires { ⌜ n ≤ 64 ⌝ }
+    requires { ⌜ n ≤ mostPairs ⌝ }
     ensures { λ r. ⌜ r ≡ ofPairs (now (c .entry)) x y n ⌝ }
 {
     let mut su = 0.0;
@@ -33,13 +34,15 @@ fn of_pairs(c: &[f64; 256], x: f64, y: f64, n: usize) -> Point
     point(x + su / sw, y + sv / sw)
 }
 
+const MOST_PAIRS: u64 = 64;
+
 fn pairs_kept(count: u64) -> usize
     ensures { λ r. ⌜ r ≡ pairsKept count ⌝ }
 {
-    if count / 4 < 64 {
+    if count / 4 < MOST_PAIRS {
         (count / 4) as usize
     } else {
-        64
+        MOST_PAIRS as usize
     }
 }
 

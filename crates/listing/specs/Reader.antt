@@ -6,6 +6,7 @@ use mathlib.Core.Bool.{Bool, true, false, not, _||_, cond}
 use mathlib.Core.List.{List, [], _∷_}
 use lib.Dec.{eqb, ltb}
 use lib.Ieee.{Float}
+use Rattle.exact.specs.Limits.{mostPairs}
 use Rattle.endian.specs.Bytes.{storeF64}
 use Rattle.listing.specs.declared.word.Word.{Word}
 use Rattle.listing.specs.declared.word.Word.the-variants.{Empty, Minus, Name, Number, Wrong}
@@ -55,7 +56,7 @@ placeOf s = 32 * (s .lines - 1) + 8 * slotOf (s .names) (s .column)
 
 -- an argument is kept on lines 1 to 64; no text with more is accepted
 unfoldable pub kept : Reader → Float → List ℕ → List ℕ
-kept s x bytes = cond (ltb (s .lines) 1) bytes (cond (ltb 64 (s .lines)) bytes (storeF64 bytes (placeOf s) x))
+kept s x bytes = cond (ltb (s .lines) 1) bytes (cond (ltb mostPairs (s .lines)) bytes (storeF64 bytes (placeOf s) x))
 
 -- a number is taken on every line but the first
 unfoldable pub takeNumber : Reader → Bool → ℕ → List ℕ → ReaderState

@@ -6,6 +6,7 @@ use mathlib.Core.List.{List, [], _∷_, _++_, map}
 use mathlib.Core.Path.{_≡_}
 use lib.Dec.{T, eqb, ltb}
 use lib.ListN.{length}
+use Rattle.exact.specs.Limits.{mostPairs}
 use Rattle.listing.specs.Word.{largestNumber}
 
 -- ---- a number: its sign, and its digits, the highest first, at least one
@@ -131,5 +132,5 @@ pub record Described (input : List ℕ) : Type 0 where
   pub pairs : List NumeralPair
   pub proper : AllProper pairs
   pub some : 0 < length pairs
-  pub room : length pairs ≤ 64
+  pub room : length pairs ≤ mostPairs
   pub is : input ≡ text order pairs

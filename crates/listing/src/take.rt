@@ -5,6 +5,7 @@ use crate::reader;
 use crate::reader::Reader;
 use crate::word;
 use crate::word::Word;
+use arguments::refusal::MOST_PAIRS;
 ghost use mathlib.Core.Path.{_≡_};
 ghost use Rattle.listing.specs.Reader.{takeName, isLarge, kept, takeNumber, takeWord};
 
@@ -47,7 +48,7 @@ fn keep(s: Reader, x: f64, arguments: &mut [u8; 2048])
     if lines < 1 {
         return;
     }
-    if 64 < lines {
+    if MOST_PAIRS < lines {
         return;
     }
     let names = s.names;

@@ -2,6 +2,7 @@
 // the pair asked for is in the store.
 ghost use mathlib.Core.Path.{_≡_};
 ghost use Prim.Native.Nat.{_+_, _*_, _≤_};
+ghost use Rattle.exact.specs.Limits.{mostArguments};
 ghost use Rattle.mappings.specs.Pairs.{pairAt};
 ghost use Rattle.mappings.specs.Pairs as Pairs;
 
@@ -13,7 +14,7 @@ pub struct Pair {
 }
 
 pub fn pair_at(values: &[f64; 257], skip: usize, j: usize) -> Pair
-    requires { ⌜ skip + 4 * j + 4 ≤ 257 ⌝ }
+    requires { ⌜ skip + 4 * j + 4 ≤ mostArguments ⌝ }
     ensures { λ r. ⌜ r ≡ pairAt (now (values .entry)) skip j ⌝ }
 {
     let k = skip + 4 * j;

@@ -8,14 +8,14 @@ ghost use Rattle.picture.specs.Pixel as Pixel;
 ghost use Rattle.picture.specs.Pixel.{Limited, Inside, pixelAt};
 use crate::colour::Rgba;
 use crate::colour::grey;
-use endian::bytes::f32_plain_at;
+use endian::bytes::f32_number_at;
 
 // The sample numbered k, which is no NaN.
 pub fn sample(picture: &[u8], k: u64) -> f32
     requires { ⌜ ((k + 1) * 4 ≤ length (now picture)) × Limited (now picture) ⌝ }
     ensures { λ r. ⌜ r ≡ sampleAt (now (picture .entry)) k ⌝ }
 {
-    f32_plain_at(picture, 4 * k as usize)
+    f32_number_at(picture, 4 * k as usize)
 }
 
 // The pixel whose first sample is numbered k. A picture of one channel has no second sample to read.

@@ -10,7 +10,7 @@ ghost use Rattle.picture.specs.Store.{storeSample, storeRgb, storePixel,
 use crate::colour::Rgba;
 use crate::colour::luma;
 use endian::bytes::store_f32;
-use endian::bytes::store_f32_plain;
+use endian::bytes::store_f32_number;
 
 // The sample numbered k.
 fn store_sample(band: &mut [u8], k: u64, v: f32)
@@ -25,7 +25,7 @@ fn store_number(band: &mut [u8], k: u64, v: f32)
     requires { ⌜ ((k + 1) * 4 ≤ length (now band)) × T (not (isNan v)) ⌝ }
     ensures { λ _. ⌜ now (band .exit) ≡ storeSample (now (band .entry)) k v ⌝ }
 {
-    store_f32_plain(band, 4 * k as usize, v);
+    store_f32_number(band, 4 * k as usize, v);
 }
 
 // Three samples from the one numbered k on, each tested for a NaN.

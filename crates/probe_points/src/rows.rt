@@ -4,7 +4,7 @@ ghost use mathlib.Core.Path.{_≡_};
 ghost use Prim.Native.Nat.{_+_, _*_, _≤_};
 ghost use lib.IntN.{natAbs};
 ghost use lib.ListN.{length};
-ghost use Rattle.exact.specs.Limits.{largestOffset, largestSide};
+ghost use Rattle.exact.specs.Limits.{largestOffset, largestSide, longestSpan};
 ghost use Rattle.exact.specs.Loop.{upTo};
 ghost use Rattle.probe_points.specs.Rows.{storeKept, storeColumn, storeRow, wrongRows, probeRows};
 use crate::pointed::store_point;
@@ -19,7 +19,7 @@ use window::extent::good_offset;
 
 // The points of a span from column `first` on, `place` points into the bytes.
 fn store_kept(us: &[f64; 64], vs: &[f64; 64], first: usize, n: usize, place: usize, out: &mut [u8])
-    requires { ⌜ (n ≤ 64) × ((place + (first + n)) * 24 ≤ length (now out)) ⌝ }
+    requires { ⌜ (n ≤ longestSpan) × ((place + (first + n)) * 24 ≤ length (now out)) ⌝ }
     ensures { λ _. ⌜ now (out .exit) ≡ upTo (storeKept (now (us .entry)) (now (vs .entry)) first place) first
         (first + n) (now (out .entry)) ⌝ }
 {
@@ -38,7 +38,7 @@ fn store_span_points(
     n: usize,
     place: usize,
 )
-    requires { ⌜ (n ≤ 64) × ((first + n ≤ largestSide) × (j ≤ largestSide)) ⌝ }
+    requires { ⌜ (n ≤ longestSpan) × ((first + n ≤ largestSide) × (j ≤ largestSide)) ⌝ }
     requires { ⌜ (natAbs (frame .x) ≤ largestOffset) × (natAbs (frame .y) ≤ largestOffset) ⌝ }
     requires { ⌜ (place + (first + n)) * 24 ≤ length (now out) ⌝ }
     ensures { λ _. ⌜ now (out .exit) ≡ upTo (storeColumn frame (now (coef .entry)) j place) first

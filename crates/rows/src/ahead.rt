@@ -3,9 +3,10 @@
 // these samples close together hides a part of that latency (docs/SPEED). What they are decides nothing: a caller is
 // right whatever the answer. Assumes that the bytes are a picture's.
 ghost use Prim.Native.Nat.{_+_, _≤_, _<_};
+ghost use Rattle.exact.specs.Limits.{longestSpan};
 ghost use Rattle.picture.specs.Pixel.{Shaped};
-ghost use Rattle.fast_colours.specs.Plain.{CellsInside};
-use fast_colours::plain::wide;
+ghost use Rattle.fast_colours.specs.InsideSpan.{CellsInside};
+use fast_colours::one_by_one::wide;
 use picture::pixel::pixel_at;
 use picture::shape::Shape;
 
@@ -17,13 +18,18 @@ const MOST: u32 = 9;
 // The limit of a sample, which no sample of a picture is above.
 const SAMPLE_LIMIT: f32 = 65536.0;
 
+// The pixels of a whole span, and the last of them.
+const WHOLE_SPAN: usize = 64;
+
+const LAST: usize = 63;
+
 // Whether a whole span goes over so many rows.
 fn slants(rows: &[u32; 64], n: usize) -> bool {
-    if n < 64 {
+    if n < WHOLE_SPAN {
         return false;
     }
     let first = rows[0];
-    let last = rows[63];
+    let last = rows[LAST];
     let over = if first < last {
         last - first
     } else {
@@ -45,7 +51,7 @@ fn second(picture: &[u8], shape: Shape, i: u64, j: u64) -> f32
 // is proved of the answer, and nothing rests on it.
 fn read(picture: &[u8], shape: Shape, columns: &[u32; 64], rows: &[u32; 64], n: usize) -> bool
     requires { ⌜ Shaped (now picture) shape ⌝ }
-    requires { ⌜ n ≤ 64 ⌝ }
+    requires { ⌜ n ≤ longestSpan ⌝ }
     requires { ⌜ CellsInside (shape .width) (shape .height) n (now columns) (now rows) ⌝ }
 {
     let mut good = true;
@@ -60,7 +66,7 @@ fn read(picture: &[u8], shape: Shape, columns: &[u32; 64], rows: &[u32; 64], n: 
 // The samples are read where the span slants.
 pub fn ahead(picture: &[u8], shape: Shape, columns: &[u32; 64], rows: &[u32; 64], n: usize) -> bool
     requires { ⌜ Shaped (now picture) shape ⌝ }
-    requires { ⌜ n ≤ 64 ⌝ }
+    requires { ⌜ n ≤ longestSpan ⌝ }
     requires { ⌜ CellsInside (shape .width) (shape .height) n (now columns) (now rows) ⌝ }
 {
     if slants(rows, n) {

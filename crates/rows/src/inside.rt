@@ -3,6 +3,7 @@
 // the band has room for the span.
 ghost use Prim.Native.Nat.{_+_, _*_, _≤_};
 ghost use lib.ListN.{length};
+ghost use Rattle.exact.specs.Limits.{longestSpan};
 ghost use Rattle.picture.specs.Pixel.{Shaped, Channels};
 ghost use Rattle.taps.specs.Interpolation.{Single, bilinearCode};
 ghost use Rattle.band.specs.Band.{InnerOrUntouched};
@@ -13,7 +14,7 @@ use fast_cells::cells::cells;
 use fast_cells::cells::places;
 use fast_cells::reach::Reach;
 use fast_colours::broad::store_broad_cells;
-use fast_colours::plain::store_places;
+use fast_colours::one_by_one::store_places;
 use fast_cubic::spans::store_cubic;
 use picture::shape::Shape;
 use taps::interpolation::BILINEAR;
@@ -34,7 +35,7 @@ fn store_single(
     requires { ⌜ Shaped (now picture) shape ⌝ }
     requires { ⌜ Channels (shape .channels) ⌝ }
     requires { ⌜ Single code ⌝ }
-    requires { ⌜ span .n ≤ 64 ⌝ }
+    requires { ⌜ span .n ≤ longestSpan ⌝ }
     requires { ⌜ (span .pixel + span .n) * shape .channels * 4 ≤ length (now band) ⌝ }
     ensures { λ r.
         ⌜ InnerOrUntouched r (shapedImage (now (picture .entry)) shape) code (shape .channels) (now (us .entry))
@@ -64,7 +65,7 @@ fn store_bilinear(
 ) -> bool
     requires { ⌜ Shaped (now picture) shape ⌝ }
     requires { ⌜ Channels (shape .channels) ⌝ }
-    requires { ⌜ span .n ≤ 64 ⌝ }
+    requires { ⌜ span .n ≤ longestSpan ⌝ }
     requires { ⌜ (span .pixel + span .n) * shape .channels * 4 ≤ length (now band) ⌝ }
     ensures { λ r.
         ⌜ InnerOrUntouched r (shapedImage (now (picture .entry)) shape) bilinearCode (shape .channels) (now (us .entry))
@@ -108,7 +109,7 @@ pub fn store_inside(
 ) -> bool
     requires { ⌜ Shaped (now picture) shape ⌝ }
     requires { ⌜ Channels (shape .channels) ⌝ }
-    requires { ⌜ span .n ≤ 64 ⌝ }
+    requires { ⌜ span .n ≤ longestSpan ⌝ }
     requires { ⌜ (span .pixel + span .n) * shape .channels * 4 ≤ length (now band) ⌝ }
     ensures { λ r.
         ⌜ InnerOrUntouched r (shapedImage (now (picture .entry)) shape) code (shape .channels) (now (us .entry))

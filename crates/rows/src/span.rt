@@ -5,7 +5,7 @@ ghost use mathlib.Core.Path.{_≡_};
 ghost use Prim.Native.Nat.{ℕ, _+_, _*_, _≤_};
 ghost use lib.IntN.{natAbs};
 ghost use lib.ListN.{length};
-ghost use Rattle.exact.specs.Limits.{largestOffset, largestSide};
+ghost use Rattle.exact.specs.Limits.{largestOffset, largestSide, longestSpan};
 ghost use Rattle.exact.specs.Vector as Vectors;
 ghost use Rattle.picture.specs.Pixel.{Shaped, Channels};
 ghost use Rattle.band.specs.Band.{
@@ -42,7 +42,7 @@ fn store_alike(
 ) -> bool
     requires { ⌜ Shaped (now picture) shape ⌝ }
     requires { ⌜ Channels «out_channels» ⌝ }
-    requires { ⌜ span .n ≤ 64 ⌝ }
+    requires { ⌜ span .n ≤ longestSpan ⌝ }
     requires { ⌜ (span .pixel + span .n) * «out_channels» * 4 ≤ length (now band) ⌝ }
     ensures { λ r.
         ⌜ InnerOrUntouched r (shapedImage (now (picture .entry)) shape) interpolation «out_channels» (now (us .entry))
@@ -67,7 +67,7 @@ fn store_colours(
 ) -> u64
     requires { ⌜ Shaped (now picture) shape ⌝ }
     requires { ⌜ Channels «out_channels» ⌝ }
-    requires { ⌜ span .n ≤ 64 ⌝ }
+    requires { ⌜ span .n ≤ longestSpan ⌝ }
     requires { ⌜ (span .pixel + span .n) * «out_channels» * 4 ≤ length (now band) ⌝ }
     ensures { λ r.
         ⌜ (r ≡ totalled (λ (k : ℕ). keptMattePixels (Vectors.at (now (us .entry)) k) (Vectors.at (now (vs .entry)) k))
@@ -102,7 +102,7 @@ pub fn store_span(
 ) -> u64
     requires { ⌜ Shaped (now picture) shape ⌝ }
     requires { ⌜ Channels «out_channels» ⌝ }
-    requires { ⌜ (span .n ≤ 64) × ((span .first + span .n ≤ largestSide) × (span .j ≤ largestSide)) ⌝ }
+    requires { ⌜ (span .n ≤ longestSpan) × ((span .first + span .n ≤ largestSide) × (span .j ≤ largestSide)) ⌝ }
     requires { ⌜ (natAbs (frame .x) ≤ largestOffset) × (natAbs (frame .y) ≤ largestOffset) ⌝ }
     requires { ⌜ (span .pixel + span .n) * «out_channels» * 4 ≤ length (now band) ⌝ }
     ensures { λ r.

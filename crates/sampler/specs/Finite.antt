@@ -4,15 +4,19 @@ use Prim.Native.Nat.{ℕ, _*_, _<_}
 use mathlib.Core.List.{List}
 use lib.Dec.{T}
 use lib.Ieee.{binary32, fits}
-use Rattle.exact.specs.Fraction.{frac}
+use Rattle.exact.specs.Fraction.{Fraction, frac}
 use Rattle.endian.specs.Bytes.{sampleAt}
 use Rattle.picture.specs.Pixel.{Picture}
 use Rattle.taps.specs.Weighted.{Bounded}
 use Rattle.picture.specs.declared.colour.Rgba.{Rgba}
 
+-- the largest sample of a picture, in magnitude
+abbrev pub largestSample : Fraction
+largestSample = frac 65536 1
+
 pub record BoundedPicture (bytes : List ℕ) (width height channels : ℕ) : Type 0 where
   pub picture : Picture bytes width height channels
-  pub samples : (k : ℕ) → k < width * height * channels → Bounded (frac 65536 1) (sampleAt bytes k)
+  pub samples : (k : ℕ) → k < width * height * channels → Bounded largestSample (sampleAt bytes k)
 
 -- each component is an f32 value
 pub record FitsBy (p : Rgba) : Type 0 where

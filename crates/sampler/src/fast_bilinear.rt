@@ -4,6 +4,7 @@ ghost use mathlib.Core.Path.{_≡_};
 ghost use mathlib.Core.List.{[], _∷_};
 ghost use Prim.Native.Nat.{_+_, _≤_, _<_};
 ghost use lib.Signed.{mag};
+ghost use Rattle.exact.specs.Limits.{farthestTap};
 ghost use Rattle.picture.specs.At.{at};
 ghost use Rattle.taps.specs.Cell.{Reached};
 ghost use Rattle.sampler.specs.Interpolate as Interpolate;
@@ -80,7 +81,7 @@ pub fn anywhere(
     ty: f32,
 ) -> Rgba
     requires { ⌜ Picture (now picture) width height channels ⌝ }
-    requires { ⌜ (mag column ≤ 2147483649) × (mag row ≤ 2147483649) ⌝ }
+    requires { ⌜ (mag column ≤ farthestTap) × (mag row ≤ farthestTap) ⌝ }
     ensures { λ r.
         ⌜ r ≡ weighted (taps (at (now (picture .entry)) width height channels policy background)
         (record { column = column; row = row }) 2) (weights Bilinear tx ty) 4 ⌝ }
@@ -153,7 +154,7 @@ fn around_cell(
     ty: f32,
 ) -> Rgba
     requires { ⌜ Picture (now picture) width height channels ⌝ }
-    requires { ⌜ (mag column ≤ 2147483649) × (mag row ≤ 2147483649) ⌝ }
+    requires { ⌜ (mag column ≤ farthestTap) × (mag row ≤ farthestTap) ⌝ }
     requires { ⌜ Unit32 tx × Unit32 ty ⌝ }
     ensures { λ r.
         ⌜ r ≡ weighted (taps (at (now (picture .entry)) width height channels policy background)

@@ -3,6 +3,7 @@
 ghost use mathlib.Core.Path.{_≡_};
 ghost use Prim.Native.Nat.{_*_, _≤_, _<_};
 ghost use lib.Signed.{mag};
+ghost use Rattle.exact.specs.Limits.{farthestTap};
 ghost use Rattle.picture.specs.At.{at};
 ghost use Rattle.taps.specs.Cell.{Reached};
 ghost use Rattle.sampler.specs.Interpolate as Interpolate;
@@ -37,7 +38,7 @@ fn line(
     s: Sums,
 ) -> Sums
     requires { ⌜ Picture (now picture) width height channels ⌝ }
-    requires { ⌜ (mag column ≤ 2147483649) × (mag row ≤ 2147483649) ⌝ }
+    requires { ⌜ (mag column ≤ farthestTap) × (mag row ≤ farthestTap) ⌝ }
     requires { ⌜ (j < n) × (n ≤ 4) ⌝ }
     ensures { λ r. ⌜ r ≡ lined
         (taps (at (now (picture .entry)) width height channels policy background)
@@ -79,7 +80,7 @@ fn mean_of_taps(
     weight: &[f32; 16],
 ) -> Rgba
     requires { ⌜ Picture (now picture) width height channels ⌝ }
-    requires { ⌜ (mag column ≤ 2147483649) × (mag row ≤ 2147483649) ⌝ }
+    requires { ⌜ (mag column ≤ farthestTap) × (mag row ≤ farthestTap) ⌝ }
     requires { ⌜ n ≤ 4 ⌝ }
     ensures { λ r. ⌜ r ≡ weighted
         (taps (at (now (picture .entry)) width height channels policy background)

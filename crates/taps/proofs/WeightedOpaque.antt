@@ -77,7 +77,6 @@ module _ (tx ty : Float) (x : Unit32 tx) (y : Unit32 ty) where
       a = (ap (λ (z : Float). quotient z (weightSum tx ty)) alpha-is ∙ by-weight (alphaSum tx ty)) i;
     }
 
-
 -- ---- by example: halfway between an opaque white and a clear pixel
 abbrev white : Rgba
 white = grey one one

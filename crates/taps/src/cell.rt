@@ -4,6 +4,7 @@ ghost use mathlib.Core.Path.{_≡_};
 ghost use Prim.Native.Nat.{_≤_};
 ghost use lib.IntN.{pos, _-ℤ_};
 ghost use lib.Signed.{mag};
+ghost use Rattle.exact.specs.Limits.{farthestFloor};
 ghost use Rattle.number.specs.Floor.{floorI64};
 ghost use Rattle.taps.specs.Cell.{Reached, fraction, rounded, first};
 ghost use Rattle.taps.specs.Interpolation.{interpolation};
@@ -42,7 +43,7 @@ pub fn rounded(x: f64) -> i64
 
 // The index one back: that of `Average16`, `Catrom` and `Spline` from the whole number below.
 pub fn before(v: i64) -> i64
-    requires { ⌜ mag v ≤ 2147483648 ⌝ }
+    requires { ⌜ mag v ≤ farthestFloor ⌝ }
     ensures { λ r. ⌜ r ≡ v -ℤ pos 1 ⌝ }
 {
     v - 1

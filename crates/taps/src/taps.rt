@@ -4,6 +4,7 @@ ghost use mathlib.Core.Path.{_≡_};
 ghost use Prim.Native.Nat.{_≤_};
 ghost use lib.IntN.{pos, _+ℤ_};
 ghost use lib.Signed.{mag};
+ghost use Rattle.exact.specs.Limits.{farthestTap};
 ghost use Rattle.picture.specs.At.{at};
 ghost use Rattle.taps.specs.Interpolation.{interpolation};
 ghost use Rattle.picture.specs.Pixel.{Picture};
@@ -41,7 +42,7 @@ pub fn side(code: u64) -> usize
 
 // The index k further on.
 pub fn moved(v: i64, k: usize) -> i64
-    requires { ⌜ (mag v ≤ 2147483649) × (k ≤ 4) ⌝ }
+    requires { ⌜ (mag v ≤ farthestTap) × (k ≤ 4) ⌝ }
     ensures { λ r. ⌜ r ≡ v +ℤ pos k ⌝ }
 {
     v + k as i64
@@ -62,7 +63,7 @@ pub fn tap(
     j: usize,
 ) -> Rgba
     requires { ⌜ Picture (now picture) width height channels ⌝ }
-    requires { ⌜ (mag column ≤ 2147483649) × (mag row ≤ 2147483649) ⌝ }
+    requires { ⌜ (mag column ≤ farthestTap) × (mag row ≤ farthestTap) ⌝ }
     requires { ⌜ (i ≤ 4) × (j ≤ 4) ⌝ }
     ensures { λ r. ⌜ r ≡ at (now (picture .entry)) width height channels policy background (column +ℤ pos i)
         (row +ℤ pos j) ⌝ }
@@ -90,7 +91,7 @@ pub fn nearby(
     j: usize,
 ) -> Rgba
     requires { ⌜ Picture (now picture) width height channels ⌝ }
-    requires { ⌜ (mag column ≤ 2147483649) × (mag row ≤ 2147483649) ⌝ }
+    requires { ⌜ (mag column ≤ farthestTap) × (mag row ≤ farthestTap) ⌝ }
     requires { ⌜ (i ≤ 4) × (j ≤ 4) ⌝ }
     ensures { λ r. ⌜ r ≡ at (now (picture .entry)) width height channels policy background (column +ℤ pos i)
         (row +ℤ pos j) ⌝ }

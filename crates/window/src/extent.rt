@@ -5,6 +5,7 @@ ghost use lib.IntN.{pos};
 ghost use lib.Signed.{_≤ℤ_};
 ghost use lib.Ieee.{le, binary64, ofBits};
 ghost use lib.Ieee.Scale.{finite};
+ghost use Rattle.exact.specs.Limits.{farthestFloor};
 ghost use Rattle.window.specs.Extent as Side;
 use crate::ceil::ceil_i64;
 use number::floor::floor_i64;
@@ -38,7 +39,7 @@ pub fn held(from: i64, length: u64) -> Extent
 
 // From `from` up to `to`: one pixel at least.
 fn from_to(from: i64, to: i64) -> Extent
-    requires { ⌜ to ≤ℤ pos 2147483648 ⌝ }
+    requires { ⌜ to ≤ℤ pos farthestFloor ⌝ }
     ensures { λ r. ⌜ r ≡ Side.fromTo from to ⌝ }
 {
     if !good_offset(from) {

@@ -8,7 +8,7 @@ use mathlib.Core.List.{List}
 use lib.Ieee.{Float}
 use denote.Ref.{now}
 use Rattle.picture.specs.Pixel.{Picture}
-use Rattle.fast_colours.specs.Plain.{mixedAt}
+use Rattle.fast_colours.specs.InsideSpan.{mixedAt}
 use Rattle.fast_colours.specs.Broad.{Beside}
 use Rattle.fast_colours.proofs.CoverLaws.{covered-done}
 use Rattle.fast_colours.proofs.broad.store_broad.Statement.{statement}

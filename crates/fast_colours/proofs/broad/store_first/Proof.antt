@@ -8,7 +8,7 @@ use borrow.Author.Needs.{needs}
 use lib.ListN.{length}
 use denote.Ref.{now}
 use Rattle.picture.specs.Pixel.{Picture}
-use Rattle.fast_colours.specs.Plain.{mixedAt}
+use Rattle.fast_colours.specs.InsideSpan.{mixedAt}
 use Rattle.fast_colours.proofs.CoverLaws.{Overlaid, covered-start, covered-next, covered-last}
 use Rattle.fast_colours.proofs.broad.store_first.Statement.{statement}
 use Rattle.fast_colours.proofs.broad.store_first.Tie as tie

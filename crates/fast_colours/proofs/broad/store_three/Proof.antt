@@ -6,7 +6,7 @@ use native.Mathlib.Omega.{arith}
 use denote.Ref.{now}
 use borrow.Author.Needs.{needs}
 use Rattle.picture.specs.Pixel.{Picture}
-use Rattle.fast_colours.proofs.PlainLaws.{blend-all, mixable}
+use Rattle.fast_colours.proofs.InsideSpanLaws.{blend-all, mixable}
 use Rattle.fast_colours.proofs.BesideLaws.{all-beside}
 use Rattle.fast_colours.proofs.broad.store_three.Statement.{statement}
 use Rattle.fast_colours.proofs.broad.store_three.Tie as tie

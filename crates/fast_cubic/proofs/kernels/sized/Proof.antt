@@ -1,5 +1,5 @@
 -- `fast_cubic::kernels::sized` meets its contract: what it is told of its argument. Assumes nothing.
-use Rattle.fast_colours.proofs.PlainLaws.{are-sized}
+use Rattle.fast_colours.proofs.InsideSpanLaws.{are-sized}
 use Rattle.fast_cubic.proofs.kernels.sized.Statement.{statement}
 use Rattle.fast_cubic.proofs.kernels.sized.Tie as tie
 

@@ -5,7 +5,7 @@ use mathlib.Core.Bool.{false≢true}
 use denote.Ref.{now}
 use borrow.Author.Needs.{needs}
 use Rattle.band.proofs.InnerLaws.{inner-put}
-use Rattle.fast_colours.proofs.PlainLaws.{cells-inside, cells-units, cells-shown}
+use Rattle.fast_colours.proofs.InsideSpanLaws.{cells-inside, cells-units, cells-shown}
 use Rattle.rows.proofs.inside.store_bilinear.Statement.{statement}
 use Rattle.rows.proofs.inside.store_bilinear.Tie as tie
 

@@ -5,7 +5,7 @@ use mathlib.Core.Bool.{false≢true}
 use borrow.Author.Needs.{needs}
 use denote.Ref.{now}
 use Rattle.band.proofs.InnerLaws.{inner-put}
-use Rattle.fast_colours.proofs.PlainLaws.{places-within, places-shown}
+use Rattle.fast_colours.proofs.InsideSpanLaws.{places-within, places-shown}
 use Rattle.rows.proofs.inside.store_single.Statement.{statement}
 use Rattle.rows.proofs.inside.store_single.Tie as tie
 

@@ -4,11 +4,12 @@
 ghost use mathlib.Core.Path.{_≡_};
 ghost use Prim.Native.Nat.{ℕ, _+_, _*_, _≤_, _<_};
 ghost use lib.ListN.{length, getD};
+ghost use Rattle.exact.specs.Limits.{longestSpan};
 ghost use Rattle.sampler.specs.TwoByTwo.{mixed};
 ghost use Rattle.picture.specs.Pixel.{Picture, Shaped, Channels, pixelAt};
 ghost use Rattle.band.specs.Band.{putPixels};
-ghost use Rattle.fast_colours.specs.Plain.{PixelsInside, CellsInside, Fractions, Sized, Weights};
-ghost use Rattle.fast_colours.specs.Plain.{mixedAt, blendAt, Mixable};
+ghost use Rattle.fast_colours.specs.InsideSpan.{PixelsInside, CellsInside, Fractions, Sized, Weights};
+ghost use Rattle.fast_colours.specs.InsideSpan.{mixedAt, blendAt, Mixable};
 use band::span::Span;
 use picture::colour::Rgba;
 use picture::pixel::pixel_at;
@@ -32,7 +33,7 @@ pub fn wide(c: u32) -> u64
 // The weights of the first n points at their fractions, an array for each of the cell's four taps, row by row, and
 // their sums.
 pub fn weigh(xs: &[f32; 64], ys: &[f32; 64], n: usize, w: &mut [[f32; 64]; 5])
-    requires { ⌜ n ≤ 64 ⌝ }
+    requires { ⌜ n ≤ longestSpan ⌝ }
     ensures { λ _. ⌜ Weights n (now (xs .entry)) (now (ys .entry)) (now (w .exit)) ⌝ }
 {
     sized(*w);
@@ -75,7 +76,7 @@ fn coloured(
 }
 
 // The colours of a span's cells at their weights, put into the band.
-fn store_plain(
+fn store_one_by_one(
     picture: &[u8],
     shape: Shape,
     columns: &[u32; 64],
@@ -86,7 +87,7 @@ fn store_plain(
 )
     requires { ⌜ Shaped (now picture) shape ⌝ }
     requires { ⌜ Channels (shape .channels) ⌝ }
-    requires { ⌜ span .n ≤ 64 ⌝ }
+    requires { ⌜ span .n ≤ longestSpan ⌝ }
     requires { ⌜ CellsInside (shape .width) (shape .height) (span .n) (now columns) (now rows) ⌝ }
     requires { ⌜ Mixable (now picture) (shape .width) (shape .channels) (span .n) (now columns) (now rows) (now w) ⌝ }
     requires { ⌜ (span .pixel + span .n) * shape .channels * 4 ≤ length (now band) ⌝ }
@@ -135,7 +136,7 @@ pub fn store_cells(
 )
     requires { ⌜ Shaped (now picture) shape ⌝ }
     requires { ⌜ Channels (shape .channels) ⌝ }
-    requires { ⌜ span .n ≤ 64 ⌝ }
+    requires { ⌜ span .n ≤ longestSpan ⌝ }
     requires { ⌜ CellsInside (shape .width) (shape .height) (span .n) (now columns) (now rows) ⌝ }
     requires { ⌜ Fractions (span .n) (now xs) × Fractions (span .n) (now ys) ⌝ }
     requires { ⌜ (span .pixel + span .n) * shape .channels * 4 ≤ length (now band) ⌝ }
@@ -146,7 +147,7 @@ pub fn store_cells(
 {
     let mut w = [[0.0; 64]; 5];
     weigh(xs, ys, span.n, &mut w);
-    store_plain(picture, shape, columns, rows, &w, span, band);
+    store_one_by_one(picture, shape, columns, rows, &w, span, band);
 }
 
 // The picture's own pixels at a span's places, put into the band with as many samples.
@@ -160,7 +161,7 @@ pub fn store_places(
 )
     requires { ⌜ Shaped (now picture) shape ⌝ }
     requires { ⌜ Channels (shape .channels) ⌝ }
-    requires { ⌜ span .n ≤ 64 ⌝ }
+    requires { ⌜ span .n ≤ longestSpan ⌝ }
     requires { ⌜ PixelsInside (shape .width) (shape .height) (span .n) (now columns) (now rows) ⌝ }
     requires { ⌜ (span .pixel + span .n) * shape .channels * 4 ≤ length (now band) ⌝ }
     ensures { λ _.

@@ -1,4 +1,4 @@
--- `fast_colours::plain::store_plain` meets its contract. The loop's invariant: the pixels passed are in the band.
+-- `fast_colours::one_by_one::store_one_by_one` meets its contract. The loop's invariant: the pixels passed are in the band.
 -- Assumes nothing.
 use mathlib.Core.Path.{_∙_, refl}
 use Prim.Native.Nat.{ℕ, _-_}
@@ -7,9 +7,9 @@ use native.Mathlib.Omega.{arith}
 use borrow.Author.Needs.{needs}
 use Rattle.band.proofs.PixelLaws.{channels-pos}
 use Rattle.band.proofs.RowLaws.{RowHolds, row-start, row-room, row-next, row-done, row-same, place-small}
-use Rattle.fast_colours.specs.Plain.{mixedAt}
-use Rattle.fast_colours.proofs.plain.store_plain.Statement.{statement}
-use Rattle.fast_colours.proofs.plain.store_plain.Tie as tie
+use Rattle.fast_colours.specs.InsideSpan.{mixedAt}
+use Rattle.fast_colours.proofs.one_by_one.store_one_by_one.Statement.{statement}
+use Rattle.fast_colours.proofs.one_by_one.store_one_by_one.Tie as tie
 
 abbrev Inv-loop : tie.InvT-loop
 Inv-loop picture columns rows w band₀ width height channels pixel n k₀ band k =
@@ -92,8 +92,8 @@ returns c =
     let H = c .before .loop .inv in
     row-done (c .before .before .before .before .pre .1 .1 .1 .1 .1) H (le-antisymm (H .most) (search needs))
 
-pub store-plain-spec : {M : Type 1} → statement M
-store-plain-spec =
+pub store-one-by-one-spec : {M : Type 1} → statement M
+store-one-by-one-spec =
     tie.close
     (tie.spec
     Inv-loop

@@ -1,4 +1,4 @@
--- `fast_colours::plain::store_places` meets its contract. The loop's invariant: the pixels passed are in the band.
+-- `fast_colours::one_by_one::store_places` meets its contract. The loop's invariant: the pixels passed are in the band.
 -- Assumes nothing.
 use mathlib.Core.Path.{_∙_, refl}
 use Prim.Native.Nat.{ℕ, _-_}
@@ -10,8 +10,8 @@ use Rattle.picture.specs.Pixel.{pixelAt}
 use Rattle.fast_colours.proofs.NumberLaws.{pixel-numbers}
 use Rattle.band.proofs.PixelLaws.{channels-pos}
 use Rattle.band.proofs.RowLaws.{RowHolds, row-start, row-room, row-next, row-done, row-same, place-small}
-use Rattle.fast_colours.proofs.plain.store_places.Statement.{statement}
-use Rattle.fast_colours.proofs.plain.store_places.Tie as tie
+use Rattle.fast_colours.proofs.one_by_one.store_places.Statement.{statement}
+use Rattle.fast_colours.proofs.one_by_one.store_places.Tie as tie
 
 abbrev Inv-loop : tie.InvT-loop
 Inv-loop picture columns rows band₀ width channels pixel n k₀ band k =

@@ -5,6 +5,7 @@ use mathlib.Core.Path.{_≡_}
 use mathlib.Core.List.{List, []}
 use lib.ListN.{length, getD}
 use lib.Ieee.{Float}
+use Rattle.exact.specs.Limits.{longestSpan}
 use Rattle.exact.specs.Weighted.{Unit32}
 use Rattle.exact.specs.Vector.{at}
 use Rattle.picture.specs.Store.{Numbers}
@@ -34,7 +35,7 @@ blendAt bytes width channels columns rows xs ys k =
 -- m lists of 64 places
 pub record Sized (m : ℕ) (w : List (List Float)) : Type 0 where
   pub lists : length w ≡ m
-  pub places : (i : ℕ) → i < m → length (getD w i []) ≡ 64
+  pub places : (i : ℕ) → i < m → length (getD w i []) ≡ longestSpan
 
 -- the k-th of the list numbered i
 abbrev pub weight : List (List Float) → ℕ → ℕ → Float

@@ -1,11 +1,11 @@
--- `fast_colours::plain::weigh` meets its contract. The loop's invariant: the first k points are weighed. Assumes
+-- `fast_colours::one_by_one::weigh` meets its contract. The loop's invariant: the first k points are weighed. Assumes
 -- nothing.
 use Prim.Native.Nat.{_-_, _≤_}
 use borrow.Author.Needs.{needs}
 use Rattle.sampler.proofs.MixedLaws.{weighed-by}
-use Rattle.fast_colours.proofs.PlainLaws.{Weighing, weigh-none, weigh-more, weigh-last}
-use Rattle.fast_colours.proofs.plain.weigh.Statement.{statement}
-use Rattle.fast_colours.proofs.plain.weigh.Tie as tie
+use Rattle.fast_colours.proofs.InsideSpanLaws.{Weighing, weigh-none, weigh-more, weigh-last}
+use Rattle.fast_colours.proofs.one_by_one.weigh.Statement.{statement}
+use Rattle.fast_colours.proofs.one_by_one.weigh.Tie as tie
 
 abbrev Inv-loop : tie.InvT-loop
 Inv-loop xs ys n w₀ k₀ w k = Weighing k xs ys w × (k ≤ n)

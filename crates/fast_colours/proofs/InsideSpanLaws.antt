@@ -34,7 +34,7 @@ use Rattle.sampler.proofs.MixedLaws.{mixed-blend}
 use Rattle.sampler.proofs.InsideLaws.{bilinear-inside, single-inside}
 use Rattle.band.specs.Band.{putPixels}
 use Rattle.band.specs.Image.{imageOf}
-use Rattle.fast_colours.specs.Plain.{
+use Rattle.fast_colours.specs.InsideSpan.{
   PixelsInside,
   CellsInside,
   Fractions,

@@ -1,11 +1,11 @@
--- `fast_colours::plain::coloured` meets its contract: each way hands on the number of channels that was tested. Assumes
+-- `fast_colours::one_by_one::coloured` meets its contract: each way hands on the number of channels that was tested. Assumes
 -- nothing.
 use mathlib.Core.Path.{_≡_}
 use mathlib.Core.Logic.{inl, inr}
 use Prim.Native.Nat.{ℕ}
 use Rattle.picture.specs.Pixel.{Channels}
-use Rattle.fast_colours.proofs.plain.coloured.Statement.{statement}
-use Rattle.fast_colours.proofs.plain.coloured.Tie as tie
+use Rattle.fast_colours.proofs.one_by_one.coloured.Statement.{statement}
+use Rattle.fast_colours.proofs.one_by_one.coloured.Tie as tie
 
 -- what is neither four nor three is one
 one-left : (n : ℕ) → Channels n → (n ≡ 4 → ⊥) → (n ≡ 3 → ⊥) → n ≡ 1

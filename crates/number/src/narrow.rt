@@ -30,9 +30,10 @@ const LEAST_FIELD: u64 = 873;
 // an f64 with this field counts its last digit in units of 2^-149
 const UNIT_FIELD: u64 = 926;
 
-// an f32's infinity, and the sign's bit of both formats
+// an f32's infinity
 const INFINITY: u64 = 0x7f80_0000;
 
+// the sign's bit of an f64, and of an f32
 const SIGN: u64 = 0x8000_0000_0000_0000;
 
 const SIGN_32: u64 = 0x8000_0000;

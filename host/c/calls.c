@@ -299,6 +299,9 @@ static void refused_6_to_8(void)
     job.method = DIHYRAVO_METHOD_POLYNOMIAL, job.arguments = arguments, job.arguments_length = sizeof arguments;
     refused("order 6", 6, job, sizeof grey);
     arguments[0] = 0.5, refused("order 0.5", 6, job, sizeof grey);
+    arguments[0] = 2.5, refused("order 2.5", 6, job, sizeof grey);
+    arguments[0] = 1.5 - 0x1p-52, refused("an order a step below 1.5", 6, job, sizeof grey);
+    arguments[0] = 1.5 + 0x1p-52, refused("an order a step above 1.5", 6, job, sizeof grey);
     arguments[0] = 2, refused("order 2 of 4 pairs", 7, job, sizeof grey);
     job = plain(), job.arguments_length -= 4 * sizeof(double), refused("Perspective of 3 pairs", 7, job, sizeof grey);
     static const double line[16] = {0, 0, 0, 0, 1, 1, 1, 1, 2, 2, 2, 2, 3, 3, 3, 3}, flat[6] = {1, 2, 2, 4, 0, 0};

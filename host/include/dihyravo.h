@@ -58,8 +58,8 @@ enum dihyravo_method_code {
                                                    y = (d u + e v + f)/(g u + h v + 1) */
     DIHYRAVO_METHOD_BILINEAR_REVERSE = 5,       /* 4 pairs or more; u and v are bilinear in x and y */
     DIHYRAVO_METHOD_BILINEAR_FORWARD = 6,       /* 4 pairs or more; x and y are bilinear in u and v */
-    DIHYRAVO_METHOD_POLYNOMIAL = 7,             /* the order, 1 to 5 or 1.5, then pairs: 3, 6, 10, 15, 21, or 4,
-                                                   or more */
+    DIHYRAVO_METHOD_POLYNOMIAL = 7,             /* the order, 1, 1.5, 2, 3, 4 or 5, then pairs: 3, 4, 6, 10, 15,
+                                                   21 or more */
     DIHYRAVO_METHOD_BARREL = 11,                /* A,B,C[,D[,X,Y]]: the radius times A r^3 + B r^2 + C r + D, around
                                                    X,Y; r is the output's radius, 1 at half the picture's shorter
                                                    side. Left out, D is 1 - (A + B + C) and X,Y the picture's
@@ -114,7 +114,7 @@ enum dihyravo_refusal {
                                         64 pairs */
     DIHYRAVO_REFUSAL_NUMBER = 5,     /* an argument is not finite or above 1,048,576 in magnitude; a sample, background
                                         or matte component likewise above 65,536 */
-    DIHYRAVO_REFUSAL_ORDER = 6,      /* Polynomial order outside 1 to 5 */
+    DIHYRAVO_REFUSAL_ORDER = 6,      /* the order of Polynomial is not exactly 1, 1.5, 2, 3, 4 or 5 */
     DIHYRAVO_REFUSAL_FEW = 7,        /* under 4 pairs for Perspective and both Bilinears; under the term count for
                                         Polynomial */
     DIHYRAVO_REFUSAL_DEGENERATE = 8, /* the fit's solution or inversion gives none */

@@ -6,8 +6,10 @@ use mathlib.Core.Bool.{Bool, true, false, not, _&&_, _||_}
 use mathlib.Core.List.{List}
 use Prim.Native.Nat.{ℕ, _+_, _-_, _*_, _/_, _%_, _≤_, _<_}
 use native.Mathlib.Omega.{arith}
-use lib.Dec.{eqb, ltb}
+use lib.Dec.{T, eqb, ltb}
 use lib.ListN.{length}
+use lib.Ieee.{Float, binary64, fits}
+use lib.Ieee.Bits.{ofBits-fits}
 use borrow.Author.Tests.{ltb-false, eqb-true, not-false}
 use Rattle.endian.specs.Bytes.{argumentAt}
 use Rattle.arguments.specs.Method.{
@@ -34,9 +36,10 @@ use Rattle.arguments.specs.Refusal.{
   fewPairs,
   argumentsRefusal,
 }
-use Rattle.exact.proofs.Booleans.{or-false}
+use Rattle.exact.proofs.Booleans.{or-false, either}
 use Rattle.exact.proofs.TableLaws.{row-failed}
 use Rattle.arguments.proofs.NumberLaws.{all-good}
+use Rattle.arguments.proofs.OrderLaws.{OneOfSix, one-of-six}
 use Rattle.arguments.proofs.CountLaws.{values-count, pairs-after}
 
 pub record Accepted (m : ℕ) (bytes : List ℕ) : Type 0 where
@@ -51,9 +54,9 @@ pub record Accepted (m : ℕ) (bytes : List ℕ) : Type 0 where
   pub pairs : pairMethod m ≡ true → (countOf bytes ≡ skip m + 4 * pairsOf m bytes)
       × ((1 ≤ pairsOf m bytes) × (pairsOf m bytes ≤ 64))
   pub enough : leastPairs m (orderOf bytes) ≤ pairsOf m bytes
-  -- each finite and within the limit, and a polynomial's order from 1 to 5
+  -- each finite and within the limit, and a polynomial's order one of six
   pub numbers : (k : ℕ) → k < countOf bytes → goodNumber (argumentAt bytes k) ≡ true
-  pub order : m ≡ polynomialCode → goodOrder (orderOf bytes) ≡ true
+  pub order : m ≡ polynomialCode → OneOfSix (orderOf bytes)
 
 -- ---- what each test says by itself
 eights : (n : ℕ) → n % 8 ≡ 0 → n ≡ 8 * (n / 8)
@@ -65,6 +68,12 @@ equal n c e = eqb-true n c (not-false (eqb n c) e)
 counted : (s n : ℕ) → (s ≤ n) × (badValues (n - s) ≡ false) → (n ≡ s + 4 * ((n - s) / 4))
     × ((1 ≤ (n - s) / 4) × ((n - s) / 4 ≤ 64))
 counted s n h = let v = values-count (n - s) (h .1) in (omega arith, v .1)
+
+order-fits : (bytes : List ℕ) → T (fits binary64 (orderOf bytes))
+unfolding orderOf
+order-fits bytes =
+    either (λ (x : Float). T (fits binary64 x)) (eqb (countOf bytes) 0) (ofBits-fits binary64 0)
+    (ofBits-fits binary64 _)
 
 -- a test of the method m, at the code k that m is
 at : (m k : ℕ) (test : ℕ → Bool) → test m ≡ false → m ≡ k → test k ≡ false
@@ -91,8 +100,8 @@ module _ (m : ℕ) (bytes : List ℕ) where
         pairs = λ e. counted (skip m) n (pairs-after m n e (t .1));
         enough = ltb-false (pairsOf m bytes) (leastPairs m (orderOf bytes)) few;
         numbers = all-good bytes number;
-        order = λ e. not-false (goodOrder (orderOf bytes))
-            (at m polynomialCode (λ (x : ℕ). eqb x polynomialCode && not (goodOrder (orderOf bytes))) order e);
+        order = λ e. one-of-six (orderOf bytes) (order-fits bytes) (not-false (goodOrder (orderOf bytes))
+            (at m polynomialCode (λ (x : ℕ). eqb x polynomialCode && not (goodOrder (orderOf bytes))) order e));
       }
 
   pub accepted : argumentsRefusal m bytes ≡ 0 → Accepted m bytes

@@ -1,31 +1,43 @@
--- The order of a polynomial: how many terms it has, and up to which degree. Judged here alone. Specification 3.2.
--- Assumes nothing.
+-- The orders of a polynomial, as ImageMagick's handbook has them: 1, 1.5, 2, 3, 4 and 5; how many terms each has, and up
+-- to which degree. Judged here alone. Specification 3.3. Assumes nothing.
 use Prim.Native.Nat.{ℕ, _+_, _*_, _/_}
-use mathlib.Core.Bool.{Bool, _&&_, cond}
-use lib.Ieee.{Float, binary64, ofBits, lt, le}
-use Rattle.exact.specs.Double.{_⊖_}
-use Rattle.number.specs.Magnitude.{abs}
+use mathlib.Core.Bool.{Bool, _||_, cond}
+use lib.Dec.{ltb}
+use lib.Ieee.{Float, binary64, ofBits, eq}
+use Rattle.exact.specs.Double.{one, two}
 
--- within 1e-9 of 1.5: the terms 1, x, y, xy
+abbrev pub oneAndHalf : Float
+oneAndHalf = ofBits binary64 0x3ff8_0000_0000_0000  -- 1.5
+
+abbrev pub three : Float
+three = ofBits binary64 0x4008_0000_0000_0000  -- 3.0
+
+abbrev pub four : Float
+four = ofBits binary64 0x4010_0000_0000_0000  -- 4.0
+
+abbrev pub five : Float
+five = ofBits binary64 0x4014_0000_0000_0000  -- 5.0
+
+-- exactly 1.5: the terms 1, x, y, xy
 unfoldable pub bilinearOrder : Float → Bool
-bilinearOrder order =
-    lt (abs (order ⊖ ofBits binary64 0x3ff8_0000_0000_0000))  -- 1.5
-    (ofBits binary64 0x3e11_2e0b_e826_d695)  -- 1e-9
+bilinearOrder order = eq order oneAndHalf
 
--- the order rounded, halves up, for an order from 1 to 5
+-- 1, 2, 3, 4 or 5 for that whole order, and 0 for every other
 unfoldable pub degree : Float → ℕ
 degree order =
-    cond (lt order (ofBits binary64 0x3ff8_0000_0000_0000)) 1  -- 1.5
-    (cond (lt order (ofBits binary64 0x4004_0000_0000_0000)) 2  -- 2.5
-    (cond (lt order (ofBits binary64 0x400c_0000_0000_0000)) 3  -- 3.5
-    (cond (lt order (ofBits binary64 0x4012_0000_0000_0000)) 4  -- 4.5
-    5)))
+    cond (eq order one) 1
+    (cond (eq order two) 2
+    (cond (eq order three) 3
+    (cond (eq order four) 4
+    (cond (eq order five) 5
+    0))))
 
 -- 1, x, y, xy for the bilinear order, else the monomials up to the degree: 3, 6, 10, 15 or 21
 unfoldable pub termsOf : Float → ℕ
 unfolding bilinearOrder degree
 termsOf order = cond (bilinearOrder order) 4 ((degree order + 1) * (degree order + 2) / 2)
 
--- from 1.0 to 5.0
+-- exactly 1, 1.5, 2, 3, 4 or 5
 unfoldable pub goodOrder : Float → Bool
-goodOrder order = le (ofBits binary64 0x3ff0_0000_0000_0000) order && le order (ofBits binary64 0x4014_0000_0000_0000)
+unfolding bilinearOrder degree
+goodOrder order = bilinearOrder order || ltb 0 (degree order)

@@ -80,30 +80,33 @@ impl Polynomial {
     // The order stands before the pairs.
     pub const SKIP: u64 = 1;
 
-    // Within 1e-9 of 1.5: the terms 1, x, y, xy.
+    // Exactly 1.5: the terms 1, x, y, xy.
     pub fn bilinear(order: f64) -> bool
         ensures { λ r. ⌜ r ≡ bilinearOrder order ⌝ }
     {
-        number::magnitude::abs(order - 1.5) < 1e-9
+        order == 1.5
     }
 
-    // The order from 1 to 5, rounded, halves up.
+    // 1, 2, 3, 4 or 5 for that whole order, and 0 for every other.
     pub fn degree(order: f64) -> u64
         ensures { λ r. ⌜ r ≡ degree order ⌝ }
     {
-        if order < 1.5 {
+        if order == 1.0 {
             return 1;
         }
-        if order < 2.5 {
+        if order == 2.0 {
             return 2;
         }
-        if order < 3.5 {
+        if order == 3.0 {
             return 3;
         }
-        if order < 4.5 {
+        if order == 4.0 {
             return 4;
         }
-        5
+        if order == 5.0 {
+            return 5;
+        }
+        0
     }
 
     pub fn terms(order: f64) -> u64
@@ -123,11 +126,11 @@ impl Polynomial {
         Polynomial::terms(order)
     }
 
-    // From 1 to 5.
+    // Exactly 1, 1.5, 2, 3, 4 or 5.
     pub fn good_order(order: f64) -> bool
         ensures { λ r. ⌜ r ≡ goodOrder order ⌝ }
     {
-        if 1.0 <= order { order <= 5.0 } else { false }
+        Polynomial::bilinear(order) || 0 < Polynomial::degree(order)
     }
 }
 

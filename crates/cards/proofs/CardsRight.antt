@@ -3,7 +3,7 @@ use mathlib.Core.Path.{_≡_, refl}
 use mathlib.Core.Bool.{true}
 use mathlib.Core.List.{[], _∷_}
 use lib.IntN.{pos, negsuc}
-use lib.Ieee.{add, sub, mul, div, neg, sum, round, ofBits, lt, le, ofInt, isNan}
+use lib.Ieee.{add, sub, mul, div, neg, sum, round, ofBits, eq, lt, le, ofInt, isNan}
 use Rattle.exact.specs.Loop.{turns, upTo}
 use Rattle.exact.specs.Table.{firstOf}
 use Rattle.endian.specs.Bytes.{numberAt, storeNumber}
@@ -156,14 +156,13 @@ unfolding Build.build Build.made Method.present Arguments.badCount Arguments.bad
     Point.usable Root.root Root.rootOf Root.nearestRoot Root.wholeRoot isNan
 barrel-stays = refl
 
-nine-pairs-7 : Cards.Refusal (Refusal.refusal (withoutRows (image 1 1 4) (cardOf Method.polynomialCode ninePairs 0)))
-    ≡ Cards.Refusal 7
+nine-pairs-6 : Cards.Refusal (Refusal.refusal (withoutRows (image 1 1 4) (cardOf Method.polynomialCode ninePairs 0)))
+    ≡ Cards.Refusal 6
 unfolding Refusal.refusal firstOf Refusal.badSize Refusal.badSide Refusal.badChannels Refusal.badStock Refusal.badCode
     Method.present Arguments.badCount Arguments.badFor Arguments.badValues Refusal.badNumber Arguments.badArgument
-    Arguments.stillGood Arguments.goodNumber Refusal.large Arguments.badOrder Order.goodOrder Arguments.fewPairs
-    Arguments.pairsOf Method.skip Method.leastPairs Order.termsOf Order.bilinearOrder Order.degree Store.orderOf
-    numberAt storeNumber upTo turns add sub mul div neg sum round ofBits lt le Magnitude.abs Magnitude.within
-nine-pairs-7 = refl
+    Arguments.stillGood Arguments.goodNumber Refusal.large Arguments.badOrder Order.goodOrder Order.bilinearOrder
+    Order.degree Store.orderOf numberAt storeNumber upTo turns ofBits eq lt le Magnitude.abs Magnitude.within
+nine-pairs-6 = refl
 
 pub cards-right : Each Right table
 cards-right = (
@@ -186,7 +185,7 @@ cards-right = (
                   checker-corner,
                   (
                     catrom-0,
-                    (catrom-half, (half-clear, (singular-8, (identity-box, (barrel-stays, (nine-pairs-7, tt)))))),
+                    (catrom-half, (half-clear, (singular-8, (identity-box, (barrel-stays, (nine-pairs-6, tt)))))),
                   ),
                 ),
               ),

@@ -147,8 +147,8 @@ table =
           (build Method.barrelCode (f64s (0 ∷ 0 ∷ 0 ∷ [])) 4 4 .mapping)),
       Source (record { u = double 0x3fe0_0000_0000_0000; v = double 0x3fe0_0000_0000_0000; usable = true }),
     )
-    -- order 2.5 with 9 pairs: refusal 7
-    ∷ ((Refusal (refusal (withoutRows (image 1 1 4) (cardOf Method.polynomialCode ninePairs 0))), Refusal 7)
+    -- order 2.5 with 9 pairs: refusal 6
+    ∷ ((Refusal (refusal (withoutRows (image 1 1 4) (cardOf Method.polynomialCode ninePairs 0))), Refusal 6)
     ∷ [])))))))))))))))
 
 -- both sides of a row are the same

@@ -149,13 +149,13 @@ fn singular_card() -> bool {
     ask(&picture, 1, 1, method, &arguments, 0, &mut out) == 8
 }
 
-// 7: order 2.5 with nine pairs.
+// 6: order 2.5 with nine pairs.
 fn order_card() -> bool {
     let picture = [0u8; 4];
     let mut out = [0u8; 48];
     let mut arguments = [0u8; 296];
     store_u64(&mut arguments, 0, 0x4004_0000_0000_0000);
-    ask(&picture, 1, 1, Polynomial::CODE, &arguments, 0, &mut out) == 7
+    ask(&picture, 1, 1, Polynomial::CODE, &arguments, 0, &mut out) == 6
 }
 
 // Whether the answer is 6 by 5 at -1, -1.

@@ -71,4 +71,4 @@ unfolding affineTerms
 affine-terms pairs e = subst⁻¹ (λ (k : ℕ). k ≤ 21) e (few (eqb pairs 2))
 
 pub polynomial-terms : {n : ℕ} (order : Float) → n ≡ termsOf order → n ≤ 21
-polynomial-terms order e = subst⁻¹ (λ (k : ℕ). k ≤ 21) e (terms-range order .1)
+polynomial-terms order e = subst⁻¹ (λ (k : ℕ). k ≤ 21) e (terms-range order)

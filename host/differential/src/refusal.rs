@@ -132,8 +132,10 @@ fn number(job: &Job) -> bool {
         || job.matte.iter().any(bad_sample)
 }
 
+/// Neither whole from 1 to 5 nor exactly 1.5.
 fn order(job: &Job) -> bool {
-    job.method == POLYNOMIAL && !(1.0..=5.0).contains(&job.args[0])
+    let whole = |n: f64| n.fract() == 0.0 && (1.0..=5.0).contains(&n);
+    job.method == POLYNOMIAL && !whole(job.args[0]) && job.args[0] != 1.5
 }
 
 fn few(job: &Job) -> bool {
@@ -144,14 +146,9 @@ fn few(job: &Job) -> bool {
     }
 }
 
-/// The terms of a polynomial whose order is from 1 to 5.
+/// The terms of a polynomial of one of the six orders; of 1.5 it is 4.375, cut to 4.
 pub fn terms(order: f64) -> usize {
-    if (order - 1.5).abs() < 1e-9 {
-        return 4;
-    }
-    // Halves go up.
-    let whole = (order + 0.5).floor() as usize;
-    (whole + 1) * (whole + 2) / 2
+    ((order + 1.0) * (order + 2.0) / 2.0) as usize
 }
 
 #[cfg(test)]
@@ -160,12 +157,27 @@ mod tests {
 
     #[test]
     fn terms_of_the_orders() {
-        let orders = [1.0, 1.49, 1.4999999999, 1.5, 2.0, 2.5, 3.5, 4.4, 4.5, 5.0];
-        assert_eq!(
-            orders.map(terms),
-            [3, 3, 4, 4, 6, 10, 15, 15, 21, 21],
-            "an order within 1e-9 of 1.5 has four terms, others are rounded"
-        );
+        let orders = [1.0, 1.5, 2.0, 3.0, 4.0, 5.0];
+        assert_eq!(orders.map(terms), [3, 4, 6, 10, 15, 21]);
+    }
+
+    #[test]
+    fn six_orders_and_no_other() {
+        let refused = |n: f64| {
+            order(&Job {
+                method: POLYNOMIAL,
+                args: vec![n],
+                ..Job::plain()
+            })
+        };
+        for good in [1.0f64, 1.5, 2.0, 3.0, 4.0, 5.0] {
+            assert!(!refused(good), "{good}");
+            assert!(refused(good.next_up()), "a step above {good}");
+            assert!(refused(good.next_down()), "a step below {good}");
+        }
+        for bad in [2.5, 0.5, 0.0, -0.0, -1.0, 5.5, 6.0] {
+            assert!(refused(bad), "{bad}");
+        }
     }
 
     /// The limits of the trial cards.
@@ -178,7 +190,7 @@ mod tests {
         assert_eq!(with("args=1048576.0000000002*4"), 5);
         assert_eq!(with("args=0*256"), 0);
         assert_eq!(with("args=0*260"), 4);
-        assert_eq!(with("method=Polynomial args=2.5,0*36"), 7);
+        assert_eq!(with("method=Polynomial args=2.5,0*36"), 6);
     }
 
     #[test]

@@ -98,10 +98,40 @@ fn needed() -> Vec<String> {
     needed.extend(codes::POLICIES.map(|p| format!("policy {p}")));
     needed.extend(codes::INTERPOLATIONS.map(|i| format!("interpolation {i}")));
     needed.extend([1, 3, 4].map(|c| format!("channels {c}")));
-    needed.extend([1.0, 1.5, 1.4999999999, 2.5, 4.5, 5.0].map(|n| format!("order {n}")));
+    needed.extend([1.0, 1.5, 2.0, 3.0, 4.0, 5.0].map(|n| format!("order {n}")));
     let more = ["viewport", "bestfit", "band", "no rows", "clear background"];
     needed.extend(more.map(String::from));
     needed
+}
+
+/// The orders beside the six that a fault would let in: a step from each, and others.
+#[test]
+fn jobs_cover_the_orders_that_are_refused() {
+    let mut wanted: BTreeMap<u64, u64> = BTreeMap::new();
+    for good in [1.0f64, 1.5, 2.0, 3.0, 4.0, 5.0] {
+        wanted.insert(good.next_down().to_bits(), 0);
+        wanted.insert(good.next_up().to_bits(), 0);
+    }
+    for bad in [2.5, 0.5, 0.0, -0.0, 5.5, 6.0, 1.5 - 1e-10, 1.5 + 1e-10] {
+        wanted.insert(f64::to_bits(bad), 0);
+    }
+    let mut not_finite = 0;
+    for index in 0..20_000 {
+        let job = generate::job(SEED, index, &own);
+        if job.method != codes::POLYNOMIAL || job.args.is_empty() {
+            continue;
+        }
+        let number = before_the_fit(&job);
+        match wanted.get_mut(&job.args[0].to_bits()) {
+            Some(count) if number == refusal::ORDER => *count += 1,
+            _ if !job.args[0].is_finite() && number == refusal::NUMBER => not_finite += 1,
+            _ => {}
+        }
+    }
+    for (order, count) in wanted {
+        assert!(count >= 5, "too few of order {:?}", f64::from_bits(order));
+    }
+    assert!(not_finite >= 5, "too few orders that are not finite");
 }
 
 /// What the whole call's edges are, and how a job there has to be answered by the specification.

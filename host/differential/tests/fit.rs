@@ -82,6 +82,8 @@ fn trial_cards() {
     assert_eq!(fit(1, &[1.0, 2.0, 2.0, 4.0, 0.0, 0.0]), Err(8));
     let mut order = vec![2.5];
     order.extend([0.0; 36]);
+    assert_eq!(fit(7, &order), Err(6));
+    order[0] = 3.0;
     assert_eq!(fit(7, &order), Err(7));
     assert_eq!(
         fit(0, &[1.0, 2.0, 0.0, 0.0]),

@@ -95,7 +95,8 @@ named! {
     BilinearReverse = 5,
     /// Four pairs `u,v,x,y` or more; x and y are bilinear in u and v.
     BilinearForward = 6,
-    /// The order, 1 to 5 or 1.5, then pairs `u,v,x,y`; u and v are polynomials in x and y by least squares.
+    /// The order, which is 1, 1.5, 2, 3, 4 or 5, then pairs `u,v,x,y`; u and v are polynomials in x and y by least
+    /// squares.
     Polynomial = 7,
     /// `A, B, C [, D [, X, Y]]`: the radius times `A·r³ + B·r² + C·r + D`, around `X, Y`; `r` is the output's radius, 1
     /// at half the picture's shorter side. Left out, `D` is `1 - (A + B + C)` and `X, Y` the picture's middle. More
@@ -192,7 +193,7 @@ impl Method {
             }
             Self::PerspectiveProjection => "a,b,c,d,e,f,g,h",
             Self::Polynomial => {
-                "order (1 to 5, or 1.5), then u,v,x,y for each pair: at least 3, 4 (order 1.5), 6, 10, 15 or 21"
+                "order (1, 1.5, 2, 3, 4 or 5), then u,v,x,y for each pair: at least 3, 4, 6, 10, 15 or 21"
             }
             Self::Barrel | Self::BarrelInverse => "A,B,C[,D[,X,Y]]",
             Self::Shepards => "u,v,x,y for each of 1 to 64 pairs",

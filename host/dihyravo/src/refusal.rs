@@ -26,7 +26,7 @@ pub enum Refusal {
     Count,
     /// 5: an argument, a sample or a colour is not finite or too large.
     Number,
-    /// 6: the order of `Polynomial` is outside 1 to 5.
+    /// 6: the order of `Polynomial` is not exactly 1, 1.5, 2, 3, 4 or 5.
     Order,
     /// 7: there are too few pairs for the method.
     Few,
@@ -105,7 +105,8 @@ impl Refusal {
                  65,536"
             }
             Self::Order => {
-                "the order of Polynomial is outside 1 to 5; its first argument is the order, the pairs come after it"
+                "the order of Polynomial is not 1, 1.5, 2, 3, 4 or 5; give exactly one of them as the first argument, \
+                 before the pairs"
             }
             Self::Few => {
                 "too few pairs; Perspective, BilinearForward and BilinearReverse need 4, Polynomial of order \

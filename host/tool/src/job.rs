@@ -66,7 +66,6 @@ impl Job {
             &given.options,
         )?;
         let no_viewport = given.viewport.is_none();
-        job.notes.extend(remarks::order(method, &job.args));
         job.notes
             .extend(remarks::best_fit(method, given.best_fit && no_viewport));
         job.distort = job.distort.with_bestfit(given.best_fit);

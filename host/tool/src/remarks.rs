@@ -2,14 +2,6 @@
 
 use dihyravo::{Method, Picture};
 
-/// Of `Polynomial` the call rounds an order that is none of those that there are.
-pub fn order(method: Method, args: &[f64]) -> Option<String> {
-    let order = *args.first().filter(|_| method == Method::Polynomial)?;
-    let known = order == order.round() || (order - 1.5).abs() < 1e-9;
-    (!known && order.is_finite())
-        .then(|| format!("the order {order:?} is taken as {:?}", order.round()))
-}
-
 /// Only four methods have a best fit.
 pub fn best_fit(method: Method, asked: bool) -> Option<String> {
     let has = matches!(
@@ -52,18 +44,6 @@ pub fn orientation(orientation: Option<u16>) -> Option<String> {
 #[cfg(test)]
 mod tests {
     use super::*;
-
-    #[test]
-    fn only_orders_that_are_rounded_are_told() {
-        let told = |order| super::order(Method::Polynomial, &[order, 1.0]);
-        assert_eq!(told(1.7).unwrap(), "the order 1.7 is taken as 2.0");
-        assert_eq!(told(2.5).unwrap(), "the order 2.5 is taken as 3.0");
-        for known in [1.0, 1.5, 2.0, 5.0, f64::INFINITY] {
-            assert_eq!(told(known), None, "{known}");
-        }
-        assert_eq!(super::order(Method::Barrel, &[1.7]), None);
-        assert_eq!(super::order(Method::Polynomial, &[]), None);
-    }
 
     #[test]
     fn corners_beside_the_picture_are_told() {

@@ -24,7 +24,7 @@ const TEXT: &str = "Jobs with the answers of DistortImage::distort, OxideAV/oxid
     Made in the folder host: cargo run --release --bin store_jobs > ../tests/replay-cases/jobs\n";
 
 /// Limits of specification 2 and the trial cards, each followed by what lies just beyond where there is such a thing.
-const BY_HAND: [&str; 42] = [
+const BY_HAND: [&str; 45] = [
     "",
     "size=4096x1x1",
     "size=4097x1x1",
@@ -54,6 +54,9 @@ const BY_HAND: [&str; 42] = [
     "matte=0,0,0,-65536.008",
     "method=Polynomial args=5.000000000000001,0*84",
     "method=Polynomial args=2.5,0*36",
+    "method=Polynomial args=3,0*36",
+    "method=Polynomial args=1.4999999999999998,0*16",
+    "method=Polynomial args=-0,0*12",
     "method=AffineProjection args=1,2,2,4,0,0",
     "viewport=1024x4096@0,0 rows=4095+1 band=4096",
     "viewport=4096x4096@0,0 rows=4096+0 band=0",

@@ -36,10 +36,10 @@ pub struct Point {
 
 /// The powers of a polynomial's terms.
 fn powers(order: f64) -> Vec<(u32, u32)> {
-    if (order - 1.5).abs() < 1e-9 {
+    if order == 1.5 {
         return vec![(0, 0), (1, 0), (0, 1), (1, 1)];
     }
-    let highest = (order + 0.5).floor() as u32;
+    let highest = order as u32;
     let of_total = |total: u32| (0..=total).map(move |y| (total - y, y));
     (0..=highest).flat_map(of_total).collect()
 }

@@ -7,24 +7,8 @@ use crate::codes::*;
 use crate::random::Random;
 use crate::refusal::{ARGUMENTS, PAIRS, terms};
 
-pub const ORDERS: [f64; 16] = [
-    1.0,
-    1.25,
-    1.4999,
-    1.499999999,
-    1.4999999999,
-    1.5,
-    1.5000000001,
-    1.500000001,
-    2.0,
-    2.499_999_999_999_999_6,
-    2.5,
-    3.0,
-    3.5,
-    4.0,
-    4.5,
-    5.0,
-];
+/// The orders of a polynomial that there are.
+pub const ORDERS: [f64; 6] = [1.0, 1.5, 2.0, 3.0, 4.0, 5.0];
 
 pub fn fill(r: &mut Random, wild: bool, job: &mut Job) {
     job.args = match job.method {
@@ -56,10 +40,7 @@ fn points(r: &mut Random, wild: bool, job: &Job, least: usize) -> Vec<f64> {
 }
 
 fn polynomial(r: &mut Random, wild: bool, job: &Job) -> Vec<f64> {
-    let order = match r.below(8) {
-        0 => r.real(1.0, 5.0),
-        _ => r.pick(&ORDERS),
-    };
+    let order = r.pick(&ORDERS);
     let mut args = vec![order];
     args.extend(points(r, wild, job, terms(order)));
     args

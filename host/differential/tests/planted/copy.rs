@@ -19,6 +19,7 @@ pub enum Fault {
     SideLimit,
     PairLimit,
     OrderLimit,
+    OrderRounded,
     RowsWrap,
     Writes,
 }
@@ -47,6 +48,11 @@ fn refused(r: Reference, job: &Job, fault: Fault) -> u8 {
             POLYNOMIAL if job.args[0] >= 5.0 => refusal::ORDER,
             _ => right,
         },
+        Fault::OrderRounded if right == refusal::ORDER && (1.6..=5.0).contains(&job.args[0]) => {
+            let mut rounded = job.clone();
+            rounded.args[0] = (job.args[0] + 0.5).floor();
+            refusal::refusal(r, &rounded)
+        }
         Fault::RowsWrap if right == refusal::ROWS && wraps_to_0 => refusal::TRAY,
         _ => right,
     }

@@ -121,6 +121,12 @@ fn order_five_refused() {
 }
 
 #[test]
+fn orders_rounded() {
+    let r = reference_or_skip!();
+    finds(r, Fault::OrderRounded, 8, 200);
+}
+
+#[test]
 fn rows_added_with_overflow() {
     let r = reference_or_skip!();
     finds(r, Fault::RowsWrap, 6, 240);

@@ -161,17 +161,6 @@ fn corners_outside_the_picture_are_noted() {
 fn what_may_be_meant_otherwise_is_noted() {
     let folder = Folder::new("noted");
     folder.write("in.png", &small_png());
-    let pairs = "1.7 0,0,0,0 8,0,8,0 8,6,8,6 0,6,0,6 4,1,4,1 2,3,2,3";
-    let order = [
-        "distort",
-        "in.png",
-        "out.png",
-        "--method",
-        "Polynomial",
-        "--args",
-        pairs,
-    ];
-    noted(&folder, &order, "the order 1.7 is taken as 2.0");
     let barrel = [
         "distort",
         "in.png",

@@ -110,29 +110,45 @@ pub(super) fn number(r: &mut Random, job: &mut Job) {
     }
 }
 
+/// Orders that there are not: between two that there are, beyond them, and no number or too large a one.
+const NO_ORDERS: [f64; 17] = [
+    2.5,
+    0.5,
+    0.0,
+    -0.0,
+    5.5,
+    6.0,
+    1.25,
+    1.5 - 1e-10,
+    1.5 + 1e-10,
+    3.5,
+    4.5,
+    -1.0,
+    -1.5,
+    ARGUMENT,
+    2.0 * ARGUMENT,
+    f64::INFINITY,
+    f64::NAN,
+];
+
 pub(super) fn order(r: &mut Random, job: &mut Job) {
     if job.method != POLYNOMIAL || job.args.is_empty() {
         return;
     }
-    let out = [
-        1.0f64.next_down(),
-        5.0f64.next_up(),
-        0.0,
-        -1.5,
-        5.5,
-        ARGUMENT,
-    ];
-    job.args[0] = if r.once_in(4) {
-        r.pick(&ORDERS)
-    } else {
-        r.pick(&out)
+    let good = r.pick(&ORDERS);
+    job.args[0] = match r.below(8) {
+        0 => good,
+        1 | 2 => good.next_down(),
+        3 | 4 => good.next_up(),
+        5 => r.real(0.0, 6.0),
+        _ => r.pick(&NO_ORDERS),
     };
 }
 
 pub(super) fn few(r: &mut Random, job: &mut Job) {
     let (order, least) = match job.method {
         PERSPECTIVE | BILINEAR_FORWARD | BILINEAR_REVERSE => (0, 4),
-        POLYNOMIAL if job.args.first().is_some_and(|n| (1.0..=5.0).contains(n)) => {
+        POLYNOMIAL if job.args.first().is_some_and(|n| ORDERS.contains(n)) => {
             (1, terms(job.args[0]))
         }
         _ => return,

@@ -61,6 +61,11 @@ fn arguments_by_count_and_order() {
         ),
         ("Polynomial", "6,0,0,0,0", "refusal 6 (order): "),
         (
+            "Polynomial",
+            "2.5 0,0,0,0 8,0,8,0 8,6,8,6 0,6,0,6 4,1,4,1 2,3,2,3",
+            "refusal 6 (order): the order is 2.5; the order of Polynomial is not 1, 1.5, 2, 3, 4 or 5; ",
+        ),
+        (
             "Perspective",
             "0,0,0,0,1,1,1,1,2,2,2,2",
             "refusal 7 (few): Perspective was given 12 numbers; ",

@@ -116,7 +116,7 @@ fn jobs_cover_the_orders_that_are_refused() {
         wanted.insert(f64::to_bits(bad), 0);
     }
     let mut not_finite = 0;
-    for index in 0..20_000 {
+    for index in 0..60_000 {
         let job = generate::job(SEED, index, &own);
         if job.method != codes::POLYNOMIAL || job.args.is_empty() {
             continue;

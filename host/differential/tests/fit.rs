@@ -1,7 +1,7 @@
 //! The fit against the original's `Mapping::build`: every method, tame and wild, with refusals 1 and 3 to 8 by the
 //! model of the table. 20,000 jobs, a million with DIHYRAVO_FULL=1.
 
-use differential::{Job, generate, refusal};
+use differential::{Job, codes, generate, refusal};
 use reference::{Reference, reference_or_skip};
 
 const SEED: u64 = 7;
@@ -96,4 +96,33 @@ fn trial_cards() {
     assert_eq!(fit(0, &[1_048_576.000_000_000_2; 4]), Err(5));
     assert!(fit(13, &[0.0; 256]).is_ok());
     assert_eq!(fit(13, &[0.0; 260]), Err(4));
+}
+
+/// The original rounds an order, here it is refused (docs/DIFFERENCES).
+#[test]
+fn orders_that_the_original_rounds_are_refused() {
+    let r = reference_or_skip!();
+    const PLACES: [(u8, u8); 10] = [
+        (0, 0),
+        (1, 0),
+        (0, 1),
+        (1, 1),
+        (2, 0),
+        (0, 2),
+        (3, 0),
+        (2, 1),
+        (1, 2),
+        (0, 3),
+    ];
+    for (order, pairs) in [(1.0f64.next_up(), 3), (1.5 + 1e-10, 4), (1.7, 6), (2.5, 10)] {
+        let pair = |(x, y): &(u8, u8)| [*x, *y, *x, *y].map(f64::from);
+        let mut job = Job::plain();
+        job.method = codes::POLYNOMIAL;
+        job.args = vec![order];
+        job.args.extend(PLACES[..pairs].iter().flat_map(pair));
+        let original = r.build(job.method as u8, &job.args, 1.0, 1.0);
+        assert!(original.is_ok(), "order {order:?}");
+        let ours = probes::fit(job.method, &job.args_bytes(), 1, 1);
+        assert_eq!(ours, Err(u64::from(refusal::ORDER)), "order {order:?}");
+    }
 }

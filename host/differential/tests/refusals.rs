@@ -13,9 +13,15 @@ fn the_original_fails_where_the_model_refuses() {
     for index in 0..20_000 {
         let job = generate::job(SEED, index, &window);
         let number = refusal::before_the_fit(&job);
-        // Limits and broken floats are the table's own; the original has no such refusal.
-        let own = job.args_rest != 0 || job.args.len() > 4 * refusal::PAIRS;
-        if matches!(number, 1..=3 | 5) || number == 4 && own {
+        // Limits and broken floats are the table's own, and so are orders that the original rounds; it has no such
+        // refusal.
+        let own = match number {
+            refusal::COUNT => job.args_rest != 0 || job.args.len() > 4 * refusal::PAIRS,
+            refusal::ORDER => (1.0..=5.0).contains(&job.args[0]),
+            refusal::SIZE | refusal::STOCK | refusal::CODE | refusal::NUMBER => true,
+            _ => false,
+        };
+        if own {
             continue;
         }
         let (w, h) = (job.width as f64, job.height as f64);

@@ -182,9 +182,9 @@ mod tests {
             assert_eq!(found, expected);
             assert_eq!(point.v, BigInt::from(0));
         }
-        assert_eq!(powers(2.5).len(), 10);
+        assert_eq!(powers(1.5).len(), 4);
+        assert_eq!(powers(3.0).len(), 10);
         assert_eq!(powers(5.0).len(), 21);
-        assert_eq!(powers(1.4999999999).len(), 4);
     }
 
     /// A term, a coordinate and a denominator at their limits and just beyond.

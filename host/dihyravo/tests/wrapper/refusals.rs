@@ -43,14 +43,15 @@ fn by_the_arguments() {
         refused(Method::Affine, &[0.0, 0.0, 0.0, 1_048_576.0f64.next_up()]),
         Some(5)
     );
-    assert_eq!(
-        refused(Method::Polynomial, &[6.0, 0.0, 0.0, 0.0, 0.0]),
-        Some(6)
-    );
-    assert_eq!(
-        refused(Method::Polynomial, &[2.5, 0.0, 0.0, 0.0, 0.0]),
-        Some(7)
-    );
+    let one_pair = |order: f64| refused(Method::Polynomial, &[order, 0.0, 0.0, 0.0, 0.0]);
+    for bad in [6.0, 2.5, 0.5, -0.0, 5.5] {
+        assert_eq!(one_pair(bad), Some(6), "order {bad:?}");
+    }
+    for good in [1.0f64, 1.5, 2.0, 3.0, 4.0, 5.0] {
+        assert_eq!(one_pair(good), Some(7), "order {good:?}");
+        assert_eq!(one_pair(good.next_up()), Some(6), "above {good:?}");
+        assert_eq!(one_pair(good.next_down()), Some(6), "below {good:?}");
+    }
     assert_eq!(refused(Method::Perspective, &[0.0; 12]), Some(7));
     assert_eq!(refused(Method::Perspective, &[0.0; 16]), Some(8));
     assert_eq!(

@@ -58,8 +58,8 @@ enum dihyravo_method_code {
                                                    y = (d u + e v + f)/(g u + h v + 1) */
     DIHYRAVO_METHOD_BILINEAR_REVERSE = 5,       /* 4 pairs or more; u and v are bilinear in x and y */
     DIHYRAVO_METHOD_BILINEAR_FORWARD = 6,       /* 4 pairs or more; x and y are bilinear in u and v */
-    DIHYRAVO_METHOD_POLYNOMIAL = 7,             /* the order, 1, 1.5, 2, 3, 4 or 5, then pairs: 3, 4, 6, 10, 15,
-                                                   21 or more */
+    DIHYRAVO_METHOD_POLYNOMIAL = 7,             /* the order, 1, 1.5, 2, 3, 4 or 5, then at least 3, 4, 6, 10,
+                                                   15 or 21 pairs, by the order */
     DIHYRAVO_METHOD_BARREL = 11,                /* A,B,C[,D[,X,Y]]: the radius times A r^3 + B r^2 + C r + D, around
                                                    X,Y; r is the output's radius, 1 at half the picture's shorter
                                                    side. Left out, D is 1 - (A + B + C) and X,Y the picture's

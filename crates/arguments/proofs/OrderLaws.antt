@@ -1,17 +1,16 @@
 -- The orders of a polynomial. The degree is at most 5 and the terms at most 21, whatever the order, by the cases of the
 -- tests; and an order that is good is one of six floats. Provides: `degree-range`, `terms-twice`, `terms-range` (what
 -- the code's numbers keep to), `OneOfSix`, `one-of-six` (the law of an accepted order). Assumes nothing.
-use mathlib.Core.Path.{_≡_, refl}
+use mathlib.Core.Path.{_≡_}
 use mathlib.Core.Logic.{_⊎_, inl, inr}
 use mathlib.Core.Bool.{Bool, true, false, _||_, cond, false≢true}
-use Prim.Native.Nat.{ℕ, _+_, _*_, _/_, _≤_, _<_}
-use native.Mathlib.Nat.{mul-pos}
-use native.Mathlib.Omega.{arith}
-use lib.Dec.{lit≤, T, eqb, ltb, eqb→eq, ltb→lt}
-use lib.Ieee.{Float, nan, inf, fin, binary64, up, down, fits, eq, ofBits, ofFields, odd, span, climb}
-use lib.Ieee.Fits.{up-pos, down-pos, and-l, and-r}
-use lib.Ieee.Positive.{positive}
-use Rattle.exact.proofs.Value.{unique}
+use Prim.Native.Nat.{ℕ, _+_, _*_, _/_, _≤_}
+use lib.Dec.{lit≤, lit<, T, ltb}
+use lib.Ieee.{Float, nan, inf, fin, binary64, fits, eq, ofBits, ofFields, odd, span, climb}
+use lib.Ieee.Scale.{finite}
+use Rattle.exact.specs.Fraction.{frac, value, _<F_}
+use Rattle.exact.proofs.Signed.{eq-value}
+use Rattle.exact.proofs.Ones.{positive-only}
 use Rattle.exact.specs.Double.{one, two}
 use Rattle.arguments.specs.Order.{oneAndHalf, three, four, five, bilinearOrder, degree, termsOf, goodOrder}
 
@@ -49,27 +48,20 @@ terms-range order =
     go false n h = h
 
 -- ---- a good order is one of six floats
--- a float above 0 equals no other
-same : (x y : Float) → T (fits binary64 x) → T (fits binary64 y) → T (positive y) → T (eq x y) → x ≡ y
+eq-finite : (x y : Float) → T (finite y) → T (eq x y) → T (finite x)
 unfolding eq
-same nan y p q h t = absurd t
-same (inf s) nan p q h t = absurd t
-same (inf s) (inf r) p q h t = absurd h
-same (inf s) (fin r n d) p q h t = absurd t
-same (fin s m e) nan p q h t = absurd t
-same (fin s m e) (inf r) p q h t = absurd t
-same (fin s m e) (fin true n d) p q h t = absurd h
-same (fin true m e) (fin false n d) p q h t = absurd (none
-    (eqb→eq (m * up e * down d) (n * up d * down e) (and-l (eqb (m * up e * down d) (n * up d * down e)) _ t))
-    (eqb→eq (m * up e * down d) 0 (and-r (eqb (m * up e * down d) (n * up d * down e)) _ t))
-    (mul-pos (mul-pos (ltb→lt 0 n h) (up-pos d)) (down-pos e)))
-  where
-    none : {a b : ℕ} → a ≡ b → a ≡ 0 → 0 < b → ⊥
-    none p q h = omega arith
-same (fin false m e) (fin false n d) p q h t =
-    unique binary64 binary64 (fin false m e) (fin false n d) false (n * up d) (down d) (down-pos d) p q
-    (refl, eqb→eq (m * up e * down d) (n * up d * down e) (and-l (eqb (m * up e * down d) (n * up d * down e)) true t))
-    (refl, refl)
+eq-finite nan y t h = absurd h
+eq-finite (inf s) nan t h = absurd h
+eq-finite (inf s) (inf r) t h = absurd t
+eq-finite (inf s) (fin r n d) t h = absurd h
+eq-finite (fin s m e) y t h = tt
+
+-- what equals a float above 0 is that float
+same : (x y : Float) → T (fits binary64 x) → T (finite y) → T (fits binary64 y) → frac 0 1 <F value y → T (eq x y)
+    → x ≡ y
+same x y p t q h e =
+    let s = eq-finite x y t e in
+    positive-only binary64 x y s t p q h (eq-value x y s t .0 e)
 
 abbrev pub OneOfSix : Float → Type 0
 OneOfSix x = (x ≡ one) ⊎ ((x ≡ oneAndHalf) ⊎ ((x ≡ two) ⊎ ((x ≡ three) ⊎ ((x ≡ four) ⊎ (x ≡ five)))))
@@ -77,12 +69,15 @@ OneOfSix x = (x ≡ one) ⊎ ((x ≡ oneAndHalf) ⊎ ((x ≡ two) ⊎ ((x ≡ th
 pub one-of-six : (x : Float) → T (fits binary64 x) → goodOrder x ≡ true → OneOfSix x
 unfolding goodOrder bilinearOrder degree ofBits ofFields odd span climb fits
 one-of-six x p h =
-    go (eq x one) (eq x oneAndHalf) (eq x two) (eq x three) (eq x four) (eq x five) (is one tt tt)
-    (is oneAndHalf tt tt) (is two tt tt) (is three tt tt) (is four tt tt) (is five tt tt) h
+    go (eq x one) (eq x oneAndHalf) (eq x two) (eq x three) (eq x four) (eq x five)
+    (same x one p tt tt (record { lt = lit< tt }))
+    (same x oneAndHalf p tt tt (record { lt = lit< tt }))
+    (same x two p tt tt (record { lt = lit< tt }))
+    (same x three p tt tt (record { lt = lit< tt }))
+    (same x four p tt tt (record { lt = lit< tt }))
+    (same x five p tt tt (record { lt = lit< tt }))
+    h
   where
-    is : (y : Float) → T (fits binary64 y) → T (positive y) → T (eq x y) → x ≡ y
-    is y q r t = same x y p q r t
-
     go : (a h b c d e : Bool) → (T a → x ≡ one) → (T h → x ≡ oneAndHalf) → (T b → x ≡ two) → (T c → x ≡ three)
         → (T d → x ≡ four) → (T e → x ≡ five)
         → (h || ltb 0 (cond a 1 (cond b 2 (cond c 3 (cond d 4 (cond e 5 0)))))) ≡ true → OneOfSix x

@@ -1,5 +1,5 @@
--- The orders of a polynomial, as ImageMagick's handbook has them: 1, 1.5, 2, 3, 4 and 5; how many terms each has, and up
--- to which degree. Judged here alone. Specification 3.3. Assumes nothing.
+-- The orders of a polynomial, as ImageMagick's handbook has them: 1, 1.5, 2, 3, 4 and 5; how many terms each has, and
+-- up to which degree. Judged here alone. Specification 3.3. Assumes nothing.
 use Prim.Native.Nat.{ℕ, _+_, _*_, _/_}
 use mathlib.Core.Bool.{Bool, _||_, cond}
 use lib.Dec.{ltb}
@@ -22,7 +22,7 @@ five = ofBits binary64 0x4014_0000_0000_0000  -- 5.0
 unfoldable pub bilinearOrder : Float → Bool
 bilinearOrder order = eq order oneAndHalf
 
--- 1, 2, 3, 4 or 5 for that whole order, and 0 for every other
+-- a whole order from 1 to 5 as a number; 0 for 1.5, which has no degree, and for what is no order
 unfoldable pub degree : Float → ℕ
 degree order =
     cond (eq order one) 1

@@ -87,7 +87,7 @@ impl Polynomial {
         order == 1.5
     }
 
-    // 1, 2, 3, 4 or 5 for that whole order, and 0 for every other.
+    // A whole order from 1 to 5 as a number; 0 for 1.5, which has no degree, and for what is no order.
     pub fn degree(order: f64) -> u64
         ensures { λ r. ⌜ r ≡ degree order ⌝ }
     {

@@ -161,7 +161,7 @@ nine-pairs-6 : Cards.Refusal (Refusal.refusal (withoutRows (image 1 1 4) (cardOf
 unfolding Refusal.refusal firstOf Refusal.badSize Refusal.badSide Refusal.badChannels Refusal.badStock Refusal.badCode
     Method.present Arguments.badCount Arguments.badFor Arguments.badValues Refusal.badNumber Arguments.badArgument
     Arguments.stillGood Arguments.goodNumber Refusal.large Arguments.badOrder Order.goodOrder Order.bilinearOrder
-    Order.degree Store.orderOf numberAt storeNumber upTo turns ofBits eq lt le Magnitude.abs Magnitude.within
+    Order.degree Store.orderOf numberAt storeNumber upTo turns ofBits eq le Magnitude.abs Magnitude.within
 nine-pairs-6 = refl
 
 pub cards-right : Each Right table

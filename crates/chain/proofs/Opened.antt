@@ -67,7 +67,7 @@ unfolding left answer mattePixelsOf Joined.totalled Band.rowMattePixels Band.row
     Perspective.fitPerspectiveProjection Orient.orient Perspectives.perspective Eliminate.better Eliminate.takeTerm
     Eliminate.clearRow Eliminate.column Eliminate.columnOr Eliminate.outcome Fit.both Monomials.push Monomials.ofDegree
     Monomials.monomials Monomials.storeTerm Normal.addProduct Normal.addTerm Normal.normal Normal.lstsq Normal.inTurn
-    Polynomial.orderNumber Solve.addKnown Solve.substitute Solve.solutionOf Solve.solved Polynomials.polynomial
+    Solve.addKnown Solve.substitute Solve.solutionOf Solve.solved Polynomials.polynomial
     Polynomials.terms Bytes.twosComplement Magnitude.reaching Loop.downTo Random.mix Random.folded Order.termsOf
     Order.goodOrder Power.power Perspective.fitPerspective Perspective.addPart Window.judged Bestfit.bestfit
     Bestfit.affineFound Bestfit.perspectiveFound Edges.boxed Edges.grown Edges.unbounded Magnitude.fmin Magnitude.fmax

@@ -2,7 +2,7 @@
 ghost use mathlib.Core.Path.{_≡_};
 ghost use Prim.Native.Nat.{_+_, _*_, _≤_};
 ghost use Rattle.exact.specs.Limits.{mostArguments};
-ghost use Rattle.fit.specs.Polynomial.{orderNumber, fitBilinearReverse, fitBilinearForward};
+ghost use Rattle.fit.specs.Polynomial.{fitBilinearReverse, fitBilinearForward};
 ghost use Rattle.fit.specs.Polynomial as Maker;
 use crate::lstsq::Sides;
 use crate::lstsq::fit_both;
@@ -14,35 +14,24 @@ use mappings::mapping::Fitted;
 use mappings::rows::Side;
 use mappings::rows::Terms;
 
-// The order as a number: 0 for the terms 1, x, y, xy and else the degree.
-fn order_number(order: f64) -> u64
-    ensures { λ r. ⌜ r ≡ orderNumber order ⌝ }
-{
-    if Polynomial::bilinear(order) {
-        0
-    } else {
-        Polynomial::degree(order)
-    }
-}
-
-// The pairs come after the order.
+// The pairs come after the order; the mapping has its degree, 0 for the terms 1, x, y, xy.
 pub fn fit_polynomial(values: &[f64; 257], pairs: usize, order: f64) -> Fitted
     requires { ⌜ 1 + 4 * pairs ≤ mostArguments ⌝ }
     ensures { λ r. ⌜ r ≡ Maker.fitPolynomial (now (values .entry)) pairs order ⌝ }
 {
-    let number = order_number(order);
+    let degree = Polynomial::degree(order);
     fit_both(
         values,
         Polynomial::SKIP as usize,
         pairs,
-        Terms::Polynomial(number),
+        Terms::Polynomial(degree),
         Sides {
             first: Side::OfU,
             second: Side::OfV,
         },
         Polynomial::terms(order) as usize,
         mapping::POLY,
-        number,
+        degree,
     )
 }
 

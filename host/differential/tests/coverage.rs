@@ -115,23 +115,29 @@ fn jobs_cover_the_orders_that_are_refused() {
     for bad in [2.5, 0.5, 0.0, -0.0, 5.5, 6.0, 1.5 - 1e-10, 1.5 + 1e-10] {
         wanted.insert(f64::to_bits(bad), 0);
     }
-    let mut not_finite = 0;
+    // What another row refuses before.
+    let (mut numbers, mut too_large, mut counts) = (0, 0, 0);
     for index in 0..60_000 {
         let job = generate::job(SEED, index, &own);
         if job.method != codes::POLYNOMIAL || job.args.is_empty() {
             continue;
         }
         let number = before_the_fit(&job);
-        match wanted.get_mut(&job.args[0].to_bits()) {
-            Some(count) if number == refusal::ORDER => *count += 1,
-            _ if !job.args[0].is_finite() && number == refusal::NUMBER => not_finite += 1,
+        let (order, no_order) = (job.args[0], wanted.get_mut(&job.args[0].to_bits()));
+        match (number, no_order) {
+            (refusal::ORDER, Some(count)) => *count += 1,
+            (refusal::COUNT, Some(_)) => counts += 1,
+            (refusal::NUMBER, _) if !order.is_finite() => numbers += 1,
+            (refusal::NUMBER, _) if order.abs() > refusal::ARGUMENT => too_large += 1,
             _ => {}
         }
     }
     for (order, count) in wanted {
         assert!(count >= 5, "too few of order {:?}", f64::from_bits(order));
     }
-    assert!(not_finite >= 5, "too few orders that are not finite");
+    assert!(numbers >= 5, "too few orders that are not finite");
+    assert!(too_large >= 5, "too few orders that are too large");
+    assert!(counts >= 5, "too few of a wrong order and a wrong count");
 }
 
 /// What the whole call's edges are, and how a job there has to be answered by the specification.

@@ -84,7 +84,7 @@ fn singular_fits_and_few_pairs_are_refused() {
     let r = reference_or_skip!();
     let singular = [1.0, 2.0, 2.0, 4.0, 0.0, 0.0];
     assert!(r.build(AFFINE_PROJECTION, &singular, 4.0, 4.0).is_err());
-    let nine: Vec<f64> = [2.5]
+    let nine: Vec<f64> = [3.0]
         .into_iter()
         .chain((0..36).map(|k| (k * k % 17) as f64))
         .collect();

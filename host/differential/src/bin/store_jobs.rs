@@ -1,5 +1,6 @@
 //! Writes jobs with the reference's answers to standard output: the file `tests/replay-cases/jobs`, which is replayed
-//! where the reference is not there. `differential::stored` says what the file is made of.
+//! where the reference is not there. `differential::stored` says what the file is made of. With the argument `few` it
+//! writes every 100th of them: the file `crates/replay/stdin`.
 //!
 //! The jobs are the limits and trial cards below, and then those of one seed that are small enough, so many of each
 //! refusal and of each policy with each interpolation. Left out are jobs with a source point that is beyond 2^30 or no
@@ -23,8 +24,12 @@ const ACCEPTED: u64 = 11;
 const TEXT: &str = "Jobs with the answers of DistortImage::distort, OxideAV/oxideav-image-filter commit 3c7faed292.\n\
     Made in the folder host: cargo run --release --bin store_jobs > ../tests/replay-cases/jobs\n";
 
+const FEW: usize = 100;
+
+const TEXT_OF_FEW: &str = "Every 100th job of tests/replay-cases/jobs, from the first on.\n";
+
 /// Limits of specification 2 and the trial cards, each followed by what lies just beyond where there is such a thing.
-const BY_HAND: [&str; 45] = [
+const BY_HAND: [&str; 47] = [
     "",
     "size=4096x1x1",
     "size=4097x1x1",
@@ -57,6 +62,8 @@ const BY_HAND: [&str; 45] = [
     "method=Polynomial args=3,0*36",
     "method=Polynomial args=1.4999999999999998,0*16",
     "method=Polynomial args=-0,0*12",
+    "method=Polynomial args=5.5,0*84",
+    "method=Polynomial args=6,0*84",
     "method=AffineProjection args=1,2,2,4,0,0",
     "viewport=1024x4096@0,0 rows=4095+1 band=4096",
     "viewport=4096x4096@0,0 rows=4096+0 band=0",
@@ -168,7 +175,18 @@ fn main() -> ExitCode {
         jobs.push(Stored::new(&mut random, &job, &answer));
     }
     of_the_seed(r, &mut jobs);
-    let file = stored::write(TEXT, &jobs);
+    let text = match std::env::args().nth(1).as_deref() {
+        None => TEXT,
+        Some("few") => {
+            jobs = jobs.into_iter().step_by(FEW).collect();
+            TEXT_OF_FEW
+        }
+        Some(word) => {
+            eprintln!("'{word}' is not 'few'");
+            return ExitCode::FAILURE;
+        }
+    };
+    let file = stored::write(text, &jobs);
     eprintln!("{} jobs, {} bytes", jobs.len(), file.len());
     match stdout().write_all(&file) {
         Ok(()) => ExitCode::SUCCESS,

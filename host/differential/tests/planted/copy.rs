@@ -20,6 +20,7 @@ pub enum Fault {
     PairLimit,
     OrderLimit,
     OrderRounded,
+    OrderAllowed,
     RowsWrap,
     Writes,
 }
@@ -52,6 +53,11 @@ fn refused(r: Reference, job: &Job, fault: Fault) -> u8 {
             let mut rounded = job.clone();
             rounded.args[0] = (job.args[0] + 0.5).floor();
             refusal::refusal(r, &rounded)
+        }
+        Fault::OrderAllowed if right == refusal::ORDER && (job.args[0] - 1.5).abs() < 1e-9 => {
+            let mut allowed = job.clone();
+            allowed.args[0] = 1.5;
+            refusal::refusal(r, &allowed)
         }
         Fault::RowsWrap if right == refusal::ROWS && wraps_to_0 => refusal::TRAY,
         _ => right,

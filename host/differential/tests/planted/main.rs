@@ -127,6 +127,12 @@ fn orders_rounded() {
 }
 
 #[test]
+fn orders_allowed_near_1_5() {
+    let r = reference_or_skip!();
+    finds(r, Fault::OrderAllowed, 8, 200);
+}
+
+#[test]
 fn rows_added_with_overflow() {
     let r = reference_or_skip!();
     finds(r, Fault::RowsWrap, 6, 240);

@@ -1,5 +1,5 @@
--- `fast_colours::one_by_one::coloured` meets its contract: each way hands on the number of channels that was tested. Assumes
--- nothing.
+-- `fast_colours::one_by_one::coloured` meets its contract: each way hands on the number of channels that was tested.
+-- Assumes nothing.
 use mathlib.Core.Path.{_≡_}
 use mathlib.Core.Logic.{inl, inr}
 use Prim.Native.Nat.{ℕ}

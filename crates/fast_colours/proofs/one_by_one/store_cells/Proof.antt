@@ -1,5 +1,5 @@
--- `fast_colours::one_by_one::store_cells` meets its contract: at fractions from 0 to 1 the quotients are the weighted mean.
--- Assumes nothing.
+-- `fast_colours::one_by_one::store_cells` meets its contract: at fractions from 0 to 1 the quotients are the weighted
+-- mean. Assumes nothing.
 use mathlib.Core.Path.{_∙_}
 use denote.Ref.{now}
 use borrow.Author.Needs.{needs}

@@ -1,5 +1,5 @@
--- `fast_colours::one_by_one::store_one_by_one` meets its contract. The loop's invariant: the pixels passed are in the band.
--- Assumes nothing.
+-- `fast_colours::one_by_one::store_one_by_one` meets its contract. The loop's invariant: the pixels passed are in the
+-- band. Assumes nothing.
 use mathlib.Core.Path.{_∙_, refl}
 use Prim.Native.Nat.{ℕ, _-_}
 use native.Mathlib.Nat.{le-antisymm}

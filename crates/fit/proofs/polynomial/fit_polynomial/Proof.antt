@@ -8,7 +8,7 @@ fit-both-requires : tie.Need-fit-both-requires
 fit-both-requires c κs = (search needs, polynomial-terms _ (c .terms .ensures))
 
 returns : tie.Need-returns
-returns c = rw (← c .before .before .order-number .ensures, ← c .before .terms .ensures) (c .fit-both .ensures)
+returns c = rw (← c .before .before .degree .ensures, ← c .before .terms .ensures) (c .fit-both .ensures)
 
 pub fit-polynomial-spec : {M : Type 1} → statement M
 fit-polynomial-spec =

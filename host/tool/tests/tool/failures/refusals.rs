@@ -63,7 +63,8 @@ fn arguments_by_count_and_order() {
         (
             "Polynomial",
             "2.5 0,0,0,0 8,0,8,0 8,6,8,6 0,6,0,6 4,1,4,1 2,3,2,3",
-            "refusal 6 (order): the order is 2.5; the order of Polynomial is not 1, 1.5, 2, 3, 4 or 5; ",
+            "refusal 6 (order): the order is 2.5; the order of Polynomial is not 1, 1.5, 2, 3, 4 or 5; give \
+             exactly one of them as the first argument",
         ),
         (
             "Perspective",

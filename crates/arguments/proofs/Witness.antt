@@ -89,8 +89,8 @@ ofOrder o = argumentsRefusal polynomialCode (storeU64 (replicate 8 0) 0 (o .0) +
 pub orders :
     map ofOrder six
     ++ (map (λ (o : ℕ × ℕ). ofOrder (o .0, o .1 - 1)) six
-    ++ (map (λ (o : ℕ × ℕ). ofOrder (o .0 - 1, o .1)) six
-    ++ (map (λ (o : ℕ × ℕ). ofOrder (o .0 + 1, o .1)) six
+    ++ (map (λ (o : ℕ × ℕ). ofOrder (o .0 - 1, 1)) six
+    ++ (map (λ (o : ℕ × ℕ). ofOrder (o .0 + 1, 1)) six
     ++ (map ofOrder others
     ++ map ofOrder sooner)))) ≡ replicate 6 0 ++ (replicate 6 7 ++ (replicate 18 6 ++ (5 ∷ (5 ∷ (4 ∷ [])))))
 unfolding argumentsRefusal firstOf present badCount badFor badValues badArgument stillGood goodNumber upTo turns within

@@ -9,7 +9,7 @@ use mathlib.Core.Bool.{Bool, cond}
 use Prim.Native.Nat.{_^_}
 use native.Mathlib.Omega.{arith}
 use lib.Dec.{T, lit≤}
-use lib.Ieee.{Float, binary32, neg, add, sub, sum, mul, round, ofBits, lt}
+use lib.Ieee.{Float, binary32, neg, ofBits, lt}
 use lib.Ieee.Bits.{is-true}
 use lib.Ieee.Scale.{finite}
 use Rattle.exact.specs.Each.{Each}
@@ -25,15 +25,14 @@ use Rattle.exact.proofs.Magnitude.{abs-alike}
 use Rattle.exact.proofs.Bounds.{rounds-bound}
 use Rattle.exact.proofs.Sums.{step-fine}
 use Rattle.number.specs.Magnitude.{abs}
+use Rattle.cubic.specs.declared.cubic.CubicRow.{CubicRow}
 use Rattle.cubic.specs.Cubic.{
   zero,
-  half,
   one,
   two,
   six,
-  nine,
-  twelve,
-  eighteen,
+  catromRow,
+  splineRow,
   nearPiece,
   farPiece,
   pieces,
@@ -59,41 +58,36 @@ use Rattle.cubic.proofs.CubicError.{one-more, one-less, two-less, plus-
 use Rattle.cubic.proofs.CubicOrder.{near-top}
 
 -- ---- a kernel's shape: what the argument above asks of the coefficients, and the exact pieces' sizes
-pub record Shape (b c : Float) (B C : Fraction) : Type 0 where
-  pub larger : absF (value (twelve ⊖ nine ⊗ b ⊖ six ⊗ c)) ≤F absF (value (neg eighteen ⊕ twelve ⊗ b ⊕ six ⊗ c))
-  pub down : value (neg eighteen ⊕ twelve ⊗ b ⊕ six ⊗ c) ≤F frac 0 1
-  pub last : value (six ⊖ two ⊗ b) ≤F frac 6 1
+pub record Shape (row : CubicRow) (B C : Fraction) : Type 0 where
+  pub larger : absF (value (row .near3)) ≤F absF (value (row .near2))
+  pub down : value (row .near2) ≤F frac 0 1
+  pub last : value (row .near0) ≤F frac 6 1
   pub near-nonneg : (x : Fraction) → Unit01 x → frac 0 1 ≤F nearF B C x
   pub far-small : (x : Fraction) → frac 1 1 ≤F x → x ≤F frac 2 1 → absF (farF B C x) ≤F frac 3 1
 
-catrom-larger : absF (value (twelve ⊖ nine ⊗ zero ⊖ six ⊗ half)) ≤F absF
-    (value (neg eighteen ⊕ twelve ⊗ zero ⊕ six ⊗ half))
-unfolding add sub sum mul neg round ofBits absF
-catrom-larger = record { le = lit≤ tt }
-
-pub catrom-shape : Shape zero half (frac 0 1) (frac 1 2)
+pub catrom-shape : Shape catromRow (frac 0 1) (frac 1 2)
 catrom-shape = record {
-  larger = catrom-larger;
-  down = unfold add sub sum mul neg round ofBits in record { le = lit≤ tt };
-  last = unfold add sub sum mul neg round ofBits in record { le = lit≤ tt };
+  larger = unfold neg ofBits absF in record { le = lit≤ tt };
+  down = unfold neg ofBits in record { le = lit≤ tt };
+  last = unfold neg ofBits in record { le = lit≤ tt };
   near-nonneg = catrom-nonneg;
   far-small = catrom-small;
 }
 
-pub spline-shape : Shape one zero (frac 1 1) (frac 0 1)
+pub spline-shape : Shape splineRow (frac 1 1) (frac 0 1)
 spline-shape = record {
-  larger = unfold add sub sum mul neg round ofBits absF in record { le = lit≤ tt };
-  down = unfold add sub sum mul neg round ofBits in record { le = lit≤ tt };
-  last = unfold add sub sum mul neg round ofBits in record { le = lit≤ tt };
+  larger = unfold neg ofBits absF in record { le = lit≤ tt };
+  down = unfold neg ofBits in record { le = lit≤ tt };
+  last = unfold neg ofBits in record { le = lit≤ tt };
   near-nonneg = spline-nonneg;
   far-small = spline-small;
 }
 
 -- ---- the kernel
-module _ {b c : Float} {B C : Fraction} (K : Coefficients b c B C) (S : Shape b c B C) (x : Float) (t : T (finite x))
-    (h : absF (value x) ≤F frac 2 1) where
+module _ {row : CubicRow} {B C : Fraction} (K : Coefficients row B C) (S : Shape row B C) (x : Float)
+    (t : T (finite x)) (h : absF (value x) ≤F frac 2 1) where
   abbrev w : Float
-  w = kernel b c x
+  w = kernel row x
 
   abbrev size : Fraction
   size = absF (value x)
@@ -104,9 +98,9 @@ module _ {b c : Float} {B C : Fraction} (K : Coefficients b c B C) (S : Shape b 
   size-nonneg : frac 0 1 ≤F size
   size-nonneg = abs-nonneg (value x) size (le-refl size size)
 
-  inner : size <F frac 1 1 → w ≡ nearPiece b c (abs x) ⊘ six
+  inner : size <F frac 1 1 → w ≡ nearPiece row (abs x) ⊘ six
   unfolding pieces
-  inner l = ap (λ (s : Bool). cond s (nearPiece b c (abs x)) (cond (lt (abs x) two) (farPiece b c (abs x)) zero) ⊘ six)
+  inner l = ap (λ (s : Bool). cond s (nearPiece row (abs x)) (cond (lt (abs x) two) (farPiece row (abs x)) zero) ⊘ six)
       (same-less x t one (unfold ofBits in tt) (frac 1 1) (unfold ofBits in record { eq = refl })
       ∙ is-true (lessF size (frac 1 1)) (true-less size (frac 1 1) l))
 
@@ -125,8 +119,7 @@ module _ {b c : Float} {B C : Fraction} (K : Coefficients b c B C) (S : Shape b 
       let u : Unit01 size = (size-nonneg, lt-le size (frac 1 1) l) in
       abs-close (value w) (frac 1 1)
       (subst (λ (z : Float). value z ≤F frac 1 1) (sym (inner l))
-      (near-top (twelve ⊖ nine ⊗ b ⊖ six ⊗ c) (neg eighteen ⊕ twelve ⊗ b ⊕ six ⊗ c) (six ⊖ two ⊗ b) (abs x)
-      (sizes (K .near-3)) (sizes (K .near-2)) (sizes (K .near-0)) (m .0) (unit-same (back (m .1)) u) (S .larger)
+      (near-top row (abs x) (sizes (K .near-3)) (sizes (K .near-2)) (sizes (K .near-0)) (m .0) (unit-same (back (m .1)) u) (S .larger)
       (S .down) (S .last)
       (subst (λ (z : Float). T (finite z)) (inner l) (close .number))))
       (le-trans (negF (value w)) (parts 41) (frac 1 1)
@@ -152,8 +145,8 @@ module _ {b c : Float} {B C : Fraction} (K : Coefficients b c B C) (S : Shape b 
 abbrev pub BoundedEach : List Float → Type 0
 BoundedEach = Each (Bounded (frac 1 1))
 
-pub weights-bounded : {b c : Float} {B C : Fraction} → Coefficients b c B C → Shape b c B C → (t : Float) → Unit32 t
-    → BoundedEach (cubicWeights t b c)
+pub weights-bounded : {row : CubicRow} {B C : Fraction} → Coefficients row B C → Shape row B C → (t : Float) → Unit32 t
+    → BoundedEach (cubicWeights t row)
 weights-bounded K S t u =
     let p = rounds-bound (one-more t (u .number)) 150 2 1 1 (2 ^ 24) tt (plus-one (value t) (u .unit) .1) in
     let q = rounds-bound (one-less t (u .number)) 149 1 1 1 (2 ^ 25) tt (less-one (value t) (u .unit)) in

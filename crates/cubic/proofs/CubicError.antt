@@ -33,6 +33,7 @@ use Rattle.exact.proofs.Operations.{add-rounds, sub-rounds}
 use Rattle.exact.proofs.Bounds.{rounds-bound}
 use Rattle.exact.proofs.Samples.{one-number, one-value}
 use Rattle.exact.proofs.Ranges.{abs-grow, rounds-least}
+use Rattle.cubic.specs.declared.cubic.CubicRow.{CubicRow}
 use Rattle.cubic.specs.Cubic.{one, two, kernel, cubicWeights, catrom, spline}
 use Rattle.cubic.specs.Mitchell.{
   near3,
@@ -79,22 +80,22 @@ abs-abs : (x : Fraction) {m : Fraction} → absF x ≤F m → absF (absF x) ≤F
 abs-abs x {m} h = le-trans (absF (absF x)) (absF x) m
     (abs-self (absF x) (abs-nonneg x (absF x) (le-refl (absF x) (absF x)))) h
 
-module _ {b c : Float} {B C : Fraction} (K : Coefficients b c B C) {r : Float} {X : Fraction} (R : Rounds binary32 r X)
+module _ {row : CubicRow} {B C : Fraction} (K : Coefficients row B C) {r : Float} {X : Fraction} (R : Rounds binary32 r X)
   where
     abbrev sixth : Fraction → Fraction
     sixth v = frac 1 6 *F v
 
-    together : (e : Fraction) → Close (kernel b c r) (mitchell B C (value r)) (parts 41) (frac 128 1)
+    together : (e : Fraction) → Close (kernel row r) (mitchell B C (value r)) (parts 41) (frac 128 1)
         → Within (mitchell B C (value r)) (mitchell B C X) e → parts 41 +F e ≤F cubicError
-        → NearTo (kernel b c r) (mitchell B C X)
+        → NearTo (kernel row r) (mitchell B C X)
     together e k w l = record {
       number = k .number;
-      near = within-more (value (kernel b c r)) (mitchell B C X) (parts 41 +F e) cubicError l
-          (within-trans (value (kernel b c r)) (mitchell B C (value r)) (mitchell B C X) (parts 41) e (k .near) w);
+      near = within-more (value (kernel row r)) (mitchell B C X) (parts 41 +F e) cubicError l
+          (within-trans (value (kernel row r)) (mitchell B C (value r)) (mitchell B C X) (parts 41) e (k .near) w);
     }
 
     -- up to 1 in magnitude, and so is the rounded one
-    pub argument-near : absF X ≤F frac 1 1 → NearTo (kernel b c r) (mitchell B C X)
+    pub argument-near : absF X ≤F frac 1 1 → NearTo (kernel row r) (mitchell B C X)
     argument-near h =
         let k : Close r X near-gap (frac 1 1) = rounds-bound R 149 1 1 1 (2 ^ 25) tt h in
         let w =
@@ -113,7 +114,7 @@ module _ {b c : Float} {B C : Fraction} (K : Coefficients b c B C) {r : Float} {
         error = unfold _+F_ _*F_ in record { le = lit≤ tt }
 
     -- from 1 to 2 in magnitude, and so is the rounded one
-    pub argument-far : frac 1 1 ≤F absF X → absF X ≤F frac 2 1 → NearTo (kernel b c r) (mitchell B C X)
+    pub argument-far : frac 1 1 ≤F absF X → absF X ≤F frac 2 1 → NearTo (kernel row r) (mitchell B C X)
     argument-far l h =
         let k : Close r X far-gap (frac 2 1) = rounds-bound R 150 2 1 1 (2 ^ 24) tt h in
         let j : frac 1 1 ≤F absF (value r) =
@@ -187,8 +188,8 @@ two-less t h = rounds-along (sub-same (eq-refl (value t)) two-value) (sub-rounds
     two-value : value two ≈ frac 2 1
     two-value = unfold ofBits in record { eq = refl }
 
-pub weights-near : {b c : Float} {B C : Fraction} → Coefficients b c B C → (t : Float) → Unit32 t
-    → NearEach (cubicWeights t b c) (exactWeights B C (value t))
+pub weights-near : {row : CubicRow} {B C : Fraction} → Coefficients row B C → (t : Float) → Unit32 t
+    → NearEach (cubicWeights t row) (exactWeights B C (value t))
 weights-near K t u =
     let f = plus-one (value t) (u .unit) in
     let g = less-two (value t) (u .unit) in (

@@ -17,7 +17,8 @@ use Rattle.exact.proofs.Factors.{mul-abs}
 use Rattle.exact.proofs.Monotone.{rounds-abs, rounds-no-larger, rounds-fits, rounds-nonpos, rounds-at-most}
 use Rattle.exact.proofs.Operations.{add-rounds, mul-rounds}
 use Rattle.exact.proofs.Sums.{step-fine}
-use Rattle.cubic.specs.Cubic.{one, six, withoutLinear}
+use Rattle.cubic.specs.declared.cubic.CubicRow.{CubicRow}
+use Rattle.cubic.specs.Cubic.{one, six, nearPiece}
 use Rattle.cubic.specs.Bounded.{Bounded}
 use Rattle.cubic.proofs.Sizes.{mul-bounded, add-bounded}
 use Rattle.cubic.proofs.CubicPieces.{sixth-rounds}
@@ -58,9 +59,19 @@ opposite x y h k =
     at-le D D0 (at-add X Y) (at-zero D) (omega arith))
 
 -- ---- the inner piece, divided by 6, is at most 1
-module _ (a b d ax : Float) (A : Bounded (frac 16 1) a) (B : Bounded (frac 16 1) b) (D : Bounded (frac 8 1) d)
-    (t : T (finite ax)) (u : Unit01 (value ax))
-    (larger : absF (value a) ≤F absF (value b)) (down : value b ≤F frac 0 1) (last : value d ≤F frac 6 1) where
+module _ (row : CubicRow) (ax : Float) (A : Bounded (frac 16 1) (row .near3)) (B : Bounded (frac 16 1) (row .near2))
+    (D : Bounded (frac 8 1) (row .near0)) (t : T (finite ax)) (u : Unit01 (value ax))
+    (larger : absF (value (row .near3)) ≤F absF (value (row .near2))) (down : value (row .near2) ≤F frac 0 1)
+    (last : value (row .near0) ≤F frac 6 1) where
+  abbrev a : Float
+  a = row .near3
+
+  abbrev b : Float
+  b = row .near2
+
+  abbrev d : Float
+  d = row .near0
+
   times : (x : Float) → Bounded (frac 16 1) x → Bounded (frac 16 1) (x ⊗ ax)
   times x p =
       mul-bounded (step-fine binary32 153 16 1 2 (2 ^ 22) tt) p (record { number = t; size = abs-unit (value ax) u })
@@ -87,7 +98,7 @@ module _ (a b d ax : Float) (A : Bounded (frac 16 1) a) (B : Bounded (frac 16 1)
   sum-two : Bounded (frac 32 1) (a ⊗ ax ⊗ ax ⊗ ax ⊕ b ⊗ ax ⊗ ax)
   sum-two = add-bounded (step-fine binary32 154 32 1 4 (2 ^ 22) tt) a3 b2 (unfold _+F_ in record { le = lit≤ tt })
 
-  sum-three : Bounded (frac 64 1) (withoutLinear a b d ax)
+  sum-three : Bounded (frac 64 1) (nearPiece row ax)
   sum-three = add-bounded (step-fine binary32 155 64 1 8 (2 ^ 22) tt) sum-two D (unfold _+F_ in record { le = lit≤ tt })
 
   two-nonpos : value (a ⊗ ax ⊗ ax ⊗ ax ⊕ b ⊗ ax ⊗ ax) ≤F frac 0 1
@@ -108,10 +119,10 @@ module _ (a b d ax : Float) (A : Bounded (frac 16 1) a) (B : Bounded (frac 16 1)
   one-fits : T (fits binary32 one)
   one-fits = unfold ofBits fits in tt
 
-  pub near-top : T (finite (withoutLinear a b d ax ⊘ six)) → value (withoutLinear a b d ax ⊘ six) ≤F frac 1 1
+  pub near-top : T (finite (nearPiece row ax ⊘ six)) → value (nearPiece row ax ⊘ six) ≤F frac 1 1
   near-top f =
       let s = a ⊗ ax ⊗ ax ⊗ ax ⊕ b ⊗ ax ⊗ ax in
-      let v = withoutLinear a b d ax in
+      let v = nearPiece row ax in
       let q : value v ≤F value six =
       rounds-at-most (add-rounds binary32 s d (sum-two .number) (D .number)) six six-fits (unfold ofBits in tt)
       (sum-three .number)

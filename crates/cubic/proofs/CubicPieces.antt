@@ -18,7 +18,8 @@ use Rattle.exact.proofs.Rounds.{rounds-along}
 use Rattle.exact.proofs.Operations.{mul-rounds, div-rounds}
 use Rattle.exact.proofs.Steps.{close-more, close-along, close-move}
 use Rattle.exact.proofs.Sums.{Step, step-fine, add-near}
-use Rattle.cubic.specs.Cubic.{six, withoutLinear, withLinear}
+use Rattle.cubic.specs.declared.cubic.CubicRow.{CubicRow}
+use Rattle.cubic.specs.Cubic.{six, nearPiece, farPiece}
 use Rattle.cubic.specs.Mitchell.{withoutLinearF, withLinearF}
 
 -- ---- n parts
@@ -70,14 +71,14 @@ cubed a x = mul-assoc (a *F x) x x ⨟ mul-assoc a x (x *F x) ⨟ mul-same (eq-r
 squared : (a x : Fraction) → a *F x *F x ≈ a *F (x *F x)
 squared a x = mul-assoc a x x
 
-module _ (ax : Float) (t : T (finite ax)) where
+module _ (row : CubicRow) (ax : Float) (t : T (finite ax)) where
   abbrev X : Fraction
   X = value ax
 
-  pub near-close : {a b d : Float} {A B D : Fraction} → Close a A (frac 0 1) (frac 16 1)
-      → Close b B (frac 0 1) (frac 16 1) → Close d D (frac 0 1) (frac 8 1) → absF X ≤F frac 1 1
-      → Close (withoutLinear a b d ax) (withoutLinearF A B D X) (parts 22) (frac 64 1)
-  near-close {a} {b} {d} {A} {B} {D} p q r k =
+  pub near-close : {A B D : Fraction} → Close (row .near3) A (frac 0 1) (frac 16 1)
+      → Close (row .near2) B (frac 0 1) (frac 16 1) → Close (row .near0) D (frac 0 1) (frac 8 1) → absF X ≤F frac 1 1
+      → Close (nearPiece row ax) (withoutLinearF A B D X) (parts 22) (frac 64 1)
+  near-close {A} {B} {D} p q r k =
       let one = frac 1 1 in
       let room : frac 16 1 *F one ≤F frac 16 1 = unfold _*F_ in record { le = lit≤ tt } in
       let p1 = mul-by step-16 p ax t one k room (parts 2) (unfold _+F_ _*F_ in record { le = lit≤ tt }) in
@@ -93,10 +94,11 @@ module _ (ax : Float) (t : T (finite ax)) where
       record { le = lit≤ tt })) r (unfold _+F_ in record { le = lit≤ tt }) (parts 22) (unfold _+F_ in
       record { le = lit≤ tt }))
 
-  pub far-close : {a b c d : Float} {A B C D : Fraction} → Close a A (frac 0 1) (frac 4 1)
-      → Close b B (frac 0 1) (frac 16 1) → Close c C (frac 0 1) (frac 32 1) → Close d D (frac 0 1) (frac 16 1)
-      → absF X ≤F frac 2 1 → Close (withLinear a b c d ax) (withLinearF A B C D X) (parts 148) (frac 512 1)
-  far-close {a} {b} {c} {d} {A} {B} {C} {D} p q r s k =
+  pub far-close : {A B C D : Fraction} → Close (row .far3) A (frac 0 1) (frac 4 1)
+      → Close (row .far2) B (frac 0 1) (frac 16 1) → Close (row .far1) C (frac 0 1) (frac 32 1)
+      → Close (row .far0) D (frac 0 1) (frac 16 1)
+      → absF X ≤F frac 2 1 → Close (farPiece row ax) (withLinearF A B C D X) (parts 148) (frac 512 1)
+  far-close {A} {B} {C} {D} p q r s k =
       let two = frac 2 1 in
       let p1 = mul-by step-8 p ax t two k (unfold _*F_ in record { le = lit≤ tt }) (parts 1) (unfold _+F_ _*F_ in
       record { le = lit≤ tt }) in

@@ -4,6 +4,7 @@ pub mod CubicCode
 pub mod CubicError
 pub mod CubicExact
 pub mod CubicExamples
+pub mod CubicFormula
 pub mod CubicKernel
 pub mod CubicMove
 pub mod CubicOrder

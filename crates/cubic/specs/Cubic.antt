@@ -1,13 +1,20 @@
--- The cubic kernels: the Rust's `cubic_weights`, rounded once per operation in the order written. Specification 9.
--- Assumes nothing.
+-- The cubic kernels: the Rust's `cubic_weights`, rounded once per operation in the order written, with the numbers of
+-- the lab's manual in place of the arithmetic on B and C. Specification 9. Assumes nothing.
 use mathlib.Core.Bool.{Bool, not, cond, _&&_}
 use mathlib.Core.List.{List, [], _∷_}
 use lib.Ieee.{Float, binary32, neg, ofBits, lt}
 use Rattle.exact.specs.Single.{_⊕_, _⊖_, _⊗_, _⊘_}
-pub use Rattle.exact.specs.Single.{zero, half, one, two}
+pub use Rattle.exact.specs.Single.{zero, one, two}
 use Rattle.number.specs.Magnitude.{abs}
+use Rattle.cubic.specs.declared.cubic.CubicRow.{CubicRow}
 
 -- ---- the other constants
+abbrev pub three : Float
+three = ofBits binary32 0x4040_0000  -- 3.0
+
+abbrev pub four : Float
+four = ofBits binary32 0x4080_0000  -- 4.0
+
 abbrev pub six : Float
 six = ofBits binary32 0x40c0_0000  -- 6.0
 
@@ -20,38 +27,48 @@ nine = ofBits binary32 0x4110_0000  -- 9.0
 abbrev pub twelve : Float
 twelve = ofBits binary32 0x4140_0000  -- 12.0
 
-abbrev pub eighteen : Float
-eighteen = ofBits binary32 0x4190_0000  -- 18.0
+abbrev pub fifteen : Float
+fifteen = ofBits binary32 0x4170_0000  -- 15.0
 
 abbrev pub twentyFour : Float
 twentyFour = ofBits binary32 0x41c0_0000  -- 24.0
 
-abbrev pub thirty : Float
-thirty = ofBits binary32 0x41f0_0000  -- 30.0
+-- ---- the printed table: of each kernel, the numbers of its two pieces, all over 6
+-- 9, -15, 6 and -3, 15, -24, 12
+abbrev pub catromRow : CubicRow
+catromRow = record {
+  near3 = nine;
+  near2 = neg fifteen;
+  near0 = six;
+  far3 = neg three;
+  far2 = fifteen;
+  far1 = neg twentyFour;
+  far0 = twelve;
+}
 
-abbrev pub fortyEight : Float
-fortyEight = ofBits binary32 0x4240_0000  -- 48.0
+-- 3, -6, 4 and -1, 6, -12, 8
+abbrev pub splineRow : CubicRow
+splineRow = record {
+  near3 = three;
+  near2 = neg six;
+  near0 = four;
+  far3 = neg one;
+  far2 = six;
+  far1 = neg twelve;
+  far0 = eight;
+}
 
 -- ---- the two pieces, of a magnitude ax
--- a * ax * ax * ax + b * ax * ax + d
-abbrev pub withoutLinear : Float → Float → Float → Float → Float
-withoutLinear a b d ax = a ⊗ ax ⊗ ax ⊗ ax ⊕ b ⊗ ax ⊗ ax ⊕ d
+-- below 1: the cubic, the square and the constant term
+abbrev pub nearPiece : CubicRow → Float → Float
+nearPiece row ax = row .near3 ⊗ ax ⊗ ax ⊗ ax ⊕ row .near2 ⊗ ax ⊗ ax ⊕ row .near0
 
--- a * ax * ax * ax + b * ax * ax + c * ax + d
-abbrev pub withLinear : Float → Float → Float → Float → Float → Float
-withLinear a b c d ax = a ⊗ ax ⊗ ax ⊗ ax ⊕ b ⊗ ax ⊗ ax ⊕ c ⊗ ax ⊕ d
+-- from 1 to 2: the cubic, the square, the linear and the constant term
+abbrev pub farPiece : CubicRow → Float → Float
+farPiece row ax = row .far3 ⊗ ax ⊗ ax ⊗ ax ⊕ row .far2 ⊗ ax ⊗ ax ⊕ row .far1 ⊗ ax ⊕ row .far0
 
--- below 1
-abbrev pub nearPiece : Float → Float → Float → Float
-nearPiece b c ax = withoutLinear (twelve ⊖ nine ⊗ b ⊖ six ⊗ c) (neg eighteen ⊕ twelve ⊗ b ⊕ six ⊗ c) (six ⊖ two ⊗ b) ax
-
--- from 1 to 2
-abbrev pub farPiece : Float → Float → Float → Float
-farPiece b c ax = withLinear (neg b ⊖ six ⊗ c) (six ⊗ b ⊕ thirty ⊗ c) (neg twelve ⊗ b ⊖ fortyEight ⊗ c) (eight ⊗ b
-    ⊕ twentyFour ⊗ c) ax
-
-unfoldable pub pieces : Float → Float → Float → Float
-pieces b c ax = cond (lt ax one) (nearPiece b c ax) (cond (lt ax two) (farPiece b c ax) zero)
+unfoldable pub pieces : CubicRow → Float → Float
+pieces row ax = cond (lt ax one) (nearPiece row ax) (cond (lt ax two) (farPiece row ax) zero)
 
 -- whether a magnitude is in the outer piece, and whether the four of a point's taps are in the pieces that they are in
 -- but at a cell's ends
@@ -62,21 +79,21 @@ unfoldable pub between : Float → Float → Float → Float → Bool
 between p q r s = (outer p && lt q one) && (lt r one && outer s)
 
 -- the weights of four such magnitudes
-abbrev pub middle : Float → Float → Float → Float → Float → Float → List Float
-middle b c p q r s = (farPiece b c p ⊘ six) ∷ (nearPiece b c q ⊘ six) ∷ (nearPiece b c r ⊘ six)
-    ∷ (farPiece b c s ⊘ six) ∷ []
+abbrev pub middle : CubicRow → Float → Float → Float → Float → List Float
+middle row p q r s = (farPiece row p ⊘ six) ∷ (nearPiece row q ⊘ six) ∷ (nearPiece row r ⊘ six)
+    ∷ (farPiece row s ⊘ six) ∷ []
 
--- the kernel, six times too large in its pieces
-abbrev pub kernel : Float → Float → Float → Float
-kernel b c x = pieces b c (abs x) ⊘ six
+-- the kernel, its pieces divided by 6
+abbrev pub kernel : CubicRow → Float → Float
+kernel row x = pieces row (abs x) ⊘ six
 
 -- the weights of the four taps around a point, t being its fraction between the second and the third
-abbrev pub cubicWeights : Float → Float → Float → List Float
-cubicWeights t b c = kernel b c (t ⊕ one) ∷ kernel b c t ∷ kernel b c (t ⊖ one) ∷ kernel b c (t ⊖ two) ∷ []
+abbrev pub cubicWeights : Float → CubicRow → List Float
+cubicWeights t row = kernel row (t ⊕ one) ∷ kernel row t ∷ kernel row (t ⊖ one) ∷ kernel row (t ⊖ two) ∷ []
 
 -- ---- the two kernels
 abbrev pub catrom : Float → List Float
-catrom t = cubicWeights t zero half
+catrom t = cubicWeights t catromRow
 
 abbrev pub spline : Float → List Float
-spline t = cubicWeights t one zero
+spline t = cubicWeights t splineRow

@@ -2,6 +2,8 @@
 ghost use mathlib.Core.Path.{_≡_};
 ghost use Rattle.cubic.specs.Cubic as Cubic;
 ghost use Rattle.cubic.specs.Cubic.{
+  catromRow,
+  splineRow,
   catrom,
   spline,
   outer,
@@ -14,53 +16,88 @@ ghost use Rattle.cubic.specs.Cubic.{
 };
 use number::magnitude::abs_f32;
 
-// Below 1 in magnitude.
-fn near_piece(b: f32, c: f32, ax: f32) -> f32
-    ensures { λ r. ⌜ r ≡ nearPiece b c ax ⌝ }
+// A kernel's row of the printed table, all over 6: the cubic, the square and the constant number of the piece below 1,
+// then the cubic, the square, the linear and the constant one of the piece from 1 to 2.
+pub struct CubicRow {
+    pub near3: f32,
+    pub near2: f32,
+    pub near0: f32,
+    pub far3: f32,
+    pub far2: f32,
+    pub far1: f32,
+    pub far0: f32,
+}
+
+pub fn catrom_row() -> CubicRow
+    ensures { λ r. ⌜ r ≡ catromRow ⌝ }
 {
-    (12.0 - 9.0 * b - 6.0 * c) * ax * ax * ax
-        + (-18.0 + 12.0 * b + 6.0 * c) * ax * ax
-        + (6.0 - 2.0 * b)
+    CubicRow {
+        near3: 9.0,
+        near2: -15.0,
+        near0: 6.0,
+        far3: -3.0,
+        far2: 15.0,
+        far1: -24.0,
+        far0: 12.0,
+    }
+}
+
+pub fn spline_row() -> CubicRow
+    ensures { λ r. ⌜ r ≡ splineRow ⌝ }
+{
+    CubicRow {
+        near3: 3.0,
+        near2: -6.0,
+        near0: 4.0,
+        far3: -1.0,
+        far2: 6.0,
+        far1: -12.0,
+        far0: 8.0,
+    }
+}
+
+// Below 1 in magnitude.
+fn near_piece(row: CubicRow, ax: f32) -> f32
+    ensures { λ r. ⌜ r ≡ nearPiece row ax ⌝ }
+{
+    row.near3 * ax * ax * ax + row.near2 * ax * ax + row.near0
 }
 
 // From 1 to below 2.
-fn far_piece(b: f32, c: f32, ax: f32) -> f32
-    ensures { λ r. ⌜ r ≡ farPiece b c ax ⌝ }
+fn far_piece(row: CubicRow, ax: f32) -> f32
+    ensures { λ r. ⌜ r ≡ farPiece row ax ⌝ }
 {
-    (-b - 6.0 * c) * ax * ax * ax
-        + (6.0 * b + 30.0 * c) * ax * ax
-        + (-12.0 * b - 48.0 * c) * ax
-        + (8.0 * b + 24.0 * c)
+    row.far3 * ax * ax * ax + row.far2 * ax * ax + row.far1 * ax + row.far0
 }
 
 // Six times the kernel at a magnitude.
-fn pieces(b: f32, c: f32, ax: f32) -> f32
-    ensures { λ r. ⌜ r ≡ Cubic.pieces b c ax ⌝ }
+fn pieces(row: CubicRow, ax: f32) -> f32
+    ensures { λ r. ⌜ r ≡ Cubic.pieces row ax ⌝ }
 {
     if ax < 1.0 {
-        near_piece(b, c, ax)
+        near_piece(row, ax)
     } else if ax < 2.0 {
-        far_piece(b, c, ax)
+        far_piece(row, ax)
     } else {
         0.0
     }
 }
 
-fn weight(b: f32, c: f32, x: f32) -> f32
-    ensures { λ r. ⌜ r ≡ kernel b c x ⌝ }
+fn weight(row: CubicRow, x: f32) -> f32
+    ensures { λ r. ⌜ r ≡ kernel row x ⌝ }
 {
-    pieces(b, c, abs_f32(x)) / 6.0
+    pieces(row, abs_f32(x)) / 6.0
 }
 
 // Of the four taps around a point, t being its fraction between the second and the third.
-pub fn cubic_weights(t: f32, b: f32, c: f32) -> [f32; 4]
-    ensures { λ r. ⌜ r ≡ cubicWeights t b c ⌝ }
+pub fn cubic_weights(t: f32, row: CubicRow) -> [f32; 4]
+    ensures { λ r. ⌜ r ≡ cubicWeights t row ⌝ }
 {
     [
-        weight(b, c, t + 1.0),
-        weight(b, c, t),
-        weight(b, c, t - 1.0),
-        weight(b, c, t - 2.0),
+        weight(row, t + 1.0),
+        weight(row, t),
+        weight(row, t - 1.0),
+        weight(row, t - 2.0),
     ]
 }
 
@@ -78,40 +115,40 @@ pub fn between(p: f32, q: f32, r: f32, s: f32) -> bool
 }
 
 // The weights of four magnitudes of which the outer two are in the outer piece: no test for each.
-pub fn middle(b: f32, c: f32, p: f32, q: f32, r: f32, s: f32) -> [f32; 4]
-    ensures { λ w. ⌜ w ≡ middle b c p q r s ⌝ }
+pub fn middle(row: CubicRow, p: f32, q: f32, r: f32, s: f32) -> [f32; 4]
+    ensures { λ w. ⌜ w ≡ middle row p q r s ⌝ }
 {
     [
-        far_piece(b, c, p) / 6.0,
-        near_piece(b, c, q) / 6.0,
-        near_piece(b, c, r) / 6.0,
-        far_piece(b, c, s) / 6.0,
+        far_piece(row, p) / 6.0,
+        near_piece(row, q) / 6.0,
+        near_piece(row, r) / 6.0,
+        far_piece(row, s) / 6.0,
     ]
 }
 
-// The two kernels with B and C in place, so that their coefficients are worked out by the compiler.
-pub fn catrom(t: f32) -> [f32; 4]
-    ensures { λ r. ⌜ r ≡ catrom t ⌝ }
+// The same weights as `cubic_weights`, with one test for all four but at a cell's ends.
+fn tested_once(t: f32, row: CubicRow) -> [f32; 4]
+    ensures { λ r. ⌜ r ≡ cubicWeights t row ⌝ }
 {
     let p = abs_f32(t + 1.0);
     let q = abs_f32(t);
     let r = abs_f32(t - 1.0);
     let s = abs_f32(t - 2.0);
     if between(p, q, r, s) {
-        return middle(0.0, 0.5, p, q, r, s);
+        return middle(row, p, q, r, s);
     }
-    cubic_weights(t, 0.0, 0.5)
+    cubic_weights(t, row)
+}
+
+// The two kernels with their rows in place, so that the compiler knows the numbers.
+pub fn catrom(t: f32) -> [f32; 4]
+    ensures { λ r. ⌜ r ≡ catrom t ⌝ }
+{
+    tested_once(t, catrom_row())
 }
 
 pub fn spline(t: f32) -> [f32; 4]
     ensures { λ r. ⌜ r ≡ spline t ⌝ }
 {
-    let p = abs_f32(t + 1.0);
-    let q = abs_f32(t);
-    let r = abs_f32(t - 1.0);
-    let s = abs_f32(t - 2.0);
-    if between(p, q, r, s) {
-        return middle(1.0, 0.0, p, q, r, s);
-    }
-    cubic_weights(t, 1.0, 0.0)
+    tested_once(t, spline_row())
 }

@@ -16,8 +16,8 @@ use lib.Seq.{getD-set-same, getD-set-other}
 use lib.Ieee.{Float, nan}
 use Rattle.exact.specs.Vector.{at}
 use Rattle.exact.proofs.Booleans.{both}
-use Rattle.cubic.specs.Cubic as Cubic
-use Rattle.cubic.specs.Cubic.{cubicWeights}
+use Rattle.cubic.specs.declared.cubic.CubicRow.{CubicRow}
+use Rattle.cubic.specs.Cubic.{catromRow, splineRow, cubicWeights}
 use Rattle.taps.specs.Interpolation.{catromCode}
 use Rattle.sampler.specs.Sixteen.{kernelOf}
 use Rattle.fast_colours.specs.InsideSpan.{Sized}
@@ -40,27 +40,27 @@ are-four (v₀ ∷ v₁ ∷ v₂ ∷ []) S = absurd (omega (arith, S .lists))
 are-four (v₀ ∷ v₁ ∷ v₂ ∷ v₃ ∷ v₄ ∷ w) S = absurd (omega (arith, S .lists))
 
 -- what the loop knows after k turns: k fractions are weighed if the answer is still true
-pub record Weighing4 (b c : Float) (k : ℕ) (good : Bool) (ts : List Float) (w : List (List Float)) : Type 0 where
-  pub done : good ≡ true → Weighed4 b c k ts w
+pub record Weighing4 (row : CubicRow) (k : ℕ) (good : Bool) (ts : List Float) (w : List (List Float)) : Type 0 where
+  pub done : good ≡ true → Weighed4 row k ts w
   pub long : Four w
 
-module _ {b c : Float} {ts : List Float} where
-  pub weigh4-none : {w : List (List Float)} → Sized 4 w → Weighing4 b c 0 true ts w
+module _ {row : CubicRow} {ts : List Float} where
+  pub weigh4-none : {w : List (List Float)} → Sized 4 w → Weighing4 row 0 true ts w
   weigh4-none S = record {
     done = λ e. record { weights = λ k h. absurd (not-suc-le-zero h) };
     long = are-four _ S;
   }
 
   pub weigh4-more : {w : List (List Float)} (k : ℕ) → k < 64 → {good t : Bool} {p q r s : Float}
-      → (t ≡ true → (p ∷ q ∷ r ∷ s ∷ []) ≡ cubicWeights (at ts k) b c) → Weighing4 b c k good ts w
-      → Weighing4 b c (k + 1) (good && t) ts (put (put (put (put w 0 k p) 1 k q) 2 k r) 3 k s)
+      → (t ≡ true → (p ∷ q ∷ r ∷ s ∷ []) ≡ cubicWeights (at ts k) row) → Weighing4 row k good ts w
+      → Weighing4 row (k + 1) (good && t) ts (put (put (put (put w 0 k p) 1 k q) 2 k r) 3 k s)
   weigh4-more {w} k l {good} {t} {p} {q} {r} {s} new old = go (old .long) (old .done)
     where
       below : (i : ℕ) → i < k → i ≢ k
       below i h e = omega arith
 
-      go : {w : List (List Float)} → Four w → (good ≡ true → Weighed4 b c k ts w)
-          → Weighing4 b c (k + 1) (good && t) ts (put (put (put (put w 0 k p) 1 k q) 2 k r) 3 k s)
+      go : {w : List (List Float)} → Four w → (good ≡ true → Weighed4 row k ts w)
+          → Weighing4 row (k + 1) (good && t) ts (put (put (put (put w 0 k p) 1 k q) 2 k r) 3 k s)
       go (four {v₀} {v₁} {v₂} {v₃} l₀ l₁ l₂ l₃) W =
           record {
             done = λ e.
@@ -69,7 +69,7 @@ module _ {b c : Float} {ts : List Float} where
                   weights =
                       below-more (λ (i : ℕ).
                       (at (set v₀ k p) i ∷ at (set v₁ k q) i ∷ at (set v₂ k r) i ∷ at (set v₃ k s) i ∷ [])
-                      ≡ cubicWeights (at ts i) b c) k
+                      ≡ cubicWeights (at ts i) row) k
                       (λ i h. rw (
                         getD-set-other v₀ k i p nan (below i h),
                         getD-set-other v₁ k i q nan (below i h),
@@ -89,17 +89,17 @@ module _ {b c : Float} {ts : List Float} where
                 (length-set v₃ k s ∙ l₃);
           }
 
-  pub weigh4-last : {w : List (List Float)} (k n : ℕ) {good : Bool} → n ≤ k → Weighing4 b c k good ts w → good ≡ true
-      → Weighed4 b c n ts w
+  pub weigh4-last : {w : List (List Float)} (k n : ℕ) {good : Bool} → n ≤ k → Weighing4 row k good ts w → good ≡ true
+      → Weighed4 row n ts w
   weigh4-last k n a s e = record { weights = λ i h. s .done e .weights i (omega arith) }
 
 -- ---- by the code
 module _ {code n : ℕ} {ts : List Float} {w : List (List Float)} where
-  pub kernel-catrom : code ≡ catromCode → Weighed4 Cubic.zero Cubic.half n ts w → Kernels code n ts w
+  pub kernel-catrom : code ≡ catromCode → Weighed4 catromRow n ts w → Kernels code n ts w
   unfolding kernelOf
   kernel-catrom e W = record { weights = λ k l. W .weights k l ∙ rw e }
 
-  pub kernel-spline : (code ≡ catromCode → ⊥) → Weighed4 Cubic.one Cubic.zero n ts w → Kernels code n ts w
+  pub kernel-spline : (code ≡ catromCode → ⊥) → Weighed4 splineRow n ts w → Kernels code n ts w
   unfolding kernelOf
   kernel-spline e W = record { weights = λ k l. W .weights k l ∙ rw (ne-eqb code catromCode e) }
 

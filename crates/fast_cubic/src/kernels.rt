@@ -5,8 +5,11 @@ ghost use Prim.Native.Nat.{_≤_};
 ghost use Rattle.exact.specs.Limits.{longestSpan};
 ghost use Rattle.fast_colours.specs.InsideSpan.{Sized};
 ghost use Rattle.fast_cubic.specs.Kernels.{Weighed4, Kernels};
+use cubic::cubic::CubicRow;
 use cubic::cubic::between;
+use cubic::cubic::catrom_row;
 use cubic::cubic::middle;
+use cubic::cubic::spline_row;
 use number::magnitude::abs_f32;
 use taps::interpolation::CATROM;
 
@@ -17,9 +20,9 @@ fn sized(w: [[f32; 64]; 4])
 
 // The weights of the first n fractions, an array for each of the four taps, if the answer is true: it is where no
 // fraction is at a cell's end.
-fn weigh4(b: f32, c: f32, ts: &[f32; 64], n: usize, w: &mut [[f32; 64]; 4]) -> bool
+fn weigh4(row: CubicRow, ts: &[f32; 64], n: usize, w: &mut [[f32; 64]; 4]) -> bool
     requires { ⌜ n ≤ longestSpan ⌝ }
-    ensures { λ r. ⌜ (r ≡ true → Weighed4 b c n (now (ts .entry)) (now (w .exit))) ⌝ }
+    ensures { λ r. ⌜ (r ≡ true → Weighed4 row n (now (ts .entry)) (now (w .exit))) ⌝ }
 {
     sized(*w);
     let mut good = true;
@@ -29,7 +32,7 @@ fn weigh4(b: f32, c: f32, ts: &[f32; 64], n: usize, w: &mut [[f32; 64]; 4]) -> b
         let q = abs_f32(t);
         let r = abs_f32(t - 1.0);
         let s = abs_f32(t - 2.0);
-        let m = middle(b, c, p, q, r, s);
+        let m = middle(row, p, q, r, s);
         good = good & between(p, q, r, s);
         w[0][k] = m[0];
         w[1][k] = m[1];
@@ -45,9 +48,9 @@ fn kernels(code: u64, ts: &[f32; 64], n: usize, w: &mut [[f32; 64]; 4]) -> bool
     ensures { λ r. ⌜ (r ≡ true → Kernels code n (now (ts .entry)) (now (w .exit))) ⌝ }
 {
     if code == CATROM {
-        return weigh4(0.0, 0.5, ts, n, w);
+        return weigh4(catrom_row(), ts, n, w);
     }
-    weigh4(1.0, 0.0, ts, n, w)
+    weigh4(spline_row(), ts, n, w)
 }
 
 // The weights of n points along rows and columns, if the answer is true.

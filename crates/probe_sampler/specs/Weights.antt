@@ -7,7 +7,7 @@ use lib.Dec.{eqb}
 use lib.Ieee.{Float, binary32, ofBits, le}
 use Rattle.exact.specs.Vector.{at}
 use Rattle.endian.specs.Bytes.{storeF32}
-use Rattle.cubic.specs.Cubic.{zero, half, one, cubicWeights}
+use Rattle.cubic.specs.Cubic.{zero, one, catrom, spline}
 use Rattle.taps.specs.Interpolation.{catromCode, splineCode}
 
 abbrev pub storeWeights : List ℕ → List Float → List ℕ
@@ -21,5 +21,5 @@ noFraction t = not (le zero t) || not (le t one)
 unfoldable pub probeCubic : ℕ → ℕ → List ℕ → ℕ × List ℕ
 probeCubic code t out =
     cond (noFraction (ofBits binary32 t)) (1, out)
-    (cond (eqb code catromCode) (0, storeWeights out (cubicWeights (ofBits binary32 t) zero half))
-    (cond (eqb code splineCode) (0, storeWeights out (cubicWeights (ofBits binary32 t) one zero)) (1, out)))
+    (cond (eqb code catromCode) (0, storeWeights out (catrom (ofBits binary32 t)))
+    (cond (eqb code splineCode) (0, storeWeights out (spline (ofBits binary32 t))) (1, out)))

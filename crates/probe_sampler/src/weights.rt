@@ -1,7 +1,9 @@
 // The cubic weights in bytes. Assumes nothing.
 ghost use mathlib.Core.Path.{_≡_};
 ghost use Rattle.probe_sampler.specs.Weights.{noFraction, storeWeights, probeCubic};
+use cubic::cubic::catrom_row;
 use cubic::cubic::cubic_weights;
+use cubic::cubic::spline_row;
 use endian::bytes::store_f32;
 use endian::pattern::f32_of_bits;
 use taps::interpolation::CATROM;
@@ -31,11 +33,11 @@ pub extern "C" fn probe_cubic(interpolation: u64, t: u32, out: &mut [u8; 16]) ->
         return 1;
     }
     if interpolation == CATROM {
-        store_weights(out, cubic_weights(f, 0.0, 0.5));
+        store_weights(out, cubic_weights(f, catrom_row()));
         return 0;
     }
     if interpolation == SPLINE {
-        store_weights(out, cubic_weights(f, 1.0, 0.0));
+        store_weights(out, cubic_weights(f, spline_row()));
         return 0;
     }
     1

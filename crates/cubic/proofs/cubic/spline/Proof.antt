@@ -1,52 +1,16 @@
--- `cubic::cubic::spline` meets its contract: between a cell's ends the pieces are known, and at its ends the tests
--- choose. Assumes nothing.
-use Rattle.cubic.specs.Cubic.{zero, one}
-use Rattle.cubic.proofs.CubicCode.{middle-weights}
+-- `cubic::cubic::spline` meets its contract: its row's weights. Assumes nothing.
 use borrow.Author.Needs.{needs}
 use Rattle.cubic.proofs.cubic.spline.Statement.{statement}
 use Rattle.cubic.proofs.cubic.spline.Tie as tie
 
-abs-f32-requires : tie.Need-abs-f32-requires
-abs-f32-requires c κs = search needs
+spline-row-requires : tie.Need-spline-row-requires
+spline-row-requires c κs = search needs
 
-abs-f32-requires-2 : tie.Need-abs-f32-requires-2
-abs-f32-requires-2 c κs = search needs
-
-abs-f32-requires-3 : tie.Need-abs-f32-requires-3
-abs-f32-requires-3 c κs = search needs
-
-abs-f32-requires-4 : tie.Need-abs-f32-requires-4
-abs-f32-requires-4 c κs = search needs
-
-between-requires : tie.Need-between-requires
-between-requires c κs = search needs
-
-middle-requires : tie.Need-middle-requires
-middle-requires c κs = search needs
+tested-once-requires : tie.Need-tested-once-requires
+tested-once-requires c κs = search needs
 
 returns : tie.Need-returns
-returns c = middle-weights one zero (c .before .before .before .before .before .before .before .args .t) _ _ _ _ _
-    (c .before .before .before .before .before .before .abs-f32 .ensures)
-    (c .before .before .before .before .before .abs-f322 .ensures)
-    (c .before .before .before .before .abs-f323 .ensures) (c .before .before .before .abs-f324 .ensures)
-    (c .before .before .between .ensures) (c .before .if1 .taken) (c .middle .ensures)
-
-cubic-weights-requires : tie.Need-cubic-weights-requires
-cubic-weights-requires c κs = search needs
-
-returns-2 : tie.Need-returns-2
-returns-2 c = search needs
+returns c = rw (c .tested-once .ensures, c .before .spline-row .ensures)
 
 pub spline-spec : {M : Type 1} → statement M
-spline-spec =
-    tie.close
-    (tie.spec
-    abs-f32-requires
-    abs-f32-requires-2
-    abs-f32-requires-3
-    abs-f32-requires-4
-    between-requires
-    middle-requires
-    returns
-    cubic-weights-requires
-    returns-2)
+spline-spec = tie.close (tie.spec spline-row-requires tested-once-requires returns)

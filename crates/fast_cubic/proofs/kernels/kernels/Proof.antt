@@ -1,4 +1,4 @@
--- `fast_cubic::kernels::kernels` meets its contract: B and C are the code's. Assumes nothing.
+-- `fast_cubic::kernels::kernels` meets its contract: the row is the code's. Assumes nothing.
 use borrow.Author.Needs.{needs}
 use Rattle.fast_cubic.proofs.KernelLaws.{kernel-catrom, kernel-spline}
 use Rattle.fast_cubic.proofs.kernels.kernels.Statement.{statement}

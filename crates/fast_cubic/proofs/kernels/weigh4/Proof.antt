@@ -12,10 +12,10 @@ use Rattle.fast_cubic.proofs.kernels.weigh4.Statement.{statement}
 use Rattle.fast_cubic.proofs.kernels.weigh4.Tie as tie
 
 abbrev Inv-loop : tie.InvT-loop
-Inv-loop b c ts n w₀ good₀ k₀ w good k = Weighing4 b c k good ts w × (k ≤ n)
+Inv-loop row ts n w₀ good₀ k₀ w good k = Weighing4 row k good ts w × (k ≤ n)
 
 abbrev μ-loop : tie.MeasureT-loop
-μ-loop b c ts n w₀ good₀ k₀ w good k = n - k
+μ-loop row ts n w₀ good₀ k₀ w good k = n - k
 
 loop-holds : tie.Need-loop-holds Inv-loop μ-loop
 loop-holds c = (weigh4-none (c .sized .ensures), search needs)
@@ -24,7 +24,7 @@ loop-again : tie.Need-loop-again Inv-loop μ-loop
 loop-again c =
     let head = c .before .before .before .before .before .before .before .before in (
       weigh4-more (head .loop .k) (search needs)
-          (λ e. middle-weights _ _ _ _ _ _ _ _ (c .before .before .before .before .before .abs-f32 .ensures)
+          (λ e. middle-weights _ _ _ _ _ _ _ (c .before .before .before .before .before .abs-f32 .ensures)
           (c .before .before .before .before .abs-f322 .ensures) (c .before .before .before .abs-f323 .ensures)
           (c .before .before .abs-f324 .ensures) (c .between .ensures) e
           (ap (λ (w : List Float). at w 0 ∷ at w 1 ∷ at w 2 ∷ at w 3 ∷ []) (c .before .middle .ensures)))

@@ -119,8 +119,8 @@ module _ {row : CubicRow} {B C : Fraction} (K : Coefficients row B C) (S : Shape
       let u : Unit01 size = (size-nonneg, lt-le size (frac 1 1) l) in
       abs-close (value w) (frac 1 1)
       (subst (λ (z : Float). value z ≤F frac 1 1) (sym (inner l))
-      (near-top row (abs x) (sizes (K .near-3)) (sizes (K .near-2)) (sizes (K .near-0)) (m .0) (unit-same (back (m .1)) u) (S .larger)
-      (S .down) (S .last)
+      (near-top row (abs x) (sizes (K .near-3)) (sizes (K .near-2)) (sizes (K .near-0)) (m .0)
+      (unit-same (back (m .1)) u) (S .larger) (S .down) (S .last)
       (subst (λ (z : Float). T (finite z)) (inner l) (close .number))))
       (le-trans (negF (value w)) (parts 41) (frac 1 1)
       (above (value w) (mitchell B C (value x)) (parts 41) (close .near)

@@ -80,60 +80,60 @@ abs-abs : (x : Fraction) {m : Fraction} → absF x ≤F m → absF (absF x) ≤F
 abs-abs x {m} h = le-trans (absF (absF x)) (absF x) m
     (abs-self (absF x) (abs-nonneg x (absF x) (le-refl (absF x) (absF x)))) h
 
-module _ {row : CubicRow} {B C : Fraction} (K : Coefficients row B C) {r : Float} {X : Fraction} (R : Rounds binary32 r X)
-  where
-    abbrev sixth : Fraction → Fraction
-    sixth v = frac 1 6 *F v
+module _ {row : CubicRow} {B C : Fraction} (K : Coefficients row B C) {r : Float} {X : Fraction}
+    (R : Rounds binary32 r X) where
+  abbrev sixth : Fraction → Fraction
+  sixth v = frac 1 6 *F v
 
-    together : (e : Fraction) → Close (kernel row r) (mitchell B C (value r)) (parts 41) (frac 128 1)
-        → Within (mitchell B C (value r)) (mitchell B C X) e → parts 41 +F e ≤F cubicError
-        → NearTo (kernel row r) (mitchell B C X)
-    together e k w l = record {
-      number = k .number;
-      near = within-more (value (kernel row r)) (mitchell B C X) (parts 41 +F e) cubicError l
-          (within-trans (value (kernel row r)) (mitchell B C (value r)) (mitchell B C X) (parts 41) e (k .near) w);
-    }
+  together : (e : Fraction) → Close (kernel row r) (mitchell B C (value r)) (parts 41) (frac 128 1)
+      → Within (mitchell B C (value r)) (mitchell B C X) e → parts 41 +F e ≤F cubicError
+      → NearTo (kernel row r) (mitchell B C X)
+  together e k w l = record {
+    number = k .number;
+    near = within-more (value (kernel row r)) (mitchell B C X) (parts 41 +F e) cubicError l
+        (within-trans (value (kernel row r)) (mitchell B C (value r)) (mitchell B C X) (parts 41) e (k .near) w);
+  }
 
-    -- up to 1 in magnitude, and so is the rounded one
-    pub argument-near : absF X ≤F frac 1 1 → NearTo (kernel row r) (mitchell B C X)
-    argument-near h =
-        let k : Close r X near-gap (frac 1 1) = rounds-bound R 149 1 1 1 (2 ^ 25) tt h in
-        let w =
-        piece-near (absF (value r)) (absF X) near-gap (frac 1 1) (abs-abs (value r) (k .small)) (abs-abs X h)
-        (within-abs (value r) X near-gap (k .near)) (near3 B C) (near2 B C) (near0 B) (frac 16 1) (frac 16 1)
-        (coefficient-size (K .near-3)) (coefficient-size (K .near-2)) in
-        together (sixth near-moved)
-        (kernel-close r (k .number) K
-        (le-trans (absF (value r)) (frac 1 1) (frac 2 1) (k .small) (record { le = lit≤ tt })))
-        (within-like (back (mitchell-near B C (value r) (k .small))) (back (mitchell-near B C X h))
-        (eq-refl (sixth near-moved))
-        (within-scale (nearF B C (absF (value r))) (nearF B C (absF X)) near-moved (frac 1 6) (record { le = lit≤ tt })
-        w)) error
-      where
-        error : parts 41 +F sixth near-moved ≤F cubicError
-        error = unfold _+F_ _*F_ in record { le = lit≤ tt }
+  -- up to 1 in magnitude, and so is the rounded one
+  pub argument-near : absF X ≤F frac 1 1 → NearTo (kernel row r) (mitchell B C X)
+  argument-near h =
+      let k : Close r X near-gap (frac 1 1) = rounds-bound R 149 1 1 1 (2 ^ 25) tt h in
+      let w =
+      piece-near (absF (value r)) (absF X) near-gap (frac 1 1) (abs-abs (value r) (k .small)) (abs-abs X h)
+      (within-abs (value r) X near-gap (k .near)) (near3 B C) (near2 B C) (near0 B) (frac 16 1) (frac 16 1)
+      (coefficient-size (K .near-3)) (coefficient-size (K .near-2)) in
+      together (sixth near-moved)
+      (kernel-close r (k .number) K
+      (le-trans (absF (value r)) (frac 1 1) (frac 2 1) (k .small) (record { le = lit≤ tt })))
+      (within-like (back (mitchell-near B C (value r) (k .small))) (back (mitchell-near B C X h))
+      (eq-refl (sixth near-moved))
+      (within-scale (nearF B C (absF (value r))) (nearF B C (absF X)) near-moved (frac 1 6) (record { le = lit≤ tt })
+      w)) error
+    where
+      error : parts 41 +F sixth near-moved ≤F cubicError
+      error = unfold _+F_ _*F_ in record { le = lit≤ tt }
 
-    -- from 1 to 2 in magnitude, and so is the rounded one
-    pub argument-far : frac 1 1 ≤F absF X → absF X ≤F frac 2 1 → NearTo (kernel row r) (mitchell B C X)
-    argument-far l h =
-        let k : Close r X far-gap (frac 2 1) = rounds-bound R 150 2 1 1 (2 ^ 24) tt h in
-        let j : frac 1 1 ≤F absF (value r) =
-        le-trans (frac 1 1) (powerF binary32 149) (absF (value r)) (record { le = lit≤ tt })
-        (rounds-least R 149 (lit≤ tt) (le-trans (powerF binary32 149) (frac 1 1) (absF X) (record { le = lit≤ tt }) l)
-        (k .number)) in
-        let w =
-        piece-far (absF (value r)) (absF X) far-gap (frac 2 1) (abs-abs (value r) (k .small)) (abs-abs X h)
-        (within-abs (value r) X far-gap (k .near)) (far3 B C) (far2 B C) (far1 B C) (far0 B C) (frac 4 1) (frac 16 1)
-        (frac 32 1)
-        (coefficient-size (K .far-3)) (coefficient-size (K .far-2)) (coefficient-size (K .far-1)) in
-        together (sixth far-moved) (kernel-close r (k .number) K (k .small))
-        (within-like (back (mitchell-far B C (value r) j (k .small))) (back (mitchell-far B C X l h))
-        (eq-refl (sixth far-moved))
-        (within-scale (farF B C (absF (value r))) (farF B C (absF X)) far-moved (frac 1 6) (record { le = lit≤ tt }) w))
-        error
-      where
-        error : parts 41 +F sixth far-moved ≤F cubicError
-        error = unfold _+F_ _*F_ in record { le = lit≤ tt }
+  -- from 1 to 2 in magnitude, and so is the rounded one
+  pub argument-far : frac 1 1 ≤F absF X → absF X ≤F frac 2 1 → NearTo (kernel row r) (mitchell B C X)
+  argument-far l h =
+      let k : Close r X far-gap (frac 2 1) = rounds-bound R 150 2 1 1 (2 ^ 24) tt h in
+      let j : frac 1 1 ≤F absF (value r) =
+      le-trans (frac 1 1) (powerF binary32 149) (absF (value r)) (record { le = lit≤ tt })
+      (rounds-least R 149 (lit≤ tt) (le-trans (powerF binary32 149) (frac 1 1) (absF X) (record { le = lit≤ tt }) l)
+      (k .number)) in
+      let w =
+      piece-far (absF (value r)) (absF X) far-gap (frac 2 1) (abs-abs (value r) (k .small)) (abs-abs X h)
+      (within-abs (value r) X far-gap (k .near)) (far3 B C) (far2 B C) (far1 B C) (far0 B C) (frac 4 1) (frac 16 1)
+      (frac 32 1)
+      (coefficient-size (K .far-3)) (coefficient-size (K .far-2)) (coefficient-size (K .far-1)) in
+      together (sixth far-moved) (kernel-close r (k .number) K (k .small))
+      (within-like (back (mitchell-far B C (value r) j (k .small))) (back (mitchell-far B C X l h))
+      (eq-refl (sixth far-moved))
+      (within-scale (farF B C (absF (value r))) (farF B C (absF X)) far-moved (frac 1 6) (record { le = lit≤ tt }) w))
+      error
+    where
+      error : parts 41 +F sixth far-moved ≤F cubicError
+      error = unfold _+F_ _*F_ in record { le = lit≤ tt }
 
 -- ---- the four arguments, at a fraction from 0 to 1
 module _ (t : Fraction) (u : Unit01 t) where

@@ -3,8 +3,8 @@ use mathlib.Core.Path.{_≡_, refl}
 use mathlib.Core.List.{[], _∷_}
 use lib.Ieee.{binary32, neg, add, sub, sum, mul, div, round, ofBits, lt}
 use Rattle.exact.specs.Fraction.{frac, ratio, _≈_, negF, _+F_, _-F_, _*F_, absF}
-use Rattle.number.specs.Magnitude.{abs}
 use Rattle.exact.specs.Single.{half}
+use Rattle.number.specs.Magnitude.{abs}
 use Rattle.cubic.specs.Cubic.{zero, one, pieces, catrom, spline}
 use Rattle.cubic.specs.Mitchell.{lessF, mitchell}
 

@@ -1,6 +1,6 @@
--- The Rust's `cubic_weights` as it stands there, with its arithmetic on B and C, and the law that the printed table gives
--- the same weights to the bit: with 0 and 1/2 for `Catrom`, with 1 and 0 for `Spline`, the factors in brackets are
--- exactly the table's fourteen numbers. Provides: `formulaWeights`, `table-is-formula`. Assumes nothing.
+-- The Rust's `cubic_weights` as it stands there, with its arithmetic on B and C. The printed table gives the same
+-- weights to the bit: with 0 and 1/2 for `Catrom`, with 1 and 0 for `Spline`, the factors in brackets are exactly the
+-- table's fourteen numbers. Provides: `formulaWeights`, `table-is-formula`. Assumes nothing.
 use mathlib.Core.Path.{_≡_, refl, ap, _∙_}
 use mathlib.Core.Bool.{cond}
 use mathlib.Core.List.{List, [], _∷_}
@@ -26,31 +26,32 @@ use Rattle.cubic.specs.Cubic.{
 }
 
 -- ---- the formula
-abbrev pub eighteen : Float
+abbrev eighteen : Float
 eighteen = ofBits binary32 0x4190_0000  -- 18.0
 
-abbrev pub thirty : Float
+abbrev thirty : Float
 thirty = ofBits binary32 0x41f0_0000  -- 30.0
 
-abbrev pub fortyEight : Float
+abbrev fortyEight : Float
 fortyEight = ofBits binary32 0x4240_0000  -- 48.0
 
-abbrev pub nearFormula : Float → Float → Float → Float
+abbrev nearFormula : Float → Float → Float → Float
 nearFormula b c ax = (twelve ⊖ nine ⊗ b ⊖ six ⊗ c) ⊗ ax ⊗ ax ⊗ ax ⊕ (neg eighteen ⊕ twelve ⊗ b ⊕ six ⊗ c) ⊗ ax ⊗ ax
     ⊕ (six ⊖ two ⊗ b)
 
-abbrev pub farFormula : Float → Float → Float → Float
+abbrev farFormula : Float → Float → Float → Float
 farFormula b c ax = (neg b ⊖ six ⊗ c) ⊗ ax ⊗ ax ⊗ ax ⊕ (six ⊗ b ⊕ thirty ⊗ c) ⊗ ax ⊗ ax
     ⊕ (neg twelve ⊗ b ⊖ fortyEight ⊗ c) ⊗ ax ⊕ (eight ⊗ b ⊕ twentyFour ⊗ c)
 
-abbrev pub formula : Float → Float → Float → Float
+abbrev formula : Float → Float → Float → Float
 formula b c x = let ax = abs x in
     cond (lt ax one) (nearFormula b c ax) (cond (lt ax two) (farFormula b c ax) zero) ⊘ six
 
 abbrev pub formulaWeights : Float → Float → Float → List Float
 formulaWeights t b c = formula b c (t ⊕ one) ∷ formula b c t ∷ formula b c (t ⊖ one) ∷ formula b c (t ⊖ two) ∷ []
 
--- ---- its factors in brackets, as a row
+-- ---- its factors in brackets, as a row. The formula above has them written out: its order of operations is its own,
+-- not the table's.
 abbrev rowOf : Float → Float → CubicRow
 rowOf b c = record {
   near3 = twelve ⊖ nine ⊗ b ⊖ six ⊗ c;

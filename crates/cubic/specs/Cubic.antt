@@ -1,5 +1,5 @@
 -- The cubic kernels: the Rust's `cubic_weights`, rounded once per operation in the order written, with the numbers of
--- the lab's manual in place of the arithmetic on B and C. Specification 9. Assumes nothing.
+-- the lab's manual in place of the arithmetic on B and C. Specification 9.1. Assumes nothing.
 use mathlib.Core.Bool.{Bool, not, cond, _&&_}
 use mathlib.Core.List.{List, [], _∷_}
 use lib.Ieee.{Float, binary32, neg, ofBits, lt}

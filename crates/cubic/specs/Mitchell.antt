@@ -1,5 +1,5 @@
 -- The kernel of Mitchell and Netravali's paper of 1988, Reconstruction Filters in Computer Graphics, in exact
--- fractions, with their parameters B and C. Specification 9. Assumes nothing.
+-- fractions, with their parameters B and C. Specification 9.1. Assumes nothing.
 use Prim.Native.Nat.{ℕ, _+_, _*_}
 use mathlib.Core.Bool.{Bool, cond}
 use mathlib.Core.List.{List, [], _∷_}

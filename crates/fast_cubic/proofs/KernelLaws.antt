@@ -1,7 +1,7 @@
 -- The weights of a span: between a cell's ends the four weights are those of known pieces, and a turn more weighs a
 -- fraction more. Provides: `Weighing4`, `weigh4-none`, `weigh4-more`, `weigh4-last` (the loop); `kernel-catrom`,
 -- `kernel-spline` (by the code); `both-true` (two answers). Assumes nothing.
-use mathlib.Core.Path.{_≡_, _∙_}
+use mathlib.Core.Path.{_≡_, ap, _∙_}
 use mathlib.Core.Logic.{_≢_}
 use mathlib.Core.Bool.{Bool, true, _&&_}
 use mathlib.Core.List.{List, [], _∷_}
@@ -94,14 +94,16 @@ module _ {row : CubicRow} {ts : List Float} where
   weigh4-last k n a s e = record { weights = λ i h. s .done e .weights i (omega arith) }
 
 -- ---- by the code
-module _ {code n : ℕ} {ts : List Float} {w : List (List Float)} where
-  pub kernel-catrom : code ≡ catromCode → Weighed4 catromRow n ts w → Kernels code n ts w
+module _ {code n : ℕ} {ts : List Float} {w : List (List Float)} {row : CubicRow} where
+  pub kernel-catrom : code ≡ catromCode → row ≡ catromRow → Weighed4 row n ts w → Kernels code n ts w
   unfolding kernelOf
-  kernel-catrom e W = record { weights = λ k l. W .weights k l ∙ rw e }
+  kernel-catrom e r W = record { weights = λ k l. W .weights k l ∙ ap (cubicWeights (at ts k)) r ∙ rw e }
 
-  pub kernel-spline : (code ≡ catromCode → ⊥) → Weighed4 splineRow n ts w → Kernels code n ts w
+  pub kernel-spline : (code ≡ catromCode → ⊥) → row ≡ splineRow → Weighed4 row n ts w → Kernels code n ts w
   unfolding kernelOf
-  kernel-spline e W = record { weights = λ k l. W .weights k l ∙ rw (ne-eqb code catromCode e) }
+  kernel-spline e r W = record {
+    weights = λ k l. W .weights k l ∙ ap (cubicWeights (at ts k)) r ∙ rw (ne-eqb code catromCode e);
+  }
 
 -- ---- both answers
 pub both-true : {A B : Type 0} (a b : Bool) → (a ≡ true → A) → (b ≡ true → B) → a && b ≡ true → A × B

@@ -3,8 +3,8 @@ use Prim.Native.Nat.{ℕ, _<_}
 use mathlib.Core.Path.{_≡_}
 use mathlib.Core.List.{List, [], _∷_}
 use lib.Ieee.{Float}
-use Rattle.cubic.specs.Cubic.{cubicWeights}
 use Rattle.cubic.specs.declared.cubic.CubicRow.{CubicRow}
+use Rattle.cubic.specs.Cubic.{cubicWeights}
 use Rattle.exact.specs.Vector.{at}
 use Rattle.sampler.specs.Sixteen.{kernelOf}
 use Rattle.fast_colours.specs.InsideSpan.{weight}

@@ -12,6 +12,7 @@ pub enum Fault {
     MirrorIsTile,
     Truncation,
     Unweighted,
+    DividedFirst,
     ClampedFirst,
     FirstPivot,
     NoCount,
@@ -119,12 +120,18 @@ fn read(r: Reference, s: &Sampler, job: &Job, fault: Fault, x: f64, y: f64) -> [
     if fault == Fault::Truncation && job.interpolation == interpolation::INTEGER {
         return s.at(x as i64, y as i64);
     }
+    let (ix, iy) = (x.floor() as i64, y.floor() as i64);
+    let (tx, ty) = ((x - x.floor()) as f32, (y - y.floor()) as f32);
+    if fault == Fault::DividedFirst && job.interpolation == interpolation::CATROM {
+        let (wx, wy) = (divided_first(tx), divided_first(ty));
+        let tap = |k: i64| s.at(ix - 1 + k % 4, iy - 1 + k / 4);
+        let taps = (0..16).map(|k| (tap(k), wx[k as usize % 4] * wy[k as usize / 4]));
+        return r.weighted(&taps.collect::<Vec<_>>());
+    }
     let right = s.interpolate(x, y, job.interpolation as u8).unwrap();
     if fault != Fault::Unweighted || job.interpolation != interpolation::BILINEAR {
         return right;
     }
-    let (ix, iy) = (x.floor() as i64, y.floor() as i64);
-    let (tx, ty) = ((x - x.floor()) as f32, (y - y.floor()) as f32);
     let opaque = |x, y| {
         let p = s.at(x, y);
         [p[0], p[1], p[2], 1.0]
@@ -136,6 +143,15 @@ fn read(r: Reference, s: &Sampler, job: &Job, fault: Fault, x: f64, y: f64) -> [
         (opaque(ix + 1, iy + 1), tx * ty),
     ]);
     [plain[0], plain[1], plain[2], right[3]]
+}
+
+/// Catrom's weights, but with each number divided by 6 instead of the sum.
+fn divided_first(t: f32) -> [f32; 4] {
+    let near = |x: f32| 9.0 / 6.0 * x * x * x - 15.0 / 6.0 * x * x + 6.0 / 6.0;
+    let far = |x: f32| {
+        -3.0 / 6.0 * x * x * x + 15.0 / 6.0 * x * x - 24.0 / 6.0 * x + 12.0 / 6.0
+    };
+    [far(t + 1.0), near(t), near(1.0 - t), far(2.0 - t)]
 }
 
 /// The affine fit of three or more pairs, but with the first pivot among equals.

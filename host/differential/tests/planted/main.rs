@@ -79,6 +79,12 @@ fn colour_not_weighted_by_alpha() {
 }
 
 #[test]
+fn weights_divided_before_the_sum() {
+    let r = reference_or_skip!();
+    finds(r, Fault::DividedFirst, 22, 240);
+}
+
+#[test]
 fn clamping_before_the_inside_test() {
     let r = reference_or_skip!();
     finds(r, Fault::ClampedFirst, 6, 200);

@@ -148,9 +148,7 @@ fn read(r: Reference, s: &Sampler, job: &Job, fault: Fault, x: f64, y: f64) -> [
 /// Catrom's weights, but with each number divided by 6 instead of the sum.
 fn divided_first(t: f32) -> [f32; 4] {
     let near = |x: f32| 9.0 / 6.0 * x * x * x - 15.0 / 6.0 * x * x + 6.0 / 6.0;
-    let far = |x: f32| {
-        -3.0 / 6.0 * x * x * x + 15.0 / 6.0 * x * x - 24.0 / 6.0 * x + 12.0 / 6.0
-    };
+    let far = |x: f32| -3.0 / 6.0 * x * x * x + 15.0 / 6.0 * x * x - 24.0 / 6.0 * x + 12.0 / 6.0;
     [far(t + 1.0), near(t), near(1.0 - t), far(2.0 - t)]
 }
 

@@ -1,12 +1,12 @@
--- Where the four magnitudes lie in their own pieces, the kernel's tests choose those. Assumes nothing.
-use mathlib.Core.Path.{_≡_, refl, sym, _∙_}
+-- Where the four distances lie in their own pieces, the kernel's tests choose those. Assumes nothing.
+use mathlib.Core.Path.{_≡_, refl, sym, ap, _∙_}
 use mathlib.Core.Bool.{Bool, true, false, not, cond, _&&_, true≢false}
 use mathlib.Core.List.{List, [], _∷_}
 use lib.Ieee.{Float, lt}
-use Rattle.exact.specs.Single.{_⊕_, _⊖_, _⊘_}
+use Rattle.exact.specs.Single.{_⊘_}
 use Rattle.exact.proofs.Booleans.{both}
-use Rattle.number.specs.Magnitude.{abs}
 use Rattle.cubic.specs.declared.cubic.CubicRow.{CubicRow}
+use Rattle.cubic.specs.declared.cubic.Distances.{Distances}
 use Rattle.cubic.specs.Cubic.{
   zero,
   one,
@@ -15,6 +15,7 @@ use Rattle.cubic.specs.Cubic.{
   nearPiece,
   farPiece,
   pieces,
+  distancesOf,
   outer,
   between,
   middle,
@@ -34,16 +35,15 @@ far-chosen row x h = go (lt x one) (lt x two) h
     go false true e = refl
     go false false e = absurd (true≢false (sym e))
 
-pub middle-weights : (row : CubicRow) (t p q r s : Float) (u : Bool) {w : List Float} → p ≡ abs (t ⊕ one) → q ≡ abs t
-    → r ≡ abs (t ⊖ one) → s ≡ abs (t ⊖ two) → u ≡ between p q r s → u ≡ true
-    → w ≡ middle row p q r s → w ≡ cubicWeights t row
+pub middle-weights : (row : CubicRow) (t : Float) {d : Distances} {u : Bool} {w : List Float} → d ≡ distancesOf t
+    → u ≡ between d → u ≡ true → w ≡ middle row d → w ≡ cubicWeights t row
 unfolding between
-middle-weights row t p q r s u ep eq er es e h g =
-    let l = both (outer p && lt q one) (lt r one && outer s) (sym e ∙ h) in
-    let m = both (outer p) (lt q one) (l .0) in
-    let n = both (lt r one) (outer s) (l .1) in
+middle-weights row t {d} e f h g =
+    let l = both (outer (d .first) && lt (d .second) one) (lt (d .third) one && outer (d .fourth)) (sym f ∙ h) in
+    let m = both (outer (d .first)) (lt (d .second) one) (l .0) in
+    let n = both (lt (d .third) one) (outer (d .fourth)) (l .1) in
     g
-    ∙ sym (λ i. (far-chosen row p (m .0) i ⊘ six) ∷ (near-chosen row q (m .1) i ⊘ six)
-    ∷ (near-chosen row r (n .0) i ⊘ six) ∷ (far-chosen row s (n .1) i ⊘ six) ∷ [])
-    ∙ (λ i. (pieces row (ep i) ⊘ six) ∷ (pieces row (eq i) ⊘ six) ∷ (pieces row (er i) ⊘ six)
-    ∷ (pieces row (es i) ⊘ six) ∷ [])
+    ∙ sym (λ i. (far-chosen row (d .first) (m .0) i ⊘ six) ∷ (near-chosen row (d .second) (m .1) i ⊘ six)
+    ∷ (near-chosen row (d .third) (n .0) i ⊘ six) ∷ (far-chosen row (d .fourth) (n .1) i ⊘ six) ∷ [])
+    ∙ ap (λ (d : Distances). (pieces row (d .first) ⊘ six) ∷ (pieces row (d .second) ⊘ six)
+    ∷ (pieces row (d .third) ⊘ six) ∷ (pieces row (d .fourth) ⊘ six) ∷ []) e

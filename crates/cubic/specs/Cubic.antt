@@ -7,6 +7,7 @@ use Rattle.exact.specs.Single.{_⊕_, _⊖_, _⊗_, _⊘_}
 pub use Rattle.exact.specs.Single.{zero, one, two}
 use Rattle.number.specs.Magnitude.{abs}
 use Rattle.cubic.specs.declared.cubic.CubicRow.{CubicRow}
+use Rattle.cubic.specs.declared.cubic.Distances.{Distances}
 
 -- ---- the other constants
 abbrev pub three : Float
@@ -70,19 +71,6 @@ farPiece row ax = row .far3 ⊗ ax ⊗ ax ⊗ ax ⊕ row .far2 ⊗ ax ⊗ ax ⊕
 unfoldable pub pieces : CubicRow → Float → Float
 pieces row ax = cond (lt ax one) (nearPiece row ax) (cond (lt ax two) (farPiece row ax) zero)
 
--- whether a magnitude is in the outer piece, and whether the four of a point's taps are in the pieces that they are in
--- but at a cell's ends
-unfoldable pub outer : Float → Bool
-outer ax = not (lt ax one) && lt ax two
-
-unfoldable pub between : Float → Float → Float → Float → Bool
-between p q r s = (outer p && lt q one) && (lt r one && outer s)
-
--- the weights of four such magnitudes
-abbrev pub middle : CubicRow → Float → Float → Float → Float → List Float
-middle row p q r s = (farPiece row p ⊘ six) ∷ (nearPiece row q ⊘ six) ∷ (nearPiece row r ⊘ six)
-    ∷ (farPiece row s ⊘ six) ∷ []
-
 -- the kernel, its pieces divided by 6
 abbrev pub kernel : CubicRow → Float → Float
 kernel row x = pieces row (abs x) ⊘ six
@@ -90,6 +78,28 @@ kernel row x = pieces row (abs x) ⊘ six
 -- the weights of the four taps around a point, t being its fraction between the second and the third
 abbrev pub cubicWeights : Float → CubicRow → List Float
 cubicWeights t row = kernel row (t ⊕ one) ∷ kernel row t ∷ kernel row (t ⊖ one) ∷ kernel row (t ⊖ two) ∷ []
+
+-- ---- the same with one test for all four
+-- how far the four taps lie from the point
+abbrev pub distancesOf : Float → Distances
+distancesOf t = record {
+  first = abs (t ⊕ one);
+  second = abs t;
+  third = abs (t ⊖ one);
+  fourth = abs (t ⊖ two);
+}
+
+-- whether a distance is in the outer piece, and whether each of four is in the piece that it is in but at a cell's ends
+unfoldable pub outer : Float → Bool
+outer ax = not (lt ax one) && lt ax two
+
+unfoldable pub between : Distances → Bool
+between d = (outer (d .first) && lt (d .second) one) && (lt (d .third) one && outer (d .fourth))
+
+-- the weights at four such distances
+abbrev pub middle : CubicRow → Distances → List Float
+middle row d = (farPiece row (d .first) ⊘ six) ∷ (nearPiece row (d .second) ⊘ six) ∷ (nearPiece row (d .third) ⊘ six)
+    ∷ (farPiece row (d .fourth) ⊘ six) ∷ []
 
 -- ---- the two kernels
 abbrev pub catrom : Float → List Float

@@ -6,6 +6,7 @@ ghost use Rattle.cubic.specs.Cubic.{
   splineRow,
   catrom,
   spline,
+  distancesOf,
   outer,
   between,
   middle,
@@ -101,6 +102,25 @@ pub fn cubic_weights(t: f32, row: CubicRow) -> [f32; 4]
     ]
 }
 
+// How far the four taps around a point lie from it.
+pub struct Distances {
+    pub first: f32,
+    pub second: f32,
+    pub third: f32,
+    pub fourth: f32,
+}
+
+pub fn distances_of(t: f32) -> Distances
+    ensures { λ r. ⌜ r ≡ distancesOf t ⌝ }
+{
+    Distances {
+        first: abs_f32(t + 1.0),
+        second: abs_f32(t),
+        third: abs_f32(t - 1.0),
+        fourth: abs_f32(t - 2.0),
+    }
+}
+
 // From 1 to below 2.
 fn outer(ax: f32) -> bool
     ensures { λ r. ⌜ r ≡ outer ax ⌝ }
@@ -108,47 +128,41 @@ fn outer(ax: f32) -> bool
     !(ax < 1.0) & (ax < 2.0)
 }
 
-pub fn between(p: f32, q: f32, r: f32, s: f32) -> bool
-    ensures { λ b. ⌜ b ≡ between p q r s ⌝ }
+pub fn between(d: Distances) -> bool
+    ensures { λ b. ⌜ b ≡ between d ⌝ }
 {
-    (outer(p) & (q < 1.0)) & ((r < 1.0) & outer(s))
+    (outer(d.first) & (d.second < 1.0)) & ((d.third < 1.0) & outer(d.fourth))
 }
 
-// The weights of four magnitudes of which the outer two are in the outer piece: no test for each.
-pub fn middle(row: CubicRow, p: f32, q: f32, r: f32, s: f32) -> [f32; 4]
-    ensures { λ w. ⌜ w ≡ middle row p q r s ⌝ }
+// The weights at four distances of which the outer two are in the outer piece: no test for each.
+pub fn middle(row: CubicRow, d: Distances) -> [f32; 4]
+    ensures { λ w. ⌜ w ≡ middle row d ⌝ }
 {
     [
-        far_piece(row, p) / 6.0,
-        near_piece(row, q) / 6.0,
-        near_piece(row, r) / 6.0,
-        far_piece(row, s) / 6.0,
+        far_piece(row, d.first) / 6.0,
+        near_piece(row, d.second) / 6.0,
+        near_piece(row, d.third) / 6.0,
+        far_piece(row, d.fourth) / 6.0,
     ]
 }
 
-// The same weights as `cubic_weights`, with one test for all four but at a cell's ends.
-fn tested_once(t: f32, row: CubicRow) -> [f32; 4]
-    ensures { λ r. ⌜ r ≡ cubicWeights t row ⌝ }
-{
-    let p = abs_f32(t + 1.0);
-    let q = abs_f32(t);
-    let r = abs_f32(t - 1.0);
-    let s = abs_f32(t - 2.0);
-    if between(p, q, r, s) {
-        return middle(row, p, q, r, s);
-    }
-    cubic_weights(t, row)
-}
-
-// The two kernels with their rows in place, so that the compiler knows the numbers.
+// The two kernels, each with its row in place, so that the compiler knows the numbers.
 pub fn catrom(t: f32) -> [f32; 4]
     ensures { λ r. ⌜ r ≡ catrom t ⌝ }
 {
-    tested_once(t, catrom_row())
+    let d = distances_of(t);
+    if between(d) {
+        return middle(catrom_row(), d);
+    }
+    cubic_weights(t, catrom_row())
 }
 
 pub fn spline(t: f32) -> [f32; 4]
     ensures { λ r. ⌜ r ≡ spline t ⌝ }
 {
-    tested_once(t, spline_row())
+    let d = distances_of(t);
+    if between(d) {
+        return middle(spline_row(), d);
+    }
+    cubic_weights(t, spline_row())
 }

@@ -12,7 +12,7 @@ outer-requires-2 c κs = search needs
 
 returns : tie.Need-returns
 unfolding between
-returns c = rw (c .before .outer .ensures, c .outer2 .ensures)
+returns c = rw (c .before .before .before .outer .ensures, c .outer2 .ensures)
 
 pub between-spec : {M : Type 1} → statement M
 between-spec = tie.close (tie.spec outer-requires outer-requires-2 returns)

@@ -1,16 +1,31 @@
--- `cubic::cubic::catrom` meets its contract: its row's weights. Assumes nothing.
+-- `cubic::cubic::catrom` meets its contract: between a cell's ends the pieces are known, and at its ends the tests choose.
+-- Assumes nothing.
+use mathlib.Core.Path.{ap, _∙_}
+use Rattle.cubic.specs.Cubic.{cubicWeights}
+use Rattle.cubic.proofs.CubicCode.{middle-weights}
 use borrow.Author.Needs.{needs}
 use Rattle.cubic.proofs.cubic.catrom.Statement.{statement}
 use Rattle.cubic.proofs.cubic.catrom.Tie as tie
 
-catrom-row-requires : tie.Need-catrom-row-requires
-catrom-row-requires c κs = search needs
-
-tested-once-requires : tie.Need-tested-once-requires
-tested-once-requires c κs = search needs
-
 returns : tie.Need-returns
-returns c = rw (c .tested-once .ensures, c .before .catrom-row .ensures)
+returns c =
+    let t = c .before .before .before .before .before .args .t in
+    middle-weights _ t (c .before .before .before .before .distances-of .ensures)
+    (c .before .before .before .between .ensures) (c .before .before .if1 .taken) (c .middle .ensures)
+    ∙ ap (cubicWeights t) (c .before .catrom-row .ensures)
+
+returns-2 : tie.Need-returns-2
+returns-2 c = rw (c .cubic-weights .ensures, c .before .catrom-row2 .ensures)
 
 pub catrom-spec : {M : Type 1} → statement M
-catrom-spec = tie.close (tie.spec catrom-row-requires tested-once-requires returns)
+catrom-spec =
+    tie.close
+    (tie.spec
+    (λ c κs. search needs)
+    (λ c κs. search needs)
+    (λ c κs. search needs)
+    (λ c κs. search needs)
+    returns
+    (λ c κs. search needs)
+    (λ c κs. search needs)
+    returns-2)

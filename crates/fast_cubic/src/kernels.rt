@@ -8,9 +8,9 @@ ghost use Rattle.fast_cubic.specs.Kernels.{Weighed4, Kernels};
 use cubic::cubic::CubicRow;
 use cubic::cubic::between;
 use cubic::cubic::catrom_row;
+use cubic::cubic::distances_of;
 use cubic::cubic::middle;
 use cubic::cubic::spline_row;
-use number::magnitude::abs_f32;
 use taps::interpolation::CATROM;
 
 // An array has as many elements as its type says: a function is told so of one that it takes by value.
@@ -27,13 +27,9 @@ fn weigh4(row: CubicRow, ts: &[f32; 64], n: usize, w: &mut [[f32; 64]; 4]) -> bo
     sized(*w);
     let mut good = true;
     for k in 0..n {
-        let t = ts[k];
-        let p = abs_f32(t + 1.0);
-        let q = abs_f32(t);
-        let r = abs_f32(t - 1.0);
-        let s = abs_f32(t - 2.0);
-        let m = middle(row, p, q, r, s);
-        good = good & between(p, q, r, s);
+        let d = distances_of(ts[k]);
+        let m = middle(row, d);
+        good = good & between(d);
         w[0][k] = m[0];
         w[1][k] = m[1];
         w[2][k] = m[2];

@@ -22,11 +22,9 @@ loop-holds c = (weigh4-none (c .sized .ensures), search needs)
 
 loop-again : tie.Need-loop-again Inv-loop μ-loop
 loop-again c =
-    let head = c .before .before .before .before .before .before .before .before in (
+    let head = c .before .before .before .before .before in (
       weigh4-more (head .loop .k) (search needs)
-          (λ e. middle-weights _ _ _ _ _ _ _ (c .before .before .before .before .before .abs-f32 .ensures)
-          (c .before .before .before .before .abs-f322 .ensures) (c .before .before .before .abs-f323 .ensures)
-          (c .before .before .abs-f324 .ensures) (c .between .ensures) e
+          (λ e. middle-weights _ _ (c .before .before .distances-of .ensures) (c .between .ensures) e
           (ap (λ (w : List Float). at w 0 ∷ at w 1 ∷ at w 2 ∷ at w 3 ∷ []) (c .before .middle .ensures)))
           (head .loop .inv .0),
       search needs,
@@ -45,9 +43,6 @@ weigh4-spec =
     loop-holds
     (λ c. search needs)
     (λ c. search needs)
-    (λ c κs. search needs)
-    (λ c κs. search needs)
-    (λ c κs. search needs)
     (λ c κs. search needs)
     (λ c κs. search needs)
     (λ c κs. search needs)

@@ -28,8 +28,8 @@ fn weigh4(row: CubicRow, ts: &[f32; 64], n: usize, w: &mut [[f32; 64]; 4]) -> bo
     let mut good = true;
     for k in 0..n {
         let d = distances_of(ts[k]);
-        let m = middle(row, d);
         good = good & between(d);
+        let m = middle(row, d);
         w[0][k] = m[0];
         w[1][k] = m[1];
         w[2][k] = m[2];

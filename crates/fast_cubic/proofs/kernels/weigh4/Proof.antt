@@ -24,8 +24,8 @@ loop-again : tie.Need-loop-again Inv-loop μ-loop
 loop-again c =
     let head = c .before .before .before .before .before in (
       weigh4-more (head .loop .k) (search needs)
-          (λ e. middle-weights _ _ (c .before .before .distances-of .ensures) (c .between .ensures) e
-          (ap (λ (w : List Float). at w 0 ∷ at w 1 ∷ at w 2 ∷ at w 3 ∷ []) (c .before .middle .ensures)))
+          (λ e. middle-weights _ _ (c .before .before .distances-of .ensures) (c .before .between .ensures) e
+          (ap (λ (w : List Float). at w 0 ∷ at w 1 ∷ at w 2 ∷ at w 3 ∷ []) (c .middle .ensures)))
           (head .loop .inv .0),
       search needs,
     )

@@ -69,7 +69,7 @@ pub catrom-shape : Shape catromRow (frac 0 1) (frac 1 2)
 catrom-shape = record {
   larger = unfold neg ofBits absF in record { le = lit≤ tt };
   down = unfold neg ofBits in record { le = lit≤ tt };
-  last = unfold neg ofBits in record { le = lit≤ tt };
+  last = unfold ofBits in record { le = lit≤ tt };
   near-nonneg = catrom-nonneg;
   far-small = catrom-small;
 }
@@ -78,7 +78,7 @@ pub spline-shape : Shape splineRow (frac 1 1) (frac 0 1)
 spline-shape = record {
   larger = unfold neg ofBits absF in record { le = lit≤ tt };
   down = unfold neg ofBits in record { le = lit≤ tt };
-  last = unfold neg ofBits in record { le = lit≤ tt };
+  last = unfold ofBits in record { le = lit≤ tt };
   near-nonneg = spline-nonneg;
   far-small = spline-small;
 }

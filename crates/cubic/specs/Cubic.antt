@@ -89,14 +89,16 @@ distancesOf t = record {
   fourth = abs (t ⊖ two);
 }
 
--- whether a distance is in the outer piece, and whether each of four is in the piece that it is in but at a cell's ends
+-- whether a distance is in the far piece
 unfoldable pub outer : Float → Bool
 outer ax = not (lt ax one) && lt ax two
 
+-- whether each distance is in its usual piece: the outer two in the far one, the inner two in the near one. All are, but
+-- at a cell's ends.
 unfoldable pub between : Distances → Bool
 between d = (outer (d .first) && lt (d .second) one) && (lt (d .third) one && outer (d .fourth))
 
--- the weights at four such distances
+-- the weights at four distances that are
 abbrev pub middle : CubicRow → Distances → List Float
 middle row d = (farPiece row (d .first) ⊘ six) ∷ (nearPiece row (d .second) ⊘ six) ∷ (nearPiece row (d .third) ⊘ six)
     ∷ (farPiece row (d .fourth) ⊘ six) ∷ []

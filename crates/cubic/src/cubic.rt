@@ -121,20 +121,22 @@ pub fn distances_of(t: f32) -> Distances
     }
 }
 
-// From 1 to below 2.
+// Whether a distance is in the far piece.
 fn outer(ax: f32) -> bool
     ensures { λ r. ⌜ r ≡ outer ax ⌝ }
 {
     !(ax < 1.0) & (ax < 2.0)
 }
 
+// Whether each distance is in its usual piece: the outer two in the far one, the inner two in the near one. All are, but
+// at a cell's ends.
 pub fn between(d: Distances) -> bool
     ensures { λ b. ⌜ b ≡ between d ⌝ }
 {
     (outer(d.first) & (d.second < 1.0)) & ((d.third < 1.0) & outer(d.fourth))
 }
 
-// The weights at four distances of which the outer two are in the outer piece: no test for each.
+// The weights at four distances of which `between` holds: no test for each.
 pub fn middle(row: CubicRow, d: Distances) -> [f32; 4]
     ensures { λ w. ⌜ w ≡ middle row d ⌝ }
 {

@@ -18,8 +18,8 @@ fn sized(w: [[f32; 64]; 4])
     ensures { λ _. ⌜ Sized 4 w ⌝ }
 {}
 
-// The weights of the first n fractions, an array for each of the four taps, if the answer is true: it is where no
-// fraction is at a cell's end.
+// The weights of the first n fractions by a row, an array for each of the four taps, if the answer is true: it is where
+// no fraction is at a cell's end.
 fn weigh4(row: CubicRow, ts: &[f32; 64], n: usize, w: &mut [[f32; 64]; 4]) -> bool
     requires { ⌜ n ≤ longestSpan ⌝ }
     ensures { λ r. ⌜ (r ≡ true → Weighed4 row n (now (ts .entry)) (now (w .exit))) ⌝ }
@@ -28,6 +28,7 @@ fn weigh4(row: CubicRow, ts: &[f32; 64], n: usize, w: &mut [[f32; 64]; 4]) -> bo
     let mut good = true;
     for k in 0..n {
         let d = distances_of(ts[k]);
+        // The test first: the loop is faster so.
         good = good & between(d);
         let m = middle(row, d);
         w[0][k] = m[0];

@@ -1,5 +1,5 @@
--- `cubic::cubic::spline` meets its contract: between a cell's ends the pieces are known, and at its ends the tests choose.
--- Assumes nothing.
+-- `cubic::cubic::spline` meets its contract: between a cell's ends the pieces are known, and at its ends the tests
+-- choose. Assumes nothing.
 use mathlib.Core.Path.{ap, _∙_}
 use Rattle.cubic.specs.Cubic.{cubicWeights}
 use Rattle.cubic.proofs.CubicCode.{middle-weights}

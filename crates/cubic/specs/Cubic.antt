@@ -93,8 +93,8 @@ distancesOf t = record {
 unfoldable pub outer : Float → Bool
 outer ax = not (lt ax one) && lt ax two
 
--- whether each distance is in its usual piece: the outer two in the far one, the inner two in the near one. All are, but
--- at a cell's ends.
+-- whether each distance is in its usual piece: the outer two in the far one, the inner two in the near one. All are,
+-- but at a cell's ends.
 unfoldable pub between : Distances → Bool
 between d = (outer (d .first) && lt (d .second) one) && (lt (d .third) one && outer (d .fourth))
 

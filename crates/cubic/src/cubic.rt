@@ -128,8 +128,8 @@ fn outer(ax: f32) -> bool
     !(ax < 1.0) & (ax < 2.0)
 }
 
-// Whether each distance is in its usual piece: the outer two in the far one, the inner two in the near one. All are, but
-// at a cell's ends.
+// Whether each distance is in its usual piece: the outer two in the far one, the inner two in the near one. All are,
+// but at a cell's ends.
 pub fn between(d: Distances) -> bool
     ensures { λ b. ⌜ b ≡ between d ⌝ }
 {

@@ -17,8 +17,8 @@ ghost use Rattle.cubic.specs.Cubic.{
 };
 use number::magnitude::abs_f32;
 
-// A kernel's row of the printed table, all over 6: the cubic, the square and the constant number of the piece below 1,
-// then the cubic, the square, the linear and the constant one of the piece from 1 to 2.
+// A kernel's row of the printed table, all over 6: the cubic, the square and the constant number of the near piece,
+// below 1, then the cubic, the square, the linear and the constant one of the far piece, from 1 to 2.
 pub struct CubicRow {
     pub near3: f32,
     pub near2: f32,

@@ -14,7 +14,7 @@ use lib.Ieee.Bits.{of_bits-to_bits, nan_bits_is, nan_bits_above}
 use lib.Ieee.Digits.{size-le}
 use lib.Ieee.Fits.{two, reach, kept-lt}
 use Rattle.exact.proofs.Formats.{infinite, twice_hid}
-use Rattle.exact.proofs.Nan.{is_nan, nan_test}
+use Rattle.exact.proofs.Nan.{from_is_nan, nan_test}
 use Rattle.exact.proofs.Patterns.{pattern_infinity, pattern_back}
 use Rattle.exact.proofs.Units.{units, count}
 
@@ -23,7 +23,7 @@ infinity_bits f s = ap (to_bits f) (sym (pattern_infinity f s)) ∙ pattern_back
 
 pub nan_bits : (f : Format) (x : Float) → ne x x ≡ true → to_bits f x ≡ infinite f + hid f / 2
 unfolding to_bits
-nan_bits f x h = ap (to_bits f) (is_nan x (sym (nan_test x) ∙ h))
+nan_bits f x h = ap (to_bits f) (from_is_nan x (sym (nan_test x) ∙ h))
 
 -- a number's pattern, without its sign
 pub number_bits : (f : Format) (x : Float) → T (fits f x) → T (not (is_nan x)) → to_bits f x % top f ≤ infinite f

@@ -40,7 +40,7 @@ pub taken : (w p : Float) (W : Fraction) (n : ℕ) → Unit01 W → Sample w W (
     → Taken (w ⊗ p) w (W *F value p) W n
 taken w p W n u s u' =
     let r : Sample (w ⊗ p) (W *F value p) (halves (1 + n)) =
-    subst (λ (k : ℕ). Sample (w ⊗ p) (W *F value p) (halves (1 + k))) (N.add_zero n)
+    subst (λ (k : ℕ). Sample (w ⊗ p) (W *F value p) (halves (1 + k))) (N.add-zero n)
     (sample_mul n 0 u s (sample_own u')) in
     record {
       product = r;

@@ -1,5 +1,5 @@
 -- The NaN, and the zero of whose quotient a program makes it: x differs from itself where it is a NaN and nowhere else.
--- By the cases of a float. Provides: `is_nan`, `nan_test`, `number_test` (the test x != x); `zero_bits` (the literal
+-- By the cases of a float. Provides: `from_is_nan`, `nan_test`, `number_test` (the test x != x); `zero_bits` (the literal
 -- 0), `zero_by_zero`. Assumes nothing.
 use mathlib.Core.Path.{◌≡◌, refl, sym, ap, ◌∙◌, subst}
 use mathlib.Core.Bool.{Bool, true, false, not, true≢false, false≢true}
@@ -8,11 +8,11 @@ use lib.Dec.{T}
 use lib.Ieee.{Float, nan, inf, fin, Format, binary32, binary64, div, ne, is_nan, of_bits}
 use lib.Ieee.Compare.{differs_from_itself, nan_differs}
 
-pub is_nan : (x : Float) → is_nan x ≡ true → x ≡ nan
+pub from_is_nan : (x : Float) → is_nan x ≡ true → x ≡ nan
 unfolding is_nan
-is_nan nan h = refl
-is_nan (inf s) h = absurd (false≢true h)
-is_nan (fin s m e) h = absurd (false≢true h)
+from_is_nan nan h = refl
+from_is_nan (inf s) h = absurd (false≢true h)
+from_is_nan (fin s m e) h = absurd (false≢true h)
 
 nan_is_nan : true ≡ is_nan nan
 unfolding is_nan

@@ -32,7 +32,7 @@ use lib.Ieee.Bits.{is_true, is_false, to_bits-of_bits, nan_bits_is, nan_bits_abo
 use lib.Ieee.Exact.{HasValue, odd_sign}
 use borrow.Author.Tests.{lt-ltb, le-ltb, ne_eqb}
 use Rattle.exact.proofs.Formats.{infinite, hid_pos, below_top}
-use Rattle.exact.proofs.Nan.{is_nan}
+use Rattle.exact.proofs.Nan.{from_is_nan}
 
 -- ---- the value of a field and its digits: a field of 0 has no leading digit, and counts as a field of 1
 abbrev pub lead : ℕ → ℕ → ℕ → ℕ
@@ -96,7 +96,7 @@ pattern_infinity f s =
 
 -- ---- without its sign, a NaN's pattern lies above the infinity's, and every pattern there is a NaN's
 pub pattern_nan : (f : Format) (n : ℕ) → infinite f < n % top f → of_bits f n ≡ nan
-pattern_nan f n h = is_nan (of_bits f n) (sym (nan_bits_is f n) ∙ nan_bits_above f n ∙ lt-ltb (infinite f) (n % top f) h)
+pattern_nan f n h = from_is_nan (of_bits f n) (sym (nan_bits_is f n) ∙ nan_bits_above f n ∙ lt-ltb (infinite f) (n % top f) h)
 
 pub pattern_number : (f : Format) (n : ℕ) → n % top f ≤ infinite f → T (not (nan_bits f n))
 pattern_number f n h = subst (λ (b : Bool). T (not b)) (sym (nan_bits_above f n ∙ le-ltb (infinite f) (n % top f) h)) tt

@@ -76,12 +76,12 @@ module _ (m j : ℕ) (field : m / 0x10000000000000 ≡ 897 + j) where
       let c = closest (significand m) 0x20000000 in
       short_round m (omega arith)
       ∙ round_bits binary32 (worth binary64 m) (2 ^ 1074)
-      (le_trans (le_of_eq normal_rank) (in_range_law j c (omega arith) kept_most))
+      (le_trans (le_of_eq normal_rank) (in_range j c (omega arith) kept_most))
       ∙ normal_rank
       ∙ sym (ap (λ (x : ℕ). x - 0x1c0000000) whole_closest ∙ unbiased j c)
     where
-      in_range_law : (j c : ℕ) → j < 254 → c ≤ 0x1000000 → j * 0x800000 + c ≤ 0x7f800000
-      in_range_law j c h k = omega arith
+      in_range : (j c : ℕ) → j < 254 → c ≤ 0x1000000 → j * 0x800000 + c ≤ 0x7f800000
+      in_range j c h k = omega arith
 
       unbiased : (j c : ℕ) → (896 + j) * 0x800000 + c - 0x1c0000000 ≡ j * 0x800000 + c
       unbiased j c = omega arith

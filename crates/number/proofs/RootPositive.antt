@@ -33,7 +33,7 @@ pub record Steps (x : Float) (m k : ℕ) : Type 0 where
   pub zeros_le : count_leading_zeros 64 m ≤ 63
   pub zeros_ge : 11 ≤ count_leading_zeros 64 m
   pub leads_lt : leads m k < 2098
-  pub in_range_law : (2 ^ 52 ≤ moves m k) × (moves m k < 2 ^ 54)
+  pub in_range : (2 ^ 52 ≤ moves m k) × (moves m k < 2 ^ 54)
   pub digits_lt : nearest_root (moves m k * 2 ^ 52) < 2 ^ 53
   pub answer : of_bits binary64 ((leads m k / 2 + 485) * 4503599627370496 + nearest_root (moves m k * 2 ^ 52)) ≡ root x
 
@@ -68,7 +68,7 @@ module _ (x : Float) (m k j : ℕ) (p : T (positive x)) (u : Units binary64 x fa
     zeros_le = few (count_leading_zeros 64 m) j z;
     zeros_ge = enough (count_leading_zeros 64 m) j z (place_le m k j lo hi u.short);
     leads_lt = subst (λ (n : ℕ). n < 2098) (sym leads_is) (lead_lt m k j lo hi u.short u.under);
-    in_range_law =
+    in_range =
         let s = moved_sized m k j lo hi u.short in
         subst (λ (n : ℕ). (2 ^ 52 ≤ n) × (n < 2 ^ 54)) (sym moves_is)
         (s.0, (fits_word (moved m k j lo hi u.short) s.1).1);

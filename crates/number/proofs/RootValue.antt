@@ -75,8 +75,8 @@ module _ (m k j : ℕ) (lo : 2 ^ j ≤ m) (hi : m < 2 ^ suc j) (short : m < 2 ^ 
       (subst (λ (p : ℕ). HasValue (of_bits binary64 p) false (digits * 2 ^ (half + 485)) (2 ^ 1074))
       (zero-add ((half + 485) * 4503599627370496 + digits))
       (units_value binary64 false digits (half + 485) (le_of_lt digits_lt) (inr digits_ge)
-      (in_range_law half digits half_le digits_lt)))
+      (in_range half digits half_le digits_lt)))
       root_value
     where
-      in_range_law : (h q : ℕ) → h ≤ 1048 → q < 2 ^ 53 → (h + 485) * 4503599627370496 + q < 9218868437227405312
-      in_range_law h q l k = omega arith
+      in_range : (h q : ℕ) → h ≤ 1048 → q < 2 ^ 53 → (h + 485) * 4503599627370496 + q < 9218868437227405312
+      in_range h q l k = omega arith

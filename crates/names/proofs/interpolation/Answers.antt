@@ -1,6 +1,5 @@
 -- `names::interpolation` meets its contract: the entries of its text compute to the table of the definition. Assumes
 -- nothing.
-use borrow.Author.Rules.{rules}
 use Rattle.names.specs.Table.{ends_name, next_name, next_code, split, entries}
 use Rattle.names.proofs.interpolation.Goals as goal
 

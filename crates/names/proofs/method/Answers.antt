@@ -1,5 +1,4 @@
 -- `names::method` meets its contract: the entries of its text compute to the table of the definition. Assumes nothing.
-use borrow.Author.Rules.{rules}
 use Rattle.names.specs.Table.{ends_name, next_name, next_code, split, entries}
 use Rattle.names.proofs.method.Goals as goal
 

@@ -1,11 +1,8 @@
 -- `names::letters::same_name` meets its contract. The invariant: the two are the same where what is left of them from
 -- `i` on is; the measure is what is left of the length. Assumes nothing.
-use mathlib.Core.Path.{◌≡◌, sym, ◌∙◌}
-use Prim.Native.Nat.{◌-◌, ◌≤◌}
+use mathlib.Core.Path.{sym, ◌∙◌}
 use native.Mathlib.Omega.{arith}
 use borrow.Author.Rules.{rules}
-use lib.ListN.{length, drop}
-use Rattle.names.specs.Names.{same_name}
 use Rattle.names.proofs.Equal.{same_length, same_end, same_next, same_unlike}
 use Rattle.names.proofs.letters.same_name.Goals as goal
 

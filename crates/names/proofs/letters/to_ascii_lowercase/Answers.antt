@@ -1,6 +1,5 @@
 -- `names::letters::to_ascii_lowercase` meets its contract: each answer follows from the two tests that led to it.
 -- Assumes nothing.
-use borrow.Author.Rules.{rules}
 use borrow.Author.Tests.{le-leb, lt-leb}
 use Rattle.names.specs.Names.{lowercase}
 use Rattle.names.proofs.letters.to_ascii_lowercase.Goals as goal

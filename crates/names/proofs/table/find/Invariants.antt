@@ -1,14 +1,11 @@
 -- `names::table::find` meets its contract. The invariant: the whole table's answer is that of the entries that are left
 -- at `k`, in a name that started at `from`; the measure is what is left of the text. Assumes nothing.
-use mathlib.Core.Path.{◌≡◌, sym, ◌∙◌}
+use mathlib.Core.Path.{◌≡◌}
 use Prim.Native.Nat.{◌-◌, ◌≤◌}
-use native.Mathlib.Omega.{arith}
-use borrow.Author.Rules.{rules}
 use lib.ListN.{length}
-use mathlib.Core.Logic.{⊎_elim}
 use Rattle.names.specs.Names.{lookup}
 use Rattle.names.specs.Table.{entries}
-use Rattle.names.proofs.Search.{left, all, over, next_code_le, inside, found, passed}
+use Rattle.names.proofs.Search.{left}
 use Rattle.names.proofs.table.find.Given as goal
 
 abbrev pub invariant-loop-k : goal.invariant-loop-k

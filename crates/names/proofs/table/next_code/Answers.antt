@@ -1,5 +1,4 @@
 -- `names::table::next_code` meets its contract: the definition's test is the code's. Assumes nothing.
-use borrow.Author.Rules.{rules}
 use borrow.Author.Tests.{eq-eqb, ne_eqb}
 use Rattle.names.specs.Table.{next_code}
 use Rattle.names.proofs.table.next_code.Goals as goal

@@ -2,11 +2,9 @@
 use mathlib.Core.Path.{◌≡◌}
 use Prim.Native.Nat.{ℕ, ◌/◌, ◌≤◌, ◌<◌}
 use native.Mathlib.Omega.{arith}
-use borrow.Author.Rules.{rules}
 use borrow.Author.Tests.{eq-eqb, ne_eqb}
 use Rattle.arguments.specs.Store.{order_of}
-use Rattle.arguments.proofs.store.order_of.Statement.{statement}
-use Rattle.arguments.proofs.store.order_of.Tie as tie
+use Rattle.arguments.proofs.store.order_of.Goals as goal
 
 none : (n : ℕ) → n < 8 → n / 8 ≡ 0
 none n h = omega arith
@@ -14,13 +12,10 @@ none n h = omega arith
 some : (n : ℕ) → 8 ≤ n → n / 8 ≡ 0 → ⊥
 some n h e = omega arith
 
-returns : tie.Need-returns
+pub returns-then-arguments-lt8 : goal.returns-then-arguments-lt8
 unfolding order_of
-returns c = simp (eq-eqb _ _ (none _ c.if1.true))
+returns-then-arguments-lt8 c = simp (eq-eqb _ _ (none _ c.if-arguments-lt8.true))
 
-returns-2 : tie.Need-returns-2
+pub returns : goal.returns
 unfolding order_of
-returns-2 c = simp (ne_eqb _ _ (some _ c.before.if1.false)) c.f64-at.ensures
-
-pub order-of-spec : {M : Type 1} → statement M
-order-of-spec = tie.close (tie.spec returns (λ c κs. search rules) returns-2)
+returns c = simp (ne_eqb _ _ (some _ c.if-arguments-lt8.false)) c.f64_at.ensures

@@ -1,6 +1,6 @@
 -- `window::bestfit::perspective_box` meets its contract: each way out is the case of the definition that the tests
 -- took. Assumes nothing.
-use Rattle.std.proofs.Common.{◌≡◌, Bool, true, false, cond, not, sym, ap, ◌∙◌, rules}
+use Rattle.std.proofs.Common.{◌≡◌, Bool, true, false, cond, not, sym, ap, ◌∙◌}
 use borrow.Author.Tests.{not-true, not-false}
 use lib.Ieee.{Float}
 use Rattle.linear.specs.declared.invert.Inverse.{Inverse}
@@ -9,8 +9,7 @@ use Rattle.window.specs.declared.bestfit.Found.{Found}
 use Rattle.window.specs.declared.bestfit.Found.TheVariants.{Box, Nothing}
 use Rattle.window.specs.Corners.{any_lost, perspective_edges}
 use Rattle.window.specs.Bestfit.{perspective_found}
-use Rattle.window.proofs.bestfit.perspective_box.Statement.{statement}
-use Rattle.window.proofs.bestfit.perspective_box.Tie as tie
+use Rattle.window.proofs.bestfit.perspective_box.Goals as goal
 
 -- from the inverse r on, which is what was asked for
 module _ (r wanted : Inverse) (is : r ≡ wanted) (w h : Float) where
@@ -34,40 +33,20 @@ module _ (r wanted : Inverse) (is : r ≡ wanted) (w h : Float) where
   unfolding cases
   found l q k e g t = ap Box g ∙ sym (λ i. cases (not-false r.found t i) ((sym q ∙ k) i)) ∙ as-found
 
-returns : tie.Need-returns
-returns c = none c.before.before.invert3.result _ c.before.before.invert3.ensures _ _ c.if1.true
+pub returns-then-not-inverse : goal.returns-then-not-inverse
+returns-then-not-inverse c = none c.invert3-inverse.result _ c.invert3-inverse.ensures _ _ c.if-not-inverse.true
 
-returns-2 : tie.Need-returns-2
-returns-2 c =
-    let k = c.before.before.before.before in
-    let i = k.before.before.invert3 in
-    lost i.result _ i.ensures _ _ c.before.any-lost.result c.before.any-lost.ensures c.if2.true
-    k.if1.false
+pub returns-then-any_lost : goal.returns-then-any_lost
+returns-then-any_lost c =
+    let k = c in
+    let i = k.invert3-inverse in
+    lost i.result _ i.ensures _ _ c.any_lost.result c.any_lost.ensures c.if-any_lost.true
+    k.if-not-inverse.false
 
-returns-3 : tie.Need-returns-3
-returns-3 c =
-    let l = c.before.before.before in
-    let k = l.before.before.before in
-    let i = k.before.before.invert3 in
-    found i.result _ i.ensures _ _ l.any-lost.result l.any-lost.ensures c.before.before.if2.false
-    c.perspective-edges.result c.perspective-edges.ensures k.if1.false
-
-pub perspective-box-spec : {M : Type 1} → statement M
-perspective-box-spec =
-    tie.close
-    (tie.spec
-    (λ c. search rules)
-    (λ c. search rules)
-    (λ c. search rules)
-    (λ c. search rules)
-    (λ c. search rules)
-    (λ c. search rules)
-    (λ c. search rules)
-    (λ c. search rules)
-    (λ c. search rules)
-    (λ c κs. search rules)
-    returns
-    (λ c κs. search rules)
-    returns-2
-    (λ c κs. search rules)
-    returns-3)
+pub returns : goal.returns
+returns c =
+    let l = c in
+    let k = l in
+    let i = k.invert3-inverse in
+    found i.result _ i.ensures _ _ l.any_lost.result l.any_lost.ensures c.if-any_lost.false
+    c.perspective_edges-e.result c.perspective_edges-e.ensures k.if-not-inverse.false

@@ -1,6 +1,6 @@
 -- `window::bestfit::affine_box` meets its contract: each way out is the case of the definition that the test took.
 -- Assumes nothing.
-use Rattle.std.proofs.Common.{◌≡◌, Bool, true, false, cond, not, sym, ap, ◌∙◌, rules}
+use Rattle.std.proofs.Common.{◌≡◌, Bool, true, false, cond, not, sym, ap, ◌∙◌}
 use borrow.Author.Tests.{not-true, not-false}
 use lib.Ieee.{Float}
 use Rattle.linear.specs.declared.invert.AffineInverse.{AffineInverse}
@@ -8,8 +8,7 @@ use Rattle.window.specs.declared.edges.Edges.{Edges}
 use Rattle.window.specs.declared.bestfit.Found.TheVariants.{Box, Nothing}
 use Rattle.window.specs.Corners.{affine_edges}
 use Rattle.window.specs.Bestfit.{affine_found}
-use Rattle.window.proofs.bestfit.affine_box.Statement.{statement}
-use Rattle.window.proofs.bestfit.affine_box.Tie as tie
+use Rattle.window.proofs.bestfit.affine_box.Goals as goal
 
 -- from the inverse r on, which is what was asked for
 module _ (r wanted : AffineInverse) (is : r ≡ wanted) (w h : Float) where
@@ -24,27 +23,12 @@ module _ (r wanted : AffineInverse) (is : r ≡ wanted) (w h : Float) where
       (ap (λ (b : Bool). cond b (Box (affine_edges r.m w h)) Nothing) (not-false r.found t))
       ∙ ap (λ (i : AffineInverse). affine_found i w h) is
 
-returns : tie.Need-returns
-returns c = none c.before.before.invert-affine.result _ c.before.before.invert-affine.ensures _ _
-    c.if1.true
+pub returns-then-not-inverse : goal.returns-then-not-inverse
+returns-then-not-inverse c = none c.invert_affine-inverse.result _ c.invert_affine-inverse.ensures _ _
+    c.if-not-inverse.true
 
-returns-2 : tie.Need-returns-2
-returns-2 c =
-    let k = c.before.before.before in
-    let i = k.before.before.invert-affine in
-    found i.result _ i.ensures _ _ c.affine-edges.result c.affine-edges.ensures k.if1.false
-
-pub affine-box-spec : {M : Type 1} → statement M
-affine-box-spec =
-    tie.close
-    (tie.spec
-    (λ c. search rules)
-    (λ c. search rules)
-    (λ c. search rules)
-    (λ c. search rules)
-    (λ c. search rules)
-    (λ c. search rules)
-    (λ c κs. search rules)
-    returns
-    (λ c κs. search rules)
-    returns-2)
+pub returns : goal.returns
+returns c =
+    let k = c in
+    let i = k.invert_affine-inverse in
+    found i.result _ i.ensures _ _ c.affine_edges-e.result c.affine_edges-e.ensures k.if-not-inverse.false

@@ -1,6 +1,6 @@
 -- `window::extent::from_to` meets its contract. Where the end is not above the start the count is 1; else it is their
 -- difference, which is positive and small enough to be cast. Assumes nothing.
-use Rattle.std.proofs.Common.{◌≡◌, suc, ◌^◌, ◌<◌, ◌≤◌, Bool, true, false, T, ℤ, pos, negsuc, ◌-ℤ◌, nat_abs, ◌≤ℤ◌, sym, ap, ◌∙◌, subst, arith, leb→le, w64, Fits, SFits, to_z, of_z, rules}
+use Rattle.std.proofs.Common.{◌≡◌, suc, ◌^◌, ◌<◌, ◌≤◌, Bool, true, false, T, ℤ, pos, negsuc, ◌-ℤ◌, nat_abs, ◌≤ℤ◌, sym, ap, ◌∙◌, subst, arith, leb→le, w64, Fits, SFits, to_z, of_z}
 use borrow.Author.Tests.{not-true, not-false}
 use lib.Signed.{le_z, non_neg}
 use mir.ValLaws.{to_z-of_z}
@@ -8,8 +8,7 @@ use Rattle.exact.proofs.Floor.{plusℤ}
 use Rattle.window.specs.Extent.{good_offset, held, at_least_one, from_to}
 use Rattle.window.proofs.DifferenceLaws.{Count, one_positive, diff_low, diff_high}
 use Rattle.window.proofs.ExtentLaws.{offset_le, reach_off}
-use Rattle.window.proofs.extent.from_to.Statement.{statement}
-use Rattle.window.proofs.extent.from_to.Tie as tie
+use Rattle.window.proofs.extent.from_to.Goals as goal
 
 abbrev read : ℤ → ℤ
 read z = to_z w64 (of_z w64 z)
@@ -62,42 +61,37 @@ module _ (z y : ℤ) (fz : SFits w64 z) (fy : SFits w64 y) where
 good : (g : Bool) (z : ℤ) → SFits w64 z → g ≡ good_offset (read z) → g ≡ good_offset z
 good g z f e = e ∙ ap good_offset (to_z-of_z w64 z f)
 
-returns : tie.Need-returns
-returns c =
-    let s = c.before.before in
+pub returns-then-not-good_offset : goal.returns-then-not-good_offset
+returns-then-not-good_offset c =
+    let s = c in
     sym (reach_off s.args.from s.args.to
-    (sym (good c.before.good-offset.result s.args.from s.ranges.from c.before.good-offset.ensures)
-    ∙ not-true c.before.good-offset.result c.if1.true))
+    (sym (good c.good_offset.result s.args.from s.ranges.from c.good_offset.ensures)
+    ∙ not-true c.good_offset.result c.if-not-good_offset.true-raw))
 
-returns-2 : tie.Need-returns-2
-returns-2 c =
-    let s = c.before.before.before.before in
+pub returns-then-to-from : goal.returns-then-to-from
+returns-then-to-from c =
+    let s = c in
     single s.args.from s.args.to s.ranges.from s.ranges.to c.held.result c.held.ensures
-    c.before.if2.true
+    c.if-to-from.true
 
-offset : (c : tie.Else2) → good_offset c.before.before.before.args.from ≡ true
+offset : (c : goal.Else-to-from) → good_offset c.args.from ≡ true
 offset c =
-    let s = c.before.before.before in
-    let g = c.before.before.good-offset in
-    sym (good g.result s.args.from s.ranges.from g.ensures) ∙ not-false g.result c.before.if1.false
+    let s = c in
+    let g = c.good_offset in
+    sym (good g.result s.args.from s.ranges.from g.ensures) ∙ not-false g.result c.if-not-good_offset.false-raw
 
-sub-result : tie.Need-overflow-sub-held
-sub-result c =
-    let s = c.before.before.before in
-    fits s.args.from s.args.to s.ranges.from s.ranges.to s.requires (offset c) c.if2.false
+pub overflow_sub-to : goal.overflow_sub-to
+overflow_sub-to c =
+    let s = c in
+    fits s.args.from s.args.to s.ranges.from s.ranges.to s.requires (offset c) c.if-to-from.false
 
-cast-result : tie.Need-overflow-cast-held
-cast-result c =
-    let s = c.before.before.before in
-    cast s.args.from s.args.to s.ranges.from s.ranges.to s.requires (offset c) c.if2.false
+pub overflow_cast-to : goal.overflow_cast-to
+overflow_cast-to c =
+    let s = c in
+    cast s.args.from s.args.to s.ranges.from s.ranges.to s.requires (offset c) c.if-to-from.false
 
-returns-3 : tie.Need-returns-3
-returns-3 c =
-    let s = c.before.before.before.before in
+pub returns : goal.returns
+returns c =
+    let s = c in
     several s.args.from s.args.to s.ranges.from s.ranges.to s.requires (offset c.before)
-    c.before.if2.false c.held2.result c.held2.ensures
-
-pub from-to-spec : {M : Type 1} → statement M
-from-to-spec = tie.close
-    (tie.spec (λ c κs. search rules) returns (λ c κs. search rules) returns-2 sub-result cast-result
-    (λ c κs. search rules) returns-3)
+    c.if-to-from.false c.held-2.result c.held-2.ensures

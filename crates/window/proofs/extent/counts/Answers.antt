@@ -4,8 +4,7 @@ use Rattle.std.proofs.Common.{◌≡◌, true, false, ◌&&◌, refl}
 use lib.Ieee.{Float, nan, inf, fin, binary64, lt, eq, le, neg, div, of_bits}
 use lib.Ieee.Scale.{finite}
 use Rattle.number.specs.Floor.{domain_end}
-use Rattle.window.proofs.extent.counts.Statement.{statement}
-use Rattle.window.proofs.extent.counts.Tie as tie
+use Rattle.window.proofs.extent.counts.Goals as goal
 
 tests : (x : Float) → (lt (div binary64 (neg (of_bits binary64 0x3ff0_0000_0000_0000)) (of_bits binary64 0)) x
     && le x domain_end) ≡ (finite x && le x domain_end)
@@ -15,8 +14,5 @@ tests (inf true) = refl
 tests (inf false) = refl
 tests (fin s m e) = refl
 
-returns : tie.Need-returns
+pub returns : goal.returns
 returns c = tests c.args.x
-
-pub counts-spec : {M : Type 1} → statement M
-counts-spec = tie.close (tie.spec returns)

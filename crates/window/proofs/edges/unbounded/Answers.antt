@@ -2,12 +2,8 @@
 use Rattle.std.proofs.Common.{refl}
 use lib.Ieee.{div, of_bits, neg}
 use Rattle.window.specs.Edges.{unbounded}
-use Rattle.window.proofs.edges.unbounded.Statement.{statement}
-use Rattle.window.proofs.edges.unbounded.Tie as tie
+use Rattle.window.proofs.edges.unbounded.Goals as goal
 
-returns : tie.Need-returns
+pub returns : goal.returns
 unfolding unbounded div of_bits neg
 returns c = refl
-
-pub unbounded-spec : {M : Type 1} → statement M
-unbounded-spec = tie.close (tie.spec returns)

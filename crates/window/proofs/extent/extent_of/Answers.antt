@@ -1,6 +1,6 @@
 -- `window::extent::extent_of` meets its contract: the whole numbers that floor and ceil count give the side that the
 -- edges' own floor and ceiling give. Assumes nothing.
-use Rattle.std.proofs.Common.{◌≡◌, Bool, true, false, cond, ◌&&◌, T, ℤ, pos, ◌≤ℤ◌, sym, refl, ap, ◌∙◌, subst, w64, to_z, of_z, rules}
+use Rattle.std.proofs.Common.{◌≡◌, Bool, true, false, cond, ◌&&◌, T, ℤ, pos, ◌≤ℤ◌, sym, refl, ap, ◌∙◌, subst, w64, to_z, of_z}
 use borrow.Author.Tests.{not-true, not-false}
 use lib.Ieee.{Float, binary64, le, fits}
 use lib.Ieee.Scale.{finite}
@@ -14,8 +14,7 @@ use Rattle.window.specs.Extent.{half, from_to, extent_of}
 use Rattle.window.proofs.HalfLaws.{less_half, more_half}
 use Rattle.window.proofs.CeilLaws.{floor_fits, ceil_fits, ceil_most}
 use Rattle.window.proofs.EdgeLaws.{low_edge, high_refused, high_edge}
-use Rattle.window.proofs.extent.extent_of.Statement.{statement}
-use Rattle.window.proofs.extent.extent_of.Tie as tie
+use Rattle.window.proofs.extent.extent_of.Goals as goal
 
 -- both tests of the definition, one after the other
 both : (a b : Bool) (s : Extent) → cond a (cond b s Out) Out ≡ cond (a && b) s Out
@@ -64,34 +63,22 @@ module _ (low high : Float) (l : T (fits binary64 low)) (g : T (fits binary64 hi
         ∙ ap (λ (s : Extent). cond (finite bottom) s Out) (high_edge top (floorℤ bottom) h)
         ∙ tested (from_to (floorℤ bottom) (ceilℤ top))
 
-fits_low : (s : tie.Start) → T (fits binary64 s.args.low)
-fits_low s = subst T (sym s.well-formed.0.1) tt
+fits_at : (x : Float) → fits binary64 x ≡ true → T (fits binary64 x)
+fits_at x e = subst T (sym e) tt
 
-fits-high : (s : tie.Start) → T (fits binary64 s.args.high)
-fits-high s = subst T (sym s.well-formed.1.0.1) tt
+pub returns-then-not-counts : goal.returns-then-not-counts
+returns-then-not-counts c =
+    refused c.args.low c.args.high (fits_at _ c.well_formed.0.1) (fits_at _ c.well_formed.1.0.1) (sym c.counts.ensures
+    ∙ not-true c.counts.result c.if-not-counts.true-raw)
 
-returns : tie.Need-returns
+pub from_to-requires : goal.from_to-requires
+from_to-requires c =
+    most c.args.low c.args.high (fits_at _ c.well_formed.0.1) (fits_at _ c.well_formed.1.0.1) c.floor_i64.result
+    c.ceil_i64.result c.floor_i64.ensures c.ceil_i64.ensures
+
+pub returns : goal.returns
 returns c =
-    let s = c.before.before in
-    refused s.args.low s.args.high (fits_low s) (fits-high s) (sym c.before.counts.ensures
-    ∙ not-true c.before.counts.result c.if1.true)
-
-from-to-requires : tie.Need-from-to-requires
-from-to-requires c κs =
-    let s = c.before.before.before.before in
-    most s.args.low s.args.high (fits_low s) (fits-high s) c.before.floor-i64.result c.ceil-i64.result
-    c.before.floor-i64.ensures c.ceil-i64.ensures
-
-returns-2 : tie.Need-returns-2
-returns-2 c =
-    let k = c.before in
-    let t = k.before.before.before in
-    let s = t.before in
-    answer s.args.low s.args.high (fits_low s) (fits-high s) k.before.floor-i64.result
-    k.ceil-i64.result k.before.floor-i64.ensures k.ceil-i64.ensures
-    c.from-to.result c.from-to.ensures (sym t.counts.ensures
-    ∙ not-false t.counts.result k.before.before.if1.false)
-
-pub extent-of-spec : {M : Type 1} → statement M
-extent-of-spec = tie.close (tie.spec (λ c κs. search rules) returns (λ c κs. search rules) (λ c κs. search rules)
-    from-to-requires returns-2)
+    answer c.args.low c.args.high (fits_at _ c.well_formed.0.1) (fits_at _ c.well_formed.1.0.1) c.floor_i64.result
+    c.ceil_i64.result c.floor_i64.ensures c.ceil_i64.ensures
+    c.from_to.result c.from_to.ensures (sym c.counts.ensures
+    ∙ not-false c.counts.result c.if-not-counts.false-raw)

@@ -1,10 +1,9 @@
 -- `window::extent::held` meets its contract: by the test, which is the definition's. Assumes nothing.
-use Rattle.std.proofs.Common.{◌≡◌, ℕ, Bool, true, false, cond, ◌&&◌, ltb, leb, ℤ, sym, refl, ap, ◌∙◌, w64, to_z, of_z, rules}
+use Rattle.std.proofs.Common.{◌≡◌, ℕ, Bool, true, false, cond, ◌&&◌, ltb, leb, ℤ, sym, refl, ap, ◌∙◌, w64, to_z, of_z}
 use mir.ValLaws.{to_z-of_z}
 use Rattle.window.specs.declared.extent.Extent.TheVariants.{Of, Out}
 use Rattle.window.specs.Extent.{good_offset, good_length, held}
-use Rattle.window.proofs.extent.held.Statement.{statement}
-use Rattle.window.proofs.extent.held.Tie as tie
+use Rattle.window.proofs.extent.held.Goals as goal
 
 -- the tests in the code's order, of z read back from its bits as y
 module _ (y z : ℤ) (n : ℕ) (e : y ≡ z) (g : Bool) (h : g ≡ good_offset y) where
@@ -25,19 +24,16 @@ module _ (y z : ℤ) (n : ℕ) (e : y ≡ z) (g : Bool) (h : g ≡ good_offset y
   unfolding held
   beyond t = sym (ap (λ (b : Bool). cond b (Of z n) Out) (sym together ∙ t))
 
-returns : tie.Need-returns
-returns c =
-    let s = c.before.before in
+pub returns-then-good_offset-length : goal.returns-then-good_offset-length
+returns-then-good_offset-length c =
+    let s = c in
     kept (to_z w64 (of_z w64 s.args.from)) s.args.from s.args.length
-    (to_z-of_z w64 s.args.from s.ranges.from) c.before.good-offset.result
-    c.before.good-offset.ensures c.if1.true
+    (to_z-of_z w64 s.args.from s.ranges.from) c.good_offset.result
+    c.good_offset.ensures c.if-good_offset-length.true
 
-returns-2 : tie.Need-returns-2
-returns-2 c =
-    let s = c.before.before in
+pub returns : goal.returns
+returns c =
+    let s = c in
     beyond (to_z w64 (of_z w64 s.args.from)) s.args.from s.args.length
-    (to_z-of_z w64 s.args.from s.ranges.from) c.before.good-offset.result
-    c.before.good-offset.ensures c.if1.false
-
-pub held_spec : {M : Type 1} → statement M
-held_spec = tie.close (tie.spec (λ c κs. search rules) returns returns-2)
+    (to_z-of_z w64 s.args.from s.ranges.from) c.good_offset.result
+    c.good_offset.ensures c.if-good_offset-length.false

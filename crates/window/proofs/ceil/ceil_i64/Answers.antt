@@ -1,6 +1,6 @@
 -- `window::ceil::ceil_i64` meets its contract. The floor of -x is i64::MIN outside the domain and nowhere in it, where
 -- it has at most 31 digits, so that its negation fits; and that is the ceiling. Assumes nothing.
-use Rattle.std.proofs.Common.{◌≡◌, ◌≤◌, Bool, not, T, ℤ, pos, negsuc, ◌-ℤ◌, neg_ℤ, nat_abs, sym, ap, ◌∙◌, subst, arith, w64, SFits, to_z, of_z, rules}
+use Rattle.std.proofs.Common.{◌≡◌, ◌≤◌, Bool, not, T, ℤ, pos, negsuc, ◌-ℤ◌, neg_ℤ, nat_abs, sym, ap, ◌∙◌, subst, arith, w64, SFits, to_z, of_z}
 use lib.IntN.{+ℤ_idl}
 use lib.Ieee.{Float, neg}
 use mir.ValLaws.{to_z-of_z}
@@ -8,8 +8,7 @@ use Rattle.number.specs.Floor.{in_domain, floorℤ, floor_i64}
 use Rattle.number.proofs.FloorLaws.{floor_size, floor_integer, floor_integer_out}
 use Rattle.window.specs.Ceil.{ceilℤ, ceil_i64}
 use Rattle.window.proofs.CeilLaws.{by_test, ceil_floor, domain_neg, ceil_size, small_fits, ceil_in, ceil_out}
-use Rattle.window.proofs.ceil.ceil_i64.Statement.{statement}
-use Rattle.window.proofs.ceil.ceil_i64.Tie as tie
+use Rattle.window.proofs.ceil.ceil_i64.Goals as goal
 
 -- the bits of i64::MIN are no small number's
 no-least : (z : ℤ) → nat_abs z ≤ 2147483648 → of_z w64 z ≡ 9223372036854775808 → ⊥
@@ -51,19 +50,16 @@ module _ (x : Float) (F : ℤ) (e : F ≡ floor_i64 (neg x)) where
     answer : to_z w64 (of_z w64 (pos 0 -ℤ to_z w64 (of_z w64 F))) ≡ ceil_i64 x
     answer = ap (λ (z : ℤ). to_z w64 (of_z w64 z)) negated ∙ to_z-of_z w64 (ceilℤ x) fits ∙ sym (ceil_in x (in_domain_law h))
 
-returns : tie.Need-returns
-returns c = least c.before.before.args.x c.before.floor-i64.result c.before.floor-i64.ensures
-    c.if1.true
+pub returns-then-below : goal.returns-then-below
+returns-then-below c = least c.args.x c.floor_i64-below.result c.floor_i64-below.ensures
+    c.if-below.true
 
-sub-result : tie.Need-overflow-sub-result
-sub-result c =
-    let f = c.before.floor-i64 in
-    subst (SFits w64) (sym (negated c.before.before.args.x f.result f.ensures c.if1.false))
-    (fits c.before.before.args.x f.result f.ensures c.if1.false)
+pub overflow_sub-result : goal.overflow_sub-result
+overflow_sub-result c =
+    let f = c.floor_i64-below in
+    subst (SFits w64) (sym (negated c.args.x f.result f.ensures c.if-below.false))
+    (fits c.args.x f.result f.ensures c.if-below.false)
 
-returns-2 : tie.Need-returns-2
-returns-2 c = answer c.before.before.args.x c.before.floor-i64.result c.before.floor-i64.ensures
-    c.if1.false
-
-pub ceil-i64-spec : {M : Type 1} → statement M
-ceil-i64-spec = tie.close (tie.spec (λ c κs. search rules) returns sub-result returns-2)
+pub returns : goal.returns
+returns c = answer c.args.x c.floor_i64-below.result c.floor_i64-below.ensures
+    c.if-below.false

@@ -1,6 +1,5 @@
 -- `inverse::barrel::barrel` meets its contract by what its steps ensure. Assumes nothing.
 use mathlib.Core.Path.{◌∙◌}
-use borrow.Author.Rules.{rules}
 use Rattle.inverse.proofs.barrel.barrel.Goals as goal
 
 pub returns : goal.returns

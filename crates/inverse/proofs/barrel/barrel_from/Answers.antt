@@ -1,6 +1,5 @@
 -- `inverse::barrel::barrel_from` meets its contract by what its two parts ensure. Assumes nothing.
 use mathlib.Core.Path.{◌∙◌}
-use borrow.Author.Rules.{rules}
 use Rattle.inverse.specs.Barrel.{barrel_from}
 use Rattle.inverse.proofs.barrel.barrel_from.Goals as goal
 

@@ -1,6 +1,5 @@
 -- `inverse::barrel::barrel_inverse_from` meets its contract by what its three parts ensure. Assumes nothing.
 use mathlib.Core.Path.{◌∙◌}
-use borrow.Author.Rules.{rules}
 use Rattle.inverse.specs.Barrel.{barrel_inverse_from}
 use Rattle.inverse.proofs.barrel.barrel_inverse_from.Goals as goal
 

@@ -1,20 +1,10 @@
 -- `inverse::forward::bilinear_forward` meets its contract. The loop's invariant: (u, v) is where the steps made lead,
 -- and none of them left the loop. Each way out is one of the laws of Newton's loop. Assumes nothing.
-use mathlib.Core.Path.{◌≡◌, ◌∙◌}
+use mathlib.Core.Path.{◌≡◌}
 use Prim.Native.Nat.{◌-◌, ◌≤◌}
-use borrow.Author.Rules.{rules}
 use Rattle.exact.specs.Loop.{up_to}
-use Rattle.exact.proofs.Loop.{up_to_none}
 use Rattle.point.specs.Course.{on}
 use Rattle.inverse.specs.Forward.{newton_turn}
-use Rattle.inverse.proofs.ForwardLaws.{
-  newton_none,
-  newton_out,
-  newton_on,
-  newton_next,
-  newton_leaves,
-  newton_ends,
-}
 use Rattle.inverse.proofs.forward.bilinear_forward.Given as goal
 
 abbrev pub invariant-loop-steps : goal.invariant-loop-steps

@@ -1,5 +1,4 @@
 -- `inverse::perspective::perspective` meets its contract by what `point_unless` ensures. Assumes nothing.
-use borrow.Author.Rules.{rules}
 use Rattle.inverse.specs.Perspective.{perspective}
 use Rattle.inverse.proofs.perspective.perspective.Goals as goal
 

@@ -1,10 +1,8 @@
 -- `inverse::polynomial::dots` meets its contract. The loop's invariant: u and v are the sums of the terms passed.
 -- Assumes nothing.
-use mathlib.Core.Path.{◌≡◌, ◌∙◌}
-use Prim.Native.Nat.{◌-◌, ◌≤◌}
+use mathlib.Core.Path.{◌∙◌}
 use borrow.Author.Rules.{rules}
 use Rattle.exact.proofs.Loop.{up_to_none, up_to_next, up_to_last}
-use Rattle.inverse.specs.Polynomial.{dot, of_u, of_v}
 use Rattle.inverse.proofs.PolynomialLaws.{same_point}
 use Rattle.inverse.proofs.polynomial.dots.Goals as goal
 

@@ -2,7 +2,6 @@
 -- are not read. Assumes nothing.
 use mathlib.Core.Path.{◌∙◌, subst⁻¹}
 use Prim.Native.Nat.{ℕ, ◌≤◌}
-use borrow.Author.Rules.{rules}
 use Rattle.inverse.proofs.PolynomialLaws.{terms_few, dots_monomials}
 use Rattle.inverse.proofs.polynomial.polynomial.Goals as goal
 

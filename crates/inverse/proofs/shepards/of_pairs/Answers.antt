@@ -1,12 +1,8 @@
 -- `inverse::shepards::of_pairs` meets its contract. The loop's invariant: the sums are the definition's after the pairs
 -- passed, none of which was the answer. Assumes nothing.
-use mathlib.Core.Path.{◌≡◌, ◌∙◌}
-use Prim.Native.Nat.{◌-◌, ◌≤◌}
+use mathlib.Core.Path.{◌∙◌}
 use borrow.Author.Rules.{rules}
-use Rattle.exact.specs.Loop.{up_to}
 use Rattle.exact.proofs.Loop.{up_to_none}
-use Rattle.point.specs.Course.{on}
-use Rattle.inverse.specs.Shepards.{pair_turn, zero_sums}
 use Rattle.inverse.proofs.ShepardsLaws.{pair_adds, pair_leaves, pairs_end}
 use Rattle.inverse.proofs.shepards.of_pairs.Goals as goal
 

@@ -1,6 +1,5 @@
 -- `inverse::shepards::shepards` meets its contract by what its two parts ensure. Assumes nothing.
 use mathlib.Core.Path.{◌∙◌}
-use borrow.Author.Rules.{rules}
 use Rattle.inverse.proofs.shepards.shepards.Goals as goal
 
 pub returns : goal.returns

@@ -1,7 +1,6 @@
 -- `inverse::source::inverse` meets its contract: each way out is the case of the definition whose kind the test found.
 -- Assumes nothing.
 use mathlib.Core.Path.{◌∙◌}
-use borrow.Author.Rules.{rules}
 use borrow.Author.Tests.{ne_eqb}
 use Rattle.inverse.specs.Inverse.{inverse}
 use Rattle.inverse.proofs.source.inverse.Goals as goal

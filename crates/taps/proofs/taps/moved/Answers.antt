@@ -1,4 +1,4 @@
--- `taps::taps::moved` meets its contract: the index is small. Assumes nothing.
+-- `taps::taps::moved` meets its contract: the index is small.
 use mathlib.Core.Path.{◌≡◌, sym, ◌∙◌, subst}
 use Prim.Native.Nat.{ℕ, ◌+◌, ◌^◌, ◌≤◌, ◌<◌}
 use native.Mathlib.Omega.{arith}
@@ -7,10 +7,8 @@ use lib.Signed.{mag}
 use mir.Syntax.{w64}
 use mir.Val.{SFits, of_z, to_z}
 use mir.Facts.{to_z-of_z}
-use borrow.Author.Rules.{rules}
 use Rattle.taps.proofs.CellLaws.{moved_small}
-use Rattle.taps.proofs.taps.moved.Statement.{statement}
-use Rattle.taps.proofs.taps.moved.Tie as tie
+use Rattle.taps.proofs.taps.moved.Goals as goal
 
 less : (n k : ℕ) → k ≤ 4 → n ≤ 2147483649 + k → n < 2 ^ 63
 less n k g h = omega arith
@@ -26,14 +24,8 @@ fit : (v : ℤ) (k : ℕ) → SFits w64 v → mag v ≤ 2147483649 → k ≤ 4 �
 fit v k f h g = subst (SFits w64) (sym (sum v k f g))
     (record { sfits = less (mag (v +ℤ pos k)) k g (moved_small v k 2147483649 h) })
 
-cast-result : tie.Need-overflow-cast-result
-cast-result c = search rules
+pub overflow_add-result : goal.overflow_add-result
+overflow_add-result c = fit _ _ c.ranges.v c.requires.0 c.requires.1
 
-add-result : tie.Need-overflow-add-result
-add-result c = fit _ _ c.ranges.v c.requires.0 c.requires.1
-
-returns : tie.Need-returns
+pub returns : goal.returns
 returns c = to_z-of_z {w = w64} (fit _ _ c.ranges.v c.requires.0 c.requires.1) ∙ sum _ _ c.ranges.v c.requires.1
-
-pub moved-spec : {M : Type 1} → statement M
-moved-spec = tie.close (tie.spec cast-result add-result returns)

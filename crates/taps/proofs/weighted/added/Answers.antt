@@ -2,12 +2,8 @@
 -- nothing.
 use mathlib.Core.Path.{refl}
 use Rattle.taps.specs.Weighted.{added}
-use Rattle.taps.proofs.weighted.added.Statement.{statement}
-use Rattle.taps.proofs.weighted.added.Tie as tie
+use Rattle.taps.proofs.weighted.added.Goals as goal
 
-returns : tie.Need-returns
+pub returns : goal.returns
 unfolding added
 returns c = refl
-
-pub added-spec : {M : Type 1} → statement M
-added-spec = tie.close (tie.spec returns)

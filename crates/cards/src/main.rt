@@ -14,9 +14,9 @@ use distort::answer::store_answer;
 use distort::call::distort;
 use distort::job::Job;
 use endian::bytes::{store_u64, u64_at};
-use libc::STDOUT_FILENO;
 use picture::shape::Shape;
 use policies::policy::EDGE;
+use std::io;
 use taps::interpolation::NEAREST;
 use window::view::{View, yes};
 
@@ -199,11 +199,8 @@ fn others() -> u64
     right(singular_card()) + right(order_card()) + right(bestfit_card())
 }
 
-fn main() {
+fn main(rt: HostRuntime) -> io::Result<()> {
     let passed = limits() + others();
-    io::write_all(STDOUT_FILENO, b"cards: ");
-    io::print_decimal(STDOUT_FILENO, passed);
-    io::write_all(STDOUT_FILENO, b" passed, ");
-    io::print_decimal(STDOUT_FILENO, 9 - passed);
-    io::write_all(STDOUT_FILENO, b" failed\n");
+    let failed = 9 - passed;
+    println!(rt; "cards: {passed} passed, {failed} failed")
 }

@@ -1,5 +1,7 @@
 // The three `from_name` readers over bytes: a name to its code, or the refusal, for every slice of bytes. `dihyravo`
 // exports them.
+#![tactic(auto)]
+
 mod letters;
 mod table;
 

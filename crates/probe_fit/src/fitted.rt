@@ -23,8 +23,7 @@ fn store_coefficients(out: &mut [u8], coef: &[f64; 256], n: usize)
 }
 
 // Width or height 0 or above 4,096 is refused by 1.
-#[unsafe(no_mangle)]
-pub extern "C" fn probe_fit(
+pub fn probe_fit(
     method: u64,
     arguments: &[u8],
     width: u64,

@@ -30,8 +30,7 @@ fn store_placed(out: &mut [u8], placed: Placed) -> u64
 
 // Width or height 0 or above 4,096 is refused by 1, a window by 9. Of bestfit and viewport, 0 is no and anything else
 // yes.
-#[unsafe(no_mangle)]
-pub extern "C" fn probe_window(
+pub fn probe_window(
     method: u64,
     arguments: &[u8],
     width: u64,

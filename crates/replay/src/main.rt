@@ -14,8 +14,9 @@ use distort::answer::{Answer, store_answer};
 use distort::call::distort;
 use distort::job::Job;
 use endian::bytes::u64_at;
-use libc::{STDIN_FILENO, STDOUT_FILENO};
 use picture::shape::Shape;
+use std::io;
+use std::io::{Read, Stdin};
 use window::view::{View, yes};
 
 // How a job ended; Broken is a file that ends too early or has another form.
@@ -70,22 +71,28 @@ fn signed(bits: u64) -> i64
 }
 
 // Whether the buffer has room for n bytes and the input has them.
-fn fill(buffer: &mut [u8], n: usize) -> bool {
+fn fill(input: &mut Stdin, buffer: &mut [u8], n: usize) -> bool {
     if n > buffer.len() {
         return false;
     }
-    io::read_full(STDIN_FILENO, &mut buffer[..n]) == n
+    input.read_exact(&mut buffer[..n]).is_ok()
 }
 
 // The stored answer and band, which a refused job has not.
-fn stored(head: &[u8; 144], answer: &mut [u8; 48], expected: &mut [u8], n: usize) -> bool {
+fn stored(
+    input: &mut Stdin,
+    head: &[u8; 144],
+    answer: &mut [u8; 48],
+    expected: &mut [u8],
+    n: usize,
+) -> bool {
     if u64_at(head, 136) != 0 {
         return true;
     }
-    if !fill(answer, 48) {
+    if !fill(input, answer, 48) {
         return false;
     }
-    fill(expected, n)
+    fill(input, expected, n)
 }
 
 // The word numbered k of a job's head.
@@ -182,7 +189,7 @@ fn replay(
 }
 
 // A job after its numbers.
-fn rest(head: &[u8; 144]) -> Outcome {
+fn rest(input: &mut Stdin, head: &[u8; 144]) -> Outcome {
     let mut background = [0u8; 16];
     let mut matte = [0u8; 16];
     let mut picture = [0u8; 4096];
@@ -195,11 +202,11 @@ fn rest(head: &[u8; 144]) -> Outcome {
     if band_length > 4096 {
         return Outcome::Broken;
     }
-    let mut whole = fill(&mut background, 16);
-    whole = whole & fill(&mut matte, 16);
-    whole = whole & fill(&mut picture, picture_length);
-    whole = whole & fill(&mut arguments, arguments_length);
-    whole = whole & stored(head, &mut answer, &mut expected, band_length);
+    let mut whole = fill(input, &mut background, 16);
+    whole = whole & fill(input, &mut matte, 16);
+    whole = whole & fill(input, &mut picture, picture_length);
+    whole = whole & fill(input, &mut arguments, arguments_length);
+    whole = whole & stored(input, head, &mut answer, &mut expected, band_length);
     if !whole {
         return Outcome::Broken;
     }
@@ -214,45 +221,41 @@ fn rest(head: &[u8; 144]) -> Outcome {
     )
 }
 
-fn job() -> Outcome {
+fn job(input: &mut Stdin) -> Outcome {
     let mut head = [0u8; 144];
-    if !fill(&mut head, 144) {
+    if !fill(input, &mut head, 144) {
         return Outcome::Broken;
     }
-    rest(&head)
+    rest(input, &head)
 }
 
 // How many jobs there are, after the text; none where the file has another form.
-fn begin() -> u64 {
+fn begin(input: &mut Stdin) -> u64 {
     let mut number = [0u8; 8];
     let mut text = [0u8; 4096];
-    if !fill(&mut number, 8) {
+    if !fill(input, &mut number, 8) {
         return 0;
     }
-    if !fill(&mut text, u64_at(&number, 0) as usize) {
+    if !fill(input, &mut text, u64_at(&number, 0) as usize) {
         return 0;
     }
-    if !fill(&mut number, 8) {
+    if !fill(input, &mut number, 8) {
         return 0;
     }
     u64_at(&number, 0)
 }
 
-fn print(passed: u64, failed: u64) {
-    io::write_all(STDOUT_FILENO, b"replay: ");
-    io::print_decimal(STDOUT_FILENO, passed);
-    io::write_all(STDOUT_FILENO, b" passed, ");
-    io::print_decimal(STDOUT_FILENO, failed);
-    io::write_all(STDOUT_FILENO, b" failed\n");
+fn print(rt: &impl Print, passed: u64, failed: u64) -> io::Result<()> {
+    println!(rt; "replay: {passed} passed, {failed} failed")
 }
 
 // How many of them pass, up to where the file breaks off: the job there has not passed either.
-fn passed(jobs: u64) -> u64
+fn passed(input: &mut Stdin, jobs: u64) -> u64
     ensures { result ≤ jobs }
 {
     let mut n: u64 = 0;
     for k in 0..jobs {
-        match job() {
+        match job(input) {
             Outcome::Right => {
                 n = n + 1;
             }
@@ -266,12 +269,12 @@ fn passed(jobs: u64) -> u64
 }
 
 // A file without jobs is one failure.
-fn main() {
-    let jobs = begin();
+fn main(rt: HostRuntime) -> io::Result<()> {
+    let mut input = rt.stdin();
+    let jobs = begin(&mut input);
     if jobs == 0 {
-        print(0, 1);
-        return;
+        return print(&rt, 0, 1);
     }
-    let n = passed(jobs);
-    print(n, jobs - n);
+    let n = passed(&mut input, jobs);
+    print(&rt, n, jobs - n)
 }

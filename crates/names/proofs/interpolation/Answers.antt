@@ -1,0 +1,8 @@
+-- `names::interpolation` meets its contract: the entries of its text compute to the table of the definition. Assumes
+-- nothing.
+use Rattle.names.specs.Table.{ends_name, next_name, next_code, split, entries}
+use Rattle.names.proofs.interpolation.Goals as goal
+
+pub returns : goal.returns
+unfolding ends_name next_name next_code split entries
+returns c = c.find.ensures

@@ -1,5 +1,5 @@
 -- `fast_cells::inner::column` meets its contract: the floor is a natural number of 16 bits, so that its float casts to
--- it. Assumes nothing.
+-- it.
 use mathlib.Core.Path.{◌≡◌, sym, ap, ◌∙◌, subst}
 use native.Mathlib.Nat.{le_trans, le_of_lt, lt_of_lt_of_le}
 use lib.Dec.{T, lit≤}
@@ -13,8 +13,7 @@ use mir.ValLaws.{to_z-of_z}
 use Rattle.exact.proofs.Integer.{counted}
 use Rattle.number.specs.Floor.{floorℤ}
 use Rattle.fast_cells.specs.Inner.{Low}
-use Rattle.fast_cells.proofs.inner.column.Statement.{statement}
-use Rattle.fast_cells.proofs.inner.column.Tie as tie
+use Rattle.fast_cells.proofs.inner.column.Goals as goal
 
 module _ (z f : Float) (e : f ≡ of_int binary64 (floorℤ z)) (l : Low z) where
   back : T (in_signed binary64 31 f) × (to_signed 31 f ≡ pos l.whole)
@@ -33,15 +32,12 @@ module _ (z f : Float) (e : f ≡ of_int binary64 (floorℤ z)) (l : Low z) wher
   plain = subst (λ (y : ℤ). T (non_neg y) × Fits w32 (nat_abs y)) (sym read)
       (tt, record { fits = lt_of_lt_of_le l.small (lit≤ tt) })
 
-float-to-int-result : tie.Need-float-to-int-result
-float-to-int-result c = (back _ _ c.before.whole_below.ensures c.before.before.requires).0
+pub float_to_int-result : goal.float_to_int-result
+float_to_int-result c = (back _ _ c.whole_below.ensures c.requires).0
 
-cast-result : tie.Need-overflow-cast-result
-cast-result c = plain _ _ c.before.whole_below.ensures c.before.before.requires
+pub overflow_cast-result : goal.overflow_cast-result
+overflow_cast-result c = plain _ _ c.whole_below.ensures c.requires
 
-returns : tie.Need-returns
-returns c = let l = c.before.before.requires in l.floor
-    ∙ sym (ap (λ (y : ℤ). pos (nat_abs y)) (read _ _ c.before.whole_below.ensures l))
-
-pub column-spec : {M : Type 1} → statement M
-column-spec = tie.close (tie.spec (λ c κs. c.requires.domain) float-to-int-result cast-result returns)
+pub returns : goal.returns
+returns c = let l = c.requires in l.floor
+    ∙ sym (ap (λ (y : ℤ). pos (nat_abs y)) (read _ _ c.whole_below.ensures l))

@@ -103,6 +103,7 @@ pub fn few_pairs(method: u64, arguments: &[u8]) -> bool
 }
 
 // The first number from 3 to 7 that applies, 0 where none does.
+#[tactic(auto, unfolding(crate::specs::Refusal::arguments_refusal, exact::specs::Table::first_of))]
 pub fn arguments_refusal(method: u64, arguments: &[u8]) -> u64
     ensures { result ≡ Refusal.arguments_refusal method arguments.now }
 {

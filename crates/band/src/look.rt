@@ -2,7 +2,7 @@
 // pixels that have no source point. Assumes nothing.
 use picture::colour::Rgba;
 
-#[derive(Drop)]
+#[derive(Clone, Copy)]
 pub struct Look {
     pub policy: u64,
     pub interpolation: u64,

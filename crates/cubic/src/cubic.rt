@@ -20,7 +20,7 @@ use number::magnitude::abs_f32;
 
 // A kernel's row of the printed table, all over 6: the cubic, the square and the constant number of the near piece,
 // below 1, then the cubic, the square, the linear and the constant one of the far piece, from 1 to 2.
-#[derive(Drop)]
+#[derive(Clone, Copy)]
 pub struct CubicRow {
     pub near3: f32,
     pub near2: f32,
@@ -105,7 +105,7 @@ pub fn cubic_weights(t: f32, row: CubicRow) -> [f32; 4]
 }
 
 // How far the four taps around a point lie from it.
-#[derive(Drop)]
+#[derive(Clone, Copy)]
 pub struct Distances {
     pub first: f32,
     pub second: f32,

@@ -4,7 +4,7 @@ use band::rows::Rows;
 use picture::shape::Shape;
 use window::view::View;
 
-#[derive(Drop)]
+#[derive(Clone, Copy)]
 pub struct Job {
     pub shape: Shape,
     pub method: u64,

@@ -1,6 +1,6 @@
 -- No mapping has more than 256 coefficients, so each finds its place, and a polynomial's has at most 42, 21 for u and
 -- 21 for v. By the cases of `made`, from how long each maker's list is. Assumes nothing.
-use Rattle.std.proofs.Common.{◌≡◌, ℕ, ◌*◌, ◌≤◌, Bool, true, false, cond, eqb, List, ◌++◌, length, take, pos, refl, subst, arith, lit≤, length-append, length-take, eqb-true}
+use Rattle.std.proofs.Common.{◌≡◌, ℕ, ◌*◌, ◌≤◌, Bool, true, false, cond, eqb, List, ◌++◌, length, take, pos, refl, arith, lit≤, length-append, length-take, eqb-true}
 use mathlib.Core.Path.{subst⁻¹}
 use lib.Ieee.{Float, binary64, of_int}
 use Rattle.arguments.specs.Method.{affine_terms}

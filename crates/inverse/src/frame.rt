@@ -4,7 +4,7 @@ ghost use Rattle.inverse.specs.Frame.{frame_of};
 
 use mappings::mapping::Mapping;
 
-#[derive(Drop)]
+#[derive(Clone, Copy)]
 pub struct Frame {
     pub kind: u64,
     pub order: u64,

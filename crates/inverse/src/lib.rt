@@ -1,6 +1,8 @@
 // The source point of each output pixel, by the fitted mapping, one function a method. Read by `fast_points`, `rows`,
 // `distort` and `probe_points`; `band`, `chain` and `cards` cite its definitions. Every public function equals its
 // definition in specs/ for every input of its types, NaN and infinities included.
+#![tactic(auto)]
+
 pub mod affine;
 pub mod barrel;
 pub mod forward;

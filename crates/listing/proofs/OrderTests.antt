@@ -2,7 +2,7 @@
 -- column then gives its name back: a test over the 256 fours of numbers below 4, which is computed. Assumes nothing.
 use mathlib.Core.Path.{◌≡◌, sym, subst}
 use mathlib.Core.Logic.{inl, inr}
-use mathlib.Core.Bool.{Bool, true, not, ◌&&◌, ◌||◌}
+use mathlib.Core.Bool.{Bool, true, false, not, ◌&&◌, ◌||◌}
 use Prim.Native.Nat.{ℕ, zero, suc, ◌≤◌, ◌<◌}
 use native.Mathlib.Nat.{eq-or-lt_of_le}
 use native.Mathlib.Omega.{arith}
@@ -20,6 +20,7 @@ below zero f = true
 below (suc n) f = f n && below n f
 
 implied : (a b : Bool) → T (not a || b) → T a → T b
+implied false b h k = elim k [ ]
 implied true b h k = h
 
 at_most : (k n : ℕ) → k < suc n → k ≤ n
@@ -27,6 +28,7 @@ at_most k n l = omega (arith, l)
 
 at_below : (n : ℕ) (f : ℕ → Bool) → T (below n f) → (k : ℕ) → k < n → T (f k)
 unfolding below
+at_below zero f h k l = elim l [ ]
 at_below (suc n) f h k l = elim (eq-or-lt_of_le (at_most k n l)) [
   | inl e ↦ subst (λ (j : ℕ). T (f j)) (sym e) (both_pass (f n) (below n f) h).0
   | inr g ↦ at_below n f (both_pass (f n) (below n f) h).1 k g
@@ -44,6 +46,7 @@ unfolding below test is_order column_of with_name slot_of
 tested = tt
 
 parts : (a b c d : Bool) → T (a && (b && (c && d))) → T a × (T b × (T c × T d))
+parts false b c d t = elim t [ ]
 parts true b c d t =
     let q = both_pass b (c && d) t in
     (tt, (q.0, both_pass c d q.1))
@@ -97,6 +100,9 @@ unfolding below test_free is_order column_of with_name
 tested_free = tt
 
 joined : (a b c d : Bool) → T a → T b → T c → T d → T (a && (b && (c && d)))
+joined false b c d p q r s = elim p [ ]
+joined true false c d p q r s = elim q [ ]
+joined true true false d p q r s = elim r [ ]
 joined true true true d p q r s = s
 
 pub free_order : (o : Order) → o.col0 < 4 → o.col1 < 4 → o.col2 < 4 → o.col3 < 4 → column_of no_names o.col0 ≡ 4

@@ -2,7 +2,7 @@
 ghost use Rattle.std.specs.Prelude.{◌≡◌};
 ghost use Rattle.listing.specs.Names.{no_names, column_of, with_name, slot_of};
 
-#[derive(Drop)]
+#[derive(Clone, Copy)]
 pub struct Names {
     pub u: u64,
     pub v: u64,

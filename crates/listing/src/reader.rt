@@ -9,7 +9,7 @@ use crate::word::Word;
 
 // What the bytes so far are: the names, the word that is begun, the columns and lines that are whole, and whether a
 // number was too large. A word that is Wrong stays so: a fault of form, here or before.
-#[derive(Drop)]
+#[derive(Clone, Copy)]
 pub struct Reader {
     pub names: Names,
     pub word: Word,

@@ -3,7 +3,7 @@ ghost use Rattle.std.specs.Prelude.{◌≡◌};
 ghost use Rattle.listing.specs.Word.{name_of, with_digit, digit, first_byte, next, pixels};
 
 // What the bytes of a word so far are. Wrong is a fault of form, which nothing mends.
-#[derive(Drop)]
+#[derive(Clone, Copy)]
 pub enum Word {
     Empty,
     Minus,

@@ -5,7 +5,7 @@ ghost use Rattle.exact.specs.Limits.{most_arguments};
 ghost use Rattle.mappings.specs.Pairs.{pair_at};
 ghost use Rattle.mappings.specs.Pairs as Pairs;
 
-#[derive(Drop)]
+#[derive(Clone, Copy)]
 pub struct Pair {
     pub u: f64,
     pub v: f64,

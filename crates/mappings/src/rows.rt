@@ -6,7 +6,7 @@ use crate::monomials::monomials;
 use crate::pairs::Pair;
 
 // Which terms a row has: x, y, 1; a polynomial's monomials in x and y; 1, u, v, uv.
-#[derive(Drop)]
+#[derive(Clone, Copy)]
 pub enum Terms {
     Affine,
     Polynomial(u64),
@@ -14,7 +14,7 @@ pub enum Terms {
 }
 
 // Which number of the pair a row is to give.
-#[derive(Drop)]
+#[derive(Clone, Copy)]
 pub enum Side {
     OfU,
     OfV,
@@ -23,7 +23,7 @@ pub enum Side {
 }
 
 // Two rows a pair, one that gives u and one that gives v.
-#[derive(Drop)]
+#[derive(Clone, Copy)]
 pub enum Twin {
     Similarity,
     Perspective,

@@ -11,7 +11,6 @@ use Rattle.policies.specs.Named.{named, Lies}
 use Rattle.picture.specs.Pixel.{Picture, pixel_at}
 use Rattle.picture.specs.declared.colour.Rgba.{Rgba}
 use Rattle.policies.specs.declared.named.Tap.{Tap}
-use Rattle.policies.specs.declared.named.Tap.TheVariants as Tap
 use Rattle.policies.proofs.NamedLaws.{named_lies, named_inside}
 
 pub at_inside : (bytes : List ℕ) (width height channels policy : ℕ) (background : Rgba) (x y : ℕ) → x < width

@@ -1,7 +1,7 @@
 // The size of a picture and how many samples a pixel has; a side less a few pixels. Assumes nothing.
 ghost use Rattle.std.specs.Prelude.{◌≡◌, ◌-◌};
 
-#[derive(Drop)]
+#[derive(Clone, Copy)]
 pub struct Shape {
     pub width: u64,
     pub height: u64,

@@ -36,7 +36,7 @@ fn store_tested(band: &mut [u8], k: u64, c: Rgba)
 // Three numbers, from the sample numbered k on.
 fn store_numbers(band: &mut [u8], k: u64, c: Rgba)
     requires k_in_bounds { (k + 3) * 4 ≤ length band.old }
-    requires t { T (not (is_nan c.r)) × (T (not (is_nan c.g)) × T (not (is_nan c.b))) }
+    requires numbers { T (not (is_nan c.r)) × (T (not (is_nan c.g)) × T (not (is_nan c.b))) }
     ensures { band.new ≡ store_rgb band.old k c }
 {
     store_number(band, k, c.r);

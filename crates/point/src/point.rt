@@ -1,6 +1,6 @@
 // A source point: two coordinates in the picture, with a mark for usable. Assumes nothing.
 
-#[derive(Drop)]
+#[derive(Clone, Copy)]
 pub struct Point {
     pub u: f64,
     pub v: f64,

@@ -54,11 +54,6 @@ policy_last code h = ap (λ (k : ℕ). get_or policies k Random) (split code h)
     only zero = refl
     only (suc n) = refl
 
--- six numbers more that a code is not
-pub six : (k n : ℕ) → k ≤ n → (n ≡ k → ⊥) → (n ≡ k + 1 → ⊥) → (n ≡ k + 2 → ⊥) → (n ≡ k + 3 → ⊥) → (n ≡ k + 4 → ⊥)
-    → (n ≡ k + 5 → ⊥) → k + 6 ≤ n
-six k n h a b c d e f = omega arith
-
 -- equal parities have an even sum, and unequal ones an odd
 pub same_parity : (p q : ℕ) → p ≡ q → eqb ((p + q) % 2) 0 ≡ true
 same_parity p q e = eq-eqb ((p + q) % 2) 0 (omega arith)

@@ -34,7 +34,6 @@ use Rattle.policies.specs.Named.{
   Lies,
 }
 use Rattle.policies.specs.declared.named.Tap.{Tap}
-use Rattle.policies.specs.declared.named.Tap.TheVariants as Tap
 use Rattle.policies.proofs.IndexLaws.{within_lt, clamped_lt, tile_lt, mirror_lt}
 
 -- of two places that lie inside, either does

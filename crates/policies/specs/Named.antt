@@ -7,7 +7,6 @@ use Rattle.endian.specs.Bytes.{twos_complement}
 use Rattle.policies.specs.Index.{in_range, clamped, tile, mirror, parity}
 use Rattle.policies.specs.Random.{mix}
 use Rattle.policies.specs.declared.named.Tap.{Tap}
-use Rattle.policies.specs.declared.named.Tap.TheVariants as Tap
 
 -- the sizes that a call is accepted with
 pub record Sizes (width height : ℕ) : Type 0 where

@@ -7,6 +7,7 @@ use endian::bytes::{store_i64, store_u64};
 use window::view::{View, yes};
 use window::window::{Placed, window};
 
+#[tactic(auto, unfolding(crate::specs::Placed::store_placed))]
 fn store_placed(out: &mut [u8], placed: Placed) -> u64
     requires { 32 ≤ length out.old }
     ensures { (result, out.new) ≡ store_placed placed out.old }

@@ -42,7 +42,6 @@ use Rattle.picture.specs.Pixel.{widened, pixel_at}
 use Rattle.taps.specs.Weighted.{Opaque}
 use Rattle.picture.specs.declared.colour.Rgba.{Rgba}
 use Rattle.policies.specs.declared.named.Tap.{Tap}
-use Rattle.policies.specs.declared.named.Tap.TheVariants as Tap
 use Rattle.picture.proofs.AtLaws.{Solid, at_keep}
 use Rattle.picture.proofs.PixelCode.{number_lt}
 

@@ -43,35 +43,15 @@ background_code_law =
     (λ h. absurd (omega arith)) (λ h. absurd (omega arith)) (λ h. absurd (omega arith)) (λ h. absurd (omega arith))
     (λ h. refl) (λ n h. refl)
 
--- a code that is none of the others' is that of the background
-pub no_other : (code : ℕ)
-    → ((((((((Unit {0} × (code ≡ integer_code → ⊥)) × (code ≡ nearest_code → ⊥)) × (code ≡ average_code → ⊥))
-    × (code ≡ average9_code → ⊥)) × (code ≡ average16_code → ⊥)) × (code ≡ bilinear_code → ⊥)) × (code ≡ catrom_code → ⊥))
-    × (code ≡ spline_code → ⊥))
-    → interpolation code ≡ Background
-unfolding interpolation
-no_other =
-    each_code
-    (λ n.
-    ((((((((Unit {0} × (n ≡ integer_code → ⊥)) × (n ≡ nearest_code → ⊥)) × (n ≡ average_code → ⊥))
-    × (n ≡ average9_code → ⊥)) × (n ≡ average16_code → ⊥)) × (n ≡ bilinear_code → ⊥)) × (n ≡ catrom_code → ⊥))
-    × (n ≡ spline_code → ⊥)) → interpolation n ≡ Background)
-    (λ h. absurd (h.0.0.0.0.0.0.0.1 refl)) (λ h. absurd (h.0.0.0.0.0.0.1 refl))
-    (λ h. absurd (h.0.0.0.0.0.1 refl)) (λ h. absurd (h.0.0.0.0.1 refl))
-    (λ h. absurd (h.0.0.0.1 refl)) (λ h. absurd (h.0.0.1 refl)) (λ h. absurd (h.0.1 refl))
-    (λ h. absurd (h.1 refl)) (λ h. refl) (λ n h. refl)
-
 -- one that neither rounds nor steps back
-pub first_plain : (x : Float) (code : ℕ)
-    → (((((Unit {0} × (code ≡ nearest_code → ⊥)) × (code ≡ average9_code → ⊥)) × (code ≡ average16_code → ⊥))
-    × (code ≡ catrom_code → ⊥)) × (code ≡ spline_code → ⊥))
+pub first_plain : (x : Float) (code : ℕ) → (code ≡ nearest_code → ⊥) → (code ≡ average9_code → ⊥)
+    → (code ≡ average16_code → ⊥) → (code ≡ catrom_code → ⊥) → (code ≡ spline_code → ⊥)
     → first (interpolation code) x ≡ floor_i64 x
 unfolding interpolation
 first_plain x =
     each_code
-    (λ n. (((((Unit {0} × (n ≡ nearest_code → ⊥)) × (n ≡ average9_code → ⊥)) × (n ≡ average16_code → ⊥))
-    × (n ≡ catrom_code → ⊥)) × (n ≡ spline_code → ⊥))
-    → first (interpolation n) x ≡ floor_i64 x)
-    (λ h. refl) (λ h. absurd (h.0.0.0.0.1 refl)) (λ h. refl) (λ h. absurd (h.0.0.0.1 refl))
-    (λ h. absurd (h.0.0.1 refl)) (λ h. refl)
-    (λ h. absurd (h.0.1 refl)) (λ h. absurd (h.1 refl)) (λ h. refl) (λ n h. refl)
+    (λ n. (n ≡ nearest_code → ⊥) → (n ≡ average9_code → ⊥) → (n ≡ average16_code → ⊥) → (n ≡ catrom_code → ⊥)
+    → (n ≡ spline_code → ⊥) → first (interpolation n) x ≡ floor_i64 x)
+    (λ a b c d e. refl) (λ a b c d e. absurd (a refl)) (λ a b c d e. refl) (λ a b c d e. absurd (b refl))
+    (λ a b c d e. absurd (c refl)) (λ a b c d e. refl) (λ a b c d e. absurd (d refl))
+    (λ a b c d e. absurd (e refl)) (λ a b c d e. refl) (λ n a b c d e. refl)

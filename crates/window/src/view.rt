@@ -3,7 +3,7 @@
 ghost use Rattle.std.specs.Prelude.{◌≡◌};
 ghost use Rattle.window.specs.View as Asked;
 
-#[derive(Drop)]
+#[derive(Clone, Copy)]
 pub struct View {
     pub bestfit: bool,
     pub given: bool,

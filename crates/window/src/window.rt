@@ -20,6 +20,7 @@ pub enum Placed {
     Refused,
 }
 
+#[tactic(auto, unfolding(crate::specs::Window::of_extents))]
 fn of_extents(across: Extent, down: Extent) -> Placed
     ensures { result ≡ Placing.of_extents across down }
 {
@@ -55,6 +56,7 @@ fn around(e: Edges) -> Placed
     of_extents(extent_of(e.x0, e.x1), extent_of(e.y0, e.y1))
 }
 
+#[tactic(auto, unfolding(crate::specs::Window::judged))]
 fn best(kind: u64, coef: &[f64; 256], width: u64, height: u64) -> Placed
     ensures { result ≡ Placing.best kind coef.now width height }
 {

@@ -1,6 +1,5 @@
 -- `least_pairs` is its definition: where the code is known, the definition computes to what that method states; else
 -- every test of it fails. Assumes nothing.
-use borrow.Author.Rules.{rules}
 use borrow.Author.Tests.{ne_eqb}
 use Rattle.arguments.specs.Method.{least_pairs}
 use Rattle.arguments.proofs.code.least_pairs.Goals as goal

@@ -1,5 +1,4 @@
 -- `bad_count` is its definition: the tests are the definition's own, in its order. Assumes nothing.
-use borrow.Author.Rules.{rules}
 use borrow.Author.Tests.{lt-ltb, le-ltb, eq-eqb, ne_eqb}
 use Rattle.arguments.specs.Refusal.{bad_count}
 use Rattle.arguments.proofs.refusal.bad_count.Goals as goal

@@ -1,6 +1,5 @@
 -- `bad_for` is its definition: where the method is known the definition computes to that method's test; else every test
 -- of the method fails. Assumes nothing.
-use borrow.Author.Rules.{rules}
 use borrow.Author.Tests.{eq-eqb, ne_eqb}
 use Rattle.arguments.specs.Refusal.{bad_for}
 use Rattle.arguments.proofs.refusal.bad_for.Goals as goal

@@ -1,5 +1,4 @@
 -- `bad_order` is its definition: only a polynomial has an order to test. Assumes nothing.
-use borrow.Author.Rules.{rules}
 use borrow.Author.Tests.{ne_eqb}
 use Rattle.arguments.specs.Refusal.{bad_order}
 use Rattle.arguments.proofs.refusal.bad_order.Goals as goal

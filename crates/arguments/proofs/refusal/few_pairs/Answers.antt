@@ -1,5 +1,4 @@
 -- `few_pairs` is its definition: both sides of the comparison are. Assumes nothing.
-use borrow.Author.Rules.{rules}
 use Rattle.arguments.specs.Refusal.{few_pairs, pairs_of}
 use Rattle.arguments.proofs.refusal.few_pairs.Goals as goal
 

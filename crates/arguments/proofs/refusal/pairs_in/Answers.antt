@@ -1,6 +1,5 @@
 -- `pairs_in` is its definition: where there is no order the difference is 0. Assumes nothing.
 use native.Mathlib.Omega.{arith}
-use borrow.Author.Rules.{rules}
 use Rattle.arguments.proofs.refusal.pairs_in.Goals as goal
 
 pub returns-then-n-skip : goal.returns-then-n-skip

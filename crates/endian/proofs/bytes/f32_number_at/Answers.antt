@@ -1,6 +1,5 @@
 -- `endian::bytes::f32_number_at` meets its contract: a pattern that is at most the infinity's may be made a float as it
 -- is. Assumes nothing.
-use borrow.Author.Rules.{rules}
 use lib.Ieee.{binary32}
 use Rattle.exact.proofs.Patterns.{pattern_number}
 use Rattle.endian.proofs.bytes.f32_number_at.Goals as goal

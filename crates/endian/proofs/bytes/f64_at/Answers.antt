@@ -1,6 +1,5 @@
 -- `endian::bytes::f64_at` meets its contract: the float of the number that stands there. Assumes nothing.
 use mathlib.Core.Path.{◌∙◌}
-use borrow.Author.Rules.{rules}
 use Rattle.endian.proofs.bytes.f64_at.Goals as goal
 
 pub returns : goal.returns

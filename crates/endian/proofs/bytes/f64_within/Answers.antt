@@ -1,6 +1,5 @@
 -- `endian::bytes::f64_within` meets its contract: the test of the pattern that stands there. Assumes nothing.
 use mathlib.Core.Path.{◌∙◌}
-use borrow.Author.Rules.{rules}
 use Rattle.endian.proofs.bytes.f64_within.Goals as goal
 
 pub returns : goal.returns

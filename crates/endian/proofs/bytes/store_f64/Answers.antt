@@ -1,6 +1,5 @@
 -- `endian::bytes::store_f64` meets its contract: the float's pattern is put as a number. Assumes nothing.
 use mathlib.Core.Path.{◌∙◌}
-use borrow.Author.Rules.{rules}
 use Rattle.endian.proofs.bytes.store_f64.Goals as goal
 
 pub returns : goal.returns

@@ -1,7 +1,6 @@
 -- `endian::bytes::store_i64` meets its contract: the number's bits are put as a number. Assumes nothing.
 use mathlib.Core.Path.{◌∙◌}
 use mir.Facts.{to_z-of_z}
-use borrow.Author.Rules.{rules}
 use Rattle.endian.proofs.bytes.store_i64.Goals as goal
 
 pub returns : goal.returns

@@ -1,7 +1,6 @@
 -- `endian::bytes::store_u32` meets its contract: the four stores are the definition's, byte by byte. Assumes nothing.
 use native.Mathlib.Omega.{arith}
 use lib.ListN.{length-set}
-use borrow.Author.Rules.{rules}
 use Rattle.endian.proofs.BytesParts.{store_four}
 use Rattle.endian.proofs.bytes.store_u32.Goals as goal
 

@@ -2,7 +2,6 @@
 -- Assumes nothing.
 use mathlib.Core.Path.{◌∙◌}
 use Rattle.endian.proofs.BytesParts.{store_eight}
-use borrow.Author.Rules.{rules}
 use Rattle.endian.proofs.bytes.store_u64.Goals as goal
 
 pub returns : goal.returns

@@ -1,6 +1,5 @@
 -- `endian::bytes::u64_at` meets its contract: eight bytes are twice four. Assumes nothing.
 use Rattle.endian.proofs.BytesParts.{number_eight}
-use borrow.Author.Rules.{rules}
 use Rattle.endian.proofs.bytes.u64_at.Goals as goal
 
 pub returns : goal.returns

@@ -4,7 +4,6 @@ use mathlib.Core.Path.{sym}
 use lib.Ieee.{binary64}
 use Rattle.exact.proofs.FloatPatterns.{nan_bits}
 use Rattle.exact.proofs.Nan.{number_test}
-use borrow.Author.Rules.{rules}
 use Rattle.endian.proofs.pattern.bits_of_f64.Goals as goal
 
 pub returns-then-x : goal.returns-then-x

@@ -4,7 +4,6 @@ use mathlib.Core.Path.{sym, ◌∙◌}
 use lib.Ieee.{binary32}
 use Rattle.exact.proofs.Nan.{zero_by_zero}
 use Rattle.exact.proofs.Patterns.{pattern_nan, pattern_number}
-use borrow.Author.Rules.{rules}
 use Rattle.endian.proofs.pattern.f32_of_bits.Goals as goal
 
 pub returns-then-bits-gt2139095040 : goal.returns-then-bits-gt2139095040

@@ -4,7 +4,6 @@ use mathlib.Core.Path.{sym, ◌∙◌}
 use lib.Ieee.{binary64}
 use Rattle.exact.proofs.Nan.{zero_by_zero}
 use Rattle.exact.proofs.Patterns.{pattern_nan, pattern_number}
-use borrow.Author.Rules.{rules}
 use Rattle.endian.proofs.pattern.f64_of_bits.Goals as goal
 
 pub returns-then-bits-gt9218868437227405312 : goal.returns-then-bits-gt9218868437227405312

@@ -1,6 +1,5 @@
 -- `linear::eliminate::better` meets its contract. Each way out is what the definition picks where its test is as the
 -- code found it. Assumes nothing.
-use borrow.Author.Rules.{rules}
 use Rattle.linear.specs.Eliminate.{better}
 use Rattle.linear.proofs.eliminate.better.Goals as goal
 

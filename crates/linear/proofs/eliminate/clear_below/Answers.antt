@@ -1,11 +1,8 @@
 -- `linear::eliminate::clear_below` meets its contract. The loop's invariant: matrix and right-hand side are the
 -- definition's after the rows passed. Assumes nothing.
-use mathlib.Core.Path.{◌≡◌, ◌∙◌}
-use Prim.Native.Nat.{◌+◌, ◌-◌, ◌≤◌}
+use mathlib.Core.Path.{◌∙◌}
 use borrow.Author.Rules.{rules}
-use Rattle.exact.specs.Loop.{up_to}
 use Rattle.exact.proofs.Loop.{up_to_none, up_to_next, up_to_last}
-use Rattle.linear.specs.Eliminate.{clear_row}
 use Rattle.linear.proofs.eliminate.clear_below.Goals as goal
 
 pub loop-row-init : goal.loop-row-init

@@ -10,10 +10,8 @@ pub offset_bounds-a-p : goal.offset_bounds-a-p
 offset_bounds-a-p c = let h : c.pivot-p.result < c.args.n = pivot_row _ _ c.pivot-p.ensures (search rules) in
     search rules
 
--- LOST bounds-1-abs
--- index-1-abs : tie.Need-bounds-1-abs
--- index-1-abs c = let h : c.pivot.result < c.before.before.args.n =
---     pivot_row _ _ c.pivot.ensures (search rules) in search rules
+pub bounds-a-p : goal.bounds-a-p
+bounds-a-p c = let h : c.pivot-p.result < c.args.n = pivot_row _ _ c.pivot-p.ensures (search rules) in search rules
 
 pub returns-then-abs : goal.returns-then-abs
 unfolding outcome column
@@ -21,19 +19,8 @@ returns-then-abs c = rw (← c.pivot-p.ensures, ← c.abs.ensures, c.if-abs.true
 
 pub swap-requires : goal.swap-requires
 swap-requires c =
-    let d = c in
-    let h : d.pivot-p.result < d.args.n = pivot_row _ _ d.pivot-p.ensures (search rules) in
-    search rules
+    let h : c.pivot-p.result < c.args.n = pivot_row _ _ c.pivot-p.ensures (search rules) in search rules
 
 pub returns : goal.returns
 unfolding outcome column
-returns c =
-    let d = c in
-    let e = d in
-    rw (
-      c.clear_below.ensures,
-      d.swap.ensures,
-      ← e.pivot-p.ensures,
-      ← e.abs.ensures,
-      e.if-abs.false,
-    )
+returns c = rw (c.clear_below.ensures, c.swap.ensures, ← c.pivot-p.ensures, ← c.abs.ensures, c.if-abs.false)

@@ -1,6 +1,5 @@
 -- `linear::eliminate::clear_row` meets its contract. The matrix is what `take_row` ensures, at the multiple that was
 -- read before it. Assumes nothing.
-use borrow.Author.Rules.{rules}
 use Rattle.linear.specs.Eliminate.{clear_row}
 use Rattle.linear.proofs.eliminate.clear_row.Goals as goal
 

@@ -1,12 +1,9 @@
 -- `linear::eliminate::pivot` meets its contract. The loop's invariant: the best row is the definition's after the rows
 -- passed, and it is a row among the n. Assumes nothing.
-use mathlib.Core.Path.{◌≡◌, sym, ◌∙◌, subst}
-use Prim.Native.Nat.{ℕ, ◌+◌, ◌-◌, ◌≤◌, ◌<◌}
-use borrow.Author.Rules.{rules}
+use mathlib.Core.Path.{◌≡◌}
+use Prim.Native.Nat.{◌+◌, ◌-◌, ◌≤◌, ◌<◌}
 use Rattle.exact.specs.Loop.{up_to}
-use Rattle.exact.proofs.Loop.{up_to_none, up_to_next, up_to_last}
 use Rattle.linear.specs.Eliminate.{better}
-use Rattle.linear.proofs.EliminateLaws.{better_below}
 use Rattle.linear.proofs.eliminate.pivot.Given as goal
 
 abbrev pub invariant-loop-row : goal.invariant-loop-row

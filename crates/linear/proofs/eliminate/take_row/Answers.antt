@@ -1,9 +1,6 @@
 -- `linear::eliminate::take_row` meets its contract. The loop's invariant: the matrix is the definition's after the
 -- columns passed. Assumes nothing.
-use mathlib.Core.Path.{◌≡◌}
-use Prim.Native.Nat.{◌-◌, ◌≤◌}
 use borrow.Author.Rules.{rules}
-use Rattle.exact.specs.Loop.{up_to}
 use Rattle.exact.proofs.Loop.{up_to_none, up_to_next, up_to_last}
 use Rattle.linear.specs.Eliminate.{take_term}
 use Rattle.linear.proofs.eliminate.take_row.Goals as goal

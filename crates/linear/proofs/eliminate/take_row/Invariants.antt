@@ -2,9 +2,7 @@
 -- columns passed. Assumes nothing.
 use mathlib.Core.Path.{◌≡◌}
 use Prim.Native.Nat.{◌-◌, ◌≤◌}
-use borrow.Author.Rules.{rules}
 use Rattle.exact.specs.Loop.{up_to}
-use Rattle.exact.proofs.Loop.{up_to_none, up_to_next, up_to_last}
 use Rattle.linear.specs.Eliminate.{take_term}
 use Rattle.linear.proofs.eliminate.take_row.Given as goal
 

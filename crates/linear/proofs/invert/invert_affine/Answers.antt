@@ -1,7 +1,6 @@
 -- `linear::invert::invert_affine` meets its contract: each way out is the case of the definition that the test took.
 -- Assumes nothing.
 use Rattle.linear.specs.Invert.{invert_affine}
-use borrow.Author.Rules.{rules}
 use Rattle.linear.proofs.invert.invert_affine.Goals as goal
 
 pub returns-then-abs : goal.returns-then-abs

@@ -1,9 +1,6 @@
 -- `linear::normal::add_products` meets its contract. The loop's invariant: the matrix is the definition's after k
 -- turns. Assumes nothing.
-use mathlib.Core.Path.{◌≡◌}
-use Prim.Native.Nat.{◌-◌, ◌≤◌}
 use borrow.Author.Rules.{rules}
-use Rattle.exact.specs.Loop.{up_to}
 use Rattle.exact.proofs.Loop.{up_to_none, up_to_next, up_to_last}
 use Rattle.linear.specs.Normal.{add_product}
 use Rattle.linear.proofs.normal.add_products.Goals as goal

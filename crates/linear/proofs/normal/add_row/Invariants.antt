@@ -1,10 +1,8 @@
 -- `linear::normal::add_row` meets its contract. The loop's invariant: matrix and right-hand side are the definition's
 -- after i turns. Assumes nothing.
-use mathlib.Core.Path.{◌≡◌, ◌∙◌}
+use mathlib.Core.Path.{◌≡◌}
 use Prim.Native.Nat.{◌-◌, ◌≤◌}
-use borrow.Author.Rules.{rules}
 use Rattle.exact.specs.Loop.{up_to}
-use Rattle.exact.proofs.Loop.{up_to_none, up_to_next, up_to_last}
 use Rattle.linear.specs.Normal.{add_term}
 use Rattle.linear.proofs.normal.add_row.Given as goal
 

@@ -1,6 +1,5 @@
 -- `linear::normal::add_term` meets its contract. The matrix is what `add_products` ensures, and the right-hand side the
 -- definition's as written. Assumes nothing.
-use borrow.Author.Rules.{rules}
 use Rattle.linear.specs.Normal.{add_term}
 use Rattle.linear.proofs.normal.add_term.Goals as goal
 

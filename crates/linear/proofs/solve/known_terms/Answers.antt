@@ -1,11 +1,7 @@
 -- `linear::solve::known_terms` meets its contract. The loop's invariant: the sum is the definition's after the terms
 -- passed. Assumes nothing.
-use mathlib.Core.Path.{◌≡◌}
-use Prim.Native.Nat.{◌+◌, ◌-◌, ◌≤◌}
 use borrow.Author.Rules.{rules}
-use Rattle.exact.specs.Loop.{up_to}
 use Rattle.exact.proofs.Loop.{up_to_none, up_to_next, up_to_last}
-use Rattle.linear.specs.Matrix.{nought}
 use Rattle.linear.specs.Solve.{add_known}
 use Rattle.linear.proofs.solve.known_terms.Goals as goal
 

@@ -1,6 +1,5 @@
 -- `linear::solve::solve` meets its contract. Each way out is the case of the definition that `eliminate` answered.
 -- Assumes nothing.
-use borrow.Author.Rules.{rules}
 use borrow.Author.Tests.{not-true, not-false}
 use Rattle.linear.proofs.SolveLaws.{solved_none, solved_some}
 use Rattle.linear.proofs.solve.solve.Goals as goal

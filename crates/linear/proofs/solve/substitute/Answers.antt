@@ -1,12 +1,9 @@
 -- `linear::solve::substitute` meets its contract. The loop's invariant: x is the definition's with the rows from i on
 -- substituted. Assumes nothing.
-use mathlib.Core.Path.{◌≡◌}
-use Prim.Native.Nat.{ℕ, ◌+◌, ◌-◌, ◌≤◌}
+use Prim.Native.Nat.{ℕ, ◌+◌, ◌-◌}
 use borrow.Author.Rules.{rules}
-use Rattle.exact.specs.Loop.{down_to}
 use Rattle.exact.proofs.Loop.{down_to_none, down_to_next, down_to_last}
 use Rattle.linear.specs.Solve.{substitute}
-use Rattle.linear.specs.Matrix.{zeros}
 use Rattle.linear.proofs.solve.substitute.Goals as goal
 
 pub loop-i-init : goal.loop-i-init

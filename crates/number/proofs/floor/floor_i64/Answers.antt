@@ -1,5 +1,5 @@
 -- `number::floor::floor_i64` meets its contract: by the test of the domain. Assumes nothing.
-use Rattle.std.proofs.Common.{sym, rules}
+use Rattle.std.proofs.Common.{sym}
 use Rattle.number.proofs.FloorLaws.{floor_integer_out}
 use Rattle.number.proofs.FloorCode.{inside, outside}
 use Rattle.number.proofs.floor.floor_i64.Goals as goal

@@ -1,6 +1,6 @@
 -- `number::floor::floor_i64_within` meets its contract: the floor is a whole number of at most 31 digits, so that its
 -- float casts to it. Assumes nothing.
-use Rattle.std.proofs.Common.{◌≡◌, ◌^◌, ◌<◌, T, ℤ, sym, ap, ◌∙◌, subst, le_trans, lt_of_le_of_lt, lit<, w64, to_z, of_z, rules}
+use Rattle.std.proofs.Common.{◌≡◌, ◌^◌, ◌<◌, T, ℤ, sym, ap, ◌∙◌, subst, le_trans, lt_of_le_of_lt, lit<, w64, to_z, of_z}
 use mir.ValLaws.{to_z-of_z}
 use lib.Signed.{mag}
 use lib.Ieee.{Float, binary64, of_int, in_signed, to_signed}

@@ -1,6 +1,6 @@
 -- `number::floor::floor_within` meets its contract: f is the floor as a float, and x is not below it. Where f is not
 -- below x either, the two are one float, but for zeros; a zero is its own floor. Assumes nothing.
-use Rattle.std.proofs.Common.{◌≡◌, ℕ, zero, suc, ◌*◌, Bool, true, false, not, T, ℤ, pos, nat_abs, sym, refl, ap, ◌∙◌, subst, true≢false, zero-lt-suc, mul-pos, zero-mul, mul-one, lit≤, eqb→eq, rules}
+use Rattle.std.proofs.Common.{◌≡◌, ℕ, zero, suc, ◌*◌, Bool, true, false, not, T, ℤ, pos, nat_abs, sym, refl, ap, ◌∙◌, subst, true≢false, zero-lt-suc, mul-pos, zero-mul, mul-one, lit≤, eqb→eq}
 use lib.Ieee.{Float, nan, inf, fin, binary64, up, down, below, lt, fits, of_int, in_float}
 use lib.Ieee.Fits.{up_pos, down_pos, of_int-fits}
 use Rattle.exact.proofs.Value.{rescale}

@@ -1,6 +1,6 @@
 -- `number::floor::whole_below` meets its contract: r is a whole number z, the excess is the whole number 1 or 0, and
 -- the difference of the two is exact, and is the floor. Assumes nothing.
-use Rattle.std.proofs.Common.{◌≡◌, Bool, true, false, cond, T, pos, refl, ap, ◌∙◌, lit≤, rules}
+use Rattle.std.proofs.Common.{◌≡◌, Bool, true, false, cond, T, pos, refl, ap, ◌∙◌, lit≤}
 use lib.Ieee.{Float, binary64, lt, of_bits, of_int, in_float}
 use Rattle.exact.specs.Double.{◌⊕◌, ◌⊖◌}
 use Rattle.exact.proofs.Integer.{of_int_sub}

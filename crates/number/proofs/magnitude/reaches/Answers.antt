@@ -1,6 +1,5 @@
 -- `number::magnitude::reaches` meets its contract. A NaN is tested first; else the two magnitudes are compared.
 -- Assumes nothing.
-use Rattle.std.proofs.Common.{rules}
 use Rattle.number.specs.Magnitude.{reaching}
 use Rattle.exact.proofs.Nan.{nan_test}
 use Rattle.number.proofs.magnitude.reaches.Goals as goal

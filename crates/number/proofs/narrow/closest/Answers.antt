@@ -1,5 +1,5 @@
 -- The quotient in the code is the nearest whole number (`closest_quotient`). Assumes nothing.
-use Rattle.std.proofs.Common.{sym, rules}
+use Rattle.std.proofs.Common.{sym}
 use Rattle.exact.proofs.Closest.{closest_quotient}
 use Rattle.number.proofs.narrow.closest.Goals as goal
 

@@ -1,5 +1,5 @@
 -- What differs from itself is a NaN, and so is 0 / 0; the rest are numbers. Assumes nothing.
-use Rattle.std.proofs.Common.{T, sym, ap, ◌∙◌, subst, rules}
+use Rattle.std.proofs.Common.{T, sym, ap, ◌∙◌, subst}
 use lib.Ieee.{binary32}
 use lib.Ieee.Compare.{differs_from_itself}
 use Rattle.exact.proofs.Nan.{number_test, zero_by_zero}

@@ -1,6 +1,6 @@
 -- Between the two bounds the bits are a pattern without a sign, and its 29 digits fewer are the answer's bits
 -- (`narrow_bits`). Assumes nothing.
-use Rattle.std.proofs.Common.{◌≡◌, ℕ, ◌+◌, ◌*◌, ◌/◌, ◌%◌, ◌<◌, ◌≤◌, not, T, sym, ap, ◌∙◌, subst, le_trans, arith, rules, ltb-true}
+use Rattle.std.proofs.Common.{◌≡◌, ℕ, ◌+◌, ◌*◌, ◌/◌, ◌%◌, ◌<◌, ◌≤◌, not, T, sym, ap, ◌∙◌, subst, le_trans, arith, ltb-true}
 use native.Mathlib.Nat.{mod-le}
 use lib.Ieee.{Float, binary32, binary64, of_bits, to_bits, fits, is_nan}
 use Rattle.exact.proofs.Patterns.{pattern_number}

@@ -1,6 +1,6 @@
 -- Rounding 29 digits off the whole pattern rounds them off the significand, and 896 fewer in the field is the other
 -- bias (`ordinary_bits`). Assumes nothing.
-use Rattle.std.proofs.Common.{ℕ, ◌-◌, sym, ap, ◌∙◌, arith, rules}
+use Rattle.std.proofs.Common.{ℕ, ◌-◌, sym, ap, ◌∙◌, arith}
 use Rattle.number.proofs.NarrowBits.{ordinary_bits, ordinary_least}
 use Rattle.number.proofs.narrow.ordinary.Goals as goal
 

@@ -1,6 +1,6 @@
 -- The bits of a number are its sign's bit and a pattern, and narrowing goes from pattern to pattern under the same sign
 -- (`narrow_bits`). Assumes nothing.
-use Rattle.std.proofs.Common.{◌+◌, ◌*◌, ◌/◌, ◌%◌, ◌<◌, T, sym, subst, arith, rules}
+use Rattle.std.proofs.Common.{◌+◌, ◌*◌, ◌/◌, ◌%◌, ◌<◌, T, sym, subst, arith}
 use lib.Ieee.{binary64, to_bits, fits}
 use lib.Ieee.Bits.{to_bits-lt}
 use Rattle.number.proofs.NarrowBits.{bits_le, bits_number, narrow_bits, narrow_no_nan}

@@ -1,6 +1,6 @@
 -- In units of 2 ^ -149 the value is the significand over a power of two (`subnormal_bits`), or less than half
 -- (`zero_bits`). The rest is that the shift makes that power. Assumes nothing.
-use Rattle.std.proofs.Common.{◌≡◌, ℕ, zero, suc, ◌+◌, ◌-◌, ◌*◌, ◌/◌, ◌%◌, ◌^◌, ◌<◌, ◌≤◌, sym, ap, ◌∙◌, subst, lt_irrefl, one-mul, pow-suc, arith, pow_pos, pow_mono, shl_exact, rules}
+use Rattle.std.proofs.Common.{◌≡◌, ℕ, zero, suc, ◌+◌, ◌-◌, ◌*◌, ◌/◌, ◌%◌, ◌^◌, ◌<◌, ◌≤◌, sym, ap, ◌∙◌, subst, lt_irrefl, one-mul, pow-suc, arith, pow_pos, pow_mono, shl_exact}
 use native.Mathlib.Nat.{mul-mod_left}
 use lib.Ieee.Nearest.{closest}
 use Rattle.number.proofs.NarrowBits.{subnormal_bits}

@@ -1,7 +1,7 @@
 -- `number::root::by_digits` meets its contract. The invariant is the classic one: the number is the square of the root
 -- so far, the remainder and the digits to come (`RootDigits.antt`). After the last turn root and remainder are those of
 -- the whole number. Assumes nothing.
-use Rattle.std.proofs.Common.{◌≡◌, ℕ, ◌+◌, ◌*◌, ◌^◌, ◌<◌, ◌≤◌, cond, ltb, sym, ◌∙◌, subst, ⊎_elim, arith, rules, le-ltb, lt-ltb}
+use Rattle.std.proofs.Common.{◌≡◌, ℕ, ◌+◌, ◌*◌, ◌^◌, ◌<◌, ◌≤◌, cond, ltb, sym, ◌∙◌, subst, arith, le-ltb, lt-ltb}
 use Rattle.number.specs.Root.{nearest_root}
 use Rattle.number.proofs.RootScale.{raised_lt}
 use Rattle.number.proofs.RootWhole.{nearest_from}
@@ -50,10 +50,10 @@ loop-left-preserved c =
     let l = c.loop-left in
     let a = c.args.n * 2 ^ 52 in
     elim c.if-s-r.branch [
-      then-s-r w ↦ same a _ _ _ _ _ _ w.s-is w.r-is
-        (turn_one a l.s l.r l.rest l.left l.invariant c.loop-left-test.true w.if-s-r.true)
-    | else-s-r w ↦ same a _ _ _ _ _ _ w.s-is w.r-is
-        (turn_zero a l.s l.r l.rest l.left l.invariant c.loop-left-test.true w.if-s-r.false)
+      | then-s-r w ↦ same a _ _ _ _ _ _ w.s-is w.r-is
+          (turn_one a l.s l.r l.rest l.left l.invariant c.loop-left-test.true w.if-s-r.true)
+      | else-s-r w ↦ same a _ _ _ _ _ _ w.s-is w.r-is
+          (turn_zero a l.s l.r l.rest l.left l.invariant c.loop-left-test.true w.if-s-r.false)
     ]
 
 -- the answer, by the last comparison

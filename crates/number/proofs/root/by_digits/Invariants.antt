@@ -1,11 +1,8 @@
 -- `number::root::by_digits` meets its contract. The invariant is the classic one: the number is the square of the root
 -- so far, the remainder and the digits to come (`RootDigits.antt`). After the last turn root and remainder are those of
 -- the whole number. Assumes nothing.
-use Rattle.std.proofs.Common.{◌≡◌, ℕ, ◌+◌, ◌*◌, ◌^◌, ◌<◌, cond, ltb, sym, ◌∙◌, subst, ⊎_elim, arith, rules, le-ltb, lt-ltb}
-use Rattle.number.specs.Root.{nearest_root}
-use Rattle.number.proofs.RootScale.{raised_lt}
-use Rattle.number.proofs.RootWhole.{nearest_from}
-use Rattle.number.proofs.RootDigits.{Digits, start, turn_one, turn_zero, root_lt, done}
+use Rattle.std.proofs.Common.{◌*◌, ◌^◌}
+use Rattle.number.proofs.RootDigits.{Digits}
 use Rattle.number.proofs.root.by_digits.Given as goal
 
 abbrev pub invariant-loop-left : goal.invariant-loop-left

@@ -1,5 +1,5 @@
 -- `number::root::exponent` meets its contract, by its one test. Assumes nothing.
-use Rattle.std.proofs.Common.{rules, le-ltb, lt-ltb}
+use Rattle.std.proofs.Common.{le-ltb, lt-ltb}
 use Rattle.number.proofs.root.exponent.Goals as goal
 
 pub returns-then-bits-lt-DIGITS : goal.returns-then-bits-lt-DIGITS

@@ -1,7 +1,7 @@
 -- `number::root::guess` is safe: half of a seed's pattern can be taken from the constant, and what is left is below the
 -- infinity's pattern. Its result is the float expression that the definition writes out; nothing rests on how close
 -- that is. Assumes nothing.
-use Rattle.std.proofs.Common.{◌-◌, ◌/◌, arith, rules}
+use Rattle.std.proofs.Common.{◌-◌, ◌/◌, arith}
 use lib.Ieee.{binary64, to_bits}
 use Rattle.exact.proofs.Patterns.{pattern_number}
 use Rattle.number.specs.Root.{guess}

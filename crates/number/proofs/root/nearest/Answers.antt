@@ -1,5 +1,4 @@
 -- `number::root::nearest` meets its contract: what the exact test passes is the nearest root. Assumes nothing.
-use Rattle.std.proofs.Common.{rules}
 use Rattle.exact.proofs.Nan.{number_test}
 use Rattle.number.proofs.root.nearest.Goals as goal
 

@@ -1,6 +1,5 @@
 -- `number::root::neighbour` meets its contract: what the exact test passes is the nearest root, and where it passes
 -- neither neighbour the root is worked out by its digits. Assumes nothing.
-use Rattle.std.proofs.Common.{rules}
 use Rattle.number.proofs.root.neighbour.Goals as goal
 
 pub returns-then-settles : goal.returns-then-settles

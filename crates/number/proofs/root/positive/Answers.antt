@@ -1,6 +1,6 @@
 -- `number::root::positive` meets its contract: the pattern's significand and place are the number's units, and the
 -- steps on them are those of the definition (`RootPositive.antt`). Assumes nothing.
-use Rattle.std.proofs.Common.{◌≡◌, true, ℕ, ◌+◌, ◌-◌, ◌*◌, ◌/◌, ◌%◌, ◌^◌, ◌<◌, ◌≤◌, T, sym, ap, ◌∙◌, subst, arith, rules}
+use Rattle.std.proofs.Common.{◌≡◌, true, ℕ, ◌+◌, ◌-◌, ◌*◌, ◌/◌, ◌%◌, ◌^◌, ◌<◌, ◌≤◌, T, sym, ap, ◌∙◌, subst, arith}
 use lib.Count.{count_leading_zeros, leading_le}
 use lib.Ieee.{Float, binary64, fits, of_bits}
 use Rattle.exact.proofs.Patterns.{pattern_number}

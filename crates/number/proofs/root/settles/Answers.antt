@@ -1,6 +1,6 @@
 -- `number::root::settles` meets its contract: the products fit, and where all tests pass no difference wrapped, so that
 -- the last one says that q is the nearest root (`RootSettle.antt`). Assumes nothing.
-use Rattle.std.proofs.Common.{ℕ, ◌*◌, ◌/◌, ◌%◌, ◌^◌, ◌<◌, ◌≤◌, arith, rules, ltb-true}
+use Rattle.std.proofs.Common.{ℕ, ◌*◌, ◌/◌, ◌%◌, ◌^◌, ◌<◌, ◌≤◌, arith, ltb-true}
 use Rattle.exact.proofs.Booleans.{both}
 use Rattle.number.proofs.RootSettle.{product_le, settled}
 use Rattle.number.proofs.root.settles.Goals as goal

@@ -1,7 +1,7 @@
 -- `number::wrapping::wrapping_mul` meets its contract. With a and b cut into halves of 32 bits, a * b is what the code
 -- adds up and a multiple of 2^64: the product of the upper halves, and what the crossed products have above 32 bits.
 -- Assumes nothing.
-use Rattle.std.proofs.Common.{◌≡◌, ℕ, ◌+◌, ◌*◌, ◌/◌, ◌%◌, ◌^◌, ◌<◌, sym, ap, ◌∙◌, lt_of_le_of_lt, le_of_lt, mul-le-mul_left, mul-lt-mul_of_pos_right, div-add-mod', arith, lit<, rules}
+use Rattle.std.proofs.Common.{◌≡◌, ℕ, ◌+◌, ◌*◌, ◌/◌, ◌%◌, ◌^◌, ◌<◌, sym, ap, ◌∙◌, lt_of_le_of_lt, le_of_lt, mul-le-mul_left, mul-lt-mul_of_pos_right, div-add-mod', arith, lit<}
 use native.Mathlib.Nat.{mul-add-mod_self_left}
 use Rattle.number.proofs.wrapping.wrapping_mul.Goals as goal
 

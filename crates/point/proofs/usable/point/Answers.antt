@@ -1,5 +1,4 @@
 -- `point::usable::point` meets its contract by what `usable` ensures. Assumes nothing.
-use borrow.Author.Rules.{rules}
 use Rattle.point.proofs.usable.point.Goals as goal
 
 pub returns : goal.returns

@@ -1,6 +1,5 @@
 -- `point::usable::point_unless` meets its contract: none is the point of two NaNs. Assumes nothing.
 use mathlib.Core.Path.{◌∙◌}
-use borrow.Author.Rules.{rules}
 use Rattle.point.proofs.WholeLaws.{by_number}
 use Rattle.point.proofs.usable.point_unless.Goals as goal
 

@@ -1,5 +1,4 @@
 -- `point::usable::usable` meets its contract by what `abs` ensures, twice. Assumes nothing.
-use borrow.Author.Rules.{rules}
 use Rattle.number.specs.Magnitude.{within}
 use Rattle.point.specs.Point.{usable}
 use Rattle.point.proofs.usable.usable.Goals as goal

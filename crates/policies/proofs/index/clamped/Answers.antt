@@ -2,7 +2,6 @@
 use borrow.Author.Tests.{lt-ltb, le-ltb}
 use Rattle.policies.specs.Index.{clamped}
 use Rattle.policies.proofs.IndexCode.{signed_from, signed_back}
-use borrow.Author.Rules.{rules}
 use Rattle.policies.proofs.index.clamped.Goals as goal
 
 pub returns-then-v-ge9223372036854775808 : goal.returns-then-v-ge9223372036854775808

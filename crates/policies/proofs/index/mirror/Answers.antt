@@ -4,7 +4,6 @@ use native.Mathlib.Omega.{arith}
 use borrow.Author.Tests.{lt-ltb, le-ltb}
 use Rattle.policies.specs.Index.{signed, mirror}
 use Rattle.policies.proofs.IndexLaws.{tile_lt}
-use borrow.Author.Rules.{rules}
 use Rattle.policies.proofs.index.mirror.Goals as goal
 
 pub overflow_sub-result-else-m-n : goal.overflow_sub-result-else-m-n

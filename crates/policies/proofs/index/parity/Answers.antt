@@ -5,7 +5,6 @@ use Prim.Native.Nat.{ℕ, ◌+◌, ◌-◌, ◌%◌}
 use native.Mathlib.Omega.{arith}
 use Rattle.policies.specs.Index.{parity}
 use Rattle.policies.proofs.IndexCode.{signed_from, signed_back}
-use borrow.Author.Rules.{rules}
 use Rattle.policies.proofs.index.parity.Goals as goal
 
 turned : (q : ℕ) → 1 - q % 2 ≡ (q + 1) % 2

@@ -4,7 +4,6 @@ use native.Mathlib.Nat.{mod-lt}
 use native.Mathlib.Omega.{arith}
 use Rattle.policies.specs.Index.{tile}
 use Rattle.policies.proofs.IndexCode.{signed_from, signed_back}
-use borrow.Author.Rules.{rules}
 use Rattle.policies.proofs.index.tile.Goals as goal
 
 pub overflow_sub-result-then-v-ge9223372036854775808-2 : goal.overflow_sub-result-then-v-ge9223372036854775808-2

@@ -1,7 +1,6 @@
 -- `policies::named::checker_tile` meets its contract: two parities are equal where their sum is even. Assumes nothing.
 use Rattle.policies.proofs.IndexLaws.{parity_lt}
 use Rattle.policies.proofs.NamedCode.{same_parity, other_parity}
-use borrow.Author.Rules.{rules}
 use Rattle.policies.proofs.named.checker_tile.Goals as goal
 
 pub returns-then-parity : goal.returns-then-parity

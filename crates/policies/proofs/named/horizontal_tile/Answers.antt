@@ -1,6 +1,5 @@
 -- `policies::named::horizontal_tile` meets its contract, by its one test. Assumes nothing.
 use Rattle.policies.proofs.IndexCode.{signed_inside, within_yes, within_no}
-use borrow.Author.Rules.{rules}
 use Rattle.policies.proofs.named.horizontal_tile.Goals as goal
 
 pub returns-then-y-h : goal.returns-then-y-h

@@ -1,7 +1,6 @@
 -- `policies::named::random` meets its contract: the mix of the bits, reduced. Assumes nothing.
 use Rattle.policies.specs.Named.{picked}
 use Rattle.policies.proofs.IndexCode.{bits_signed}
-use borrow.Author.Rules.{rules}
 use Rattle.policies.proofs.named.random.Goals as goal
 
 pub returns : goal.returns

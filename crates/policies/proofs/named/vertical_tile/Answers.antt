@@ -1,6 +1,5 @@
 -- `policies::named::vertical_tile` meets its contract, by its one test. Assumes nothing.
 use Rattle.policies.proofs.IndexCode.{signed_inside, within_yes, within_no}
-use borrow.Author.Rules.{rules}
 use Rattle.policies.proofs.named.vertical_tile.Goals as goal
 
 pub returns-then-x-w : goal.returns-then-x-w

@@ -1,6 +1,5 @@
 -- `policies::random::mix` meets its contract: the products are the callee's, the rest is as written. Assumes nothing.
 use Rattle.policies.specs.Random.{mix, folded}
-use borrow.Author.Rules.{rules}
 use Rattle.policies.proofs.random.mix.Goals as goal
 
 pub returns : goal.returns

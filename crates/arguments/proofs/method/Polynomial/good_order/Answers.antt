@@ -1,5 +1,4 @@
 -- `Polynomial::good_order` is its definition: the bilinear order, or one that has a degree. Assumes nothing.
-use borrow.Author.Rules.{rules}
 use Rattle.arguments.specs.Order.{good_order}
 use Rattle.arguments.proofs.method.Polynomial.good_order.Goals as goal
 

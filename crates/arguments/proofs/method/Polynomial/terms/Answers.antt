@@ -1,7 +1,6 @@
 -- `Polynomial::terms` is its definition: four terms for the bilinear order, else the triangle number of a degree that
 -- is at most 5, so that its product fits. Assumes nothing.
 use native.Mathlib.Omega.{arith}
-use borrow.Author.Rules.{rules}
 use Rattle.arguments.specs.Order.{terms_of}
 use Rattle.arguments.proofs.OrderLaws.{degree_range, terms_twice}
 use Rattle.arguments.proofs.method.Polynomial.terms.Goals as goal

@@ -1,0 +1,52 @@
+-- `fast_cells::cells::nearest_places` meets its contract. The loop's invariant: the first k places are filled in,
+-- if the answer is still true, and it is where each point passed. Assumes nothing.
+use mathlib.Core.Path.{sym, ap, ◌∙◌, subst}
+use mathlib.Core.Bool.{◌&&◌}
+use Prim.Native.Nat.{◌-◌, ◌≤◌}
+use borrow.Author.Rules.{rules}
+use lib.Ieee.{Float}
+use Rattle.point.specs.declared.point.Point.{Point}
+use Rattle.point.specs.Point.{Whole}
+use Rattle.point.proofs.WholeLaws.{point_whole}
+use Rattle.taps.specs.Interpolation.{Nearest}
+use Rattle.fast_cells.specs.Cells.{Place}
+use Rattle.fast_cells.specs.Inner.{has_place}
+use Rattle.fast_cells.proofs.CellsLaws.{of_point}
+use Rattle.fast_cells.proofs.PlacesLaws.{Placing, place_none, place_more, place_last}
+use Rattle.fast_cells.proofs.TestLaws.{Passing, pass_none, pass_more, pass_last}
+use Rattle.fast_cells.proofs.cells.nearest_places.Goals as goal
+
+pub loop-k-init : goal.loop-k-init
+loop-k-init c = ((place_none _ _ _ (search rules), place_none _ _ _ (search rules)), (pass_none _ _, search rules))
+
+pub nearest_of-c-requires : goal.nearest_of-c-requires
+nearest_of-c-requires c = record { whole = subst Whole (sym c.point.ensures) (point_whole _ _); wide_le_widest_reach = c.requires.wide_le_widest_reach }
+
+pub loop-k-preserved : goal.loop-k-preserved
+loop-k-preserved c =
+    let head = c in
+    let reach = head.args.reach in
+    let e = c.point.ensures in
+    let r = c.nearest_of-c.result in
+    let C = of_point (λ (u : Float). Place Nearest reach.wide u r.column)
+    (λ (v : Float). Place Nearest reach.high v r.row) e c.nearest_of-c.ensures.place in (
+      (
+        place_more _ _ head.loop-k.k (search rules) (λ h. (C h).0) head.loop-k.invariant.0.0,
+        place_more _ _ head.loop-k.k (search rules) (λ h. (C h).1) head.loop-k.invariant.0.1,
+      ),
+      (
+        pass_more _ _ head.loop-k.k (c.nearest_of-c.ensures.inside_value
+            ∙ ap (λ (p : Point). has_place reach.wide p.u && has_place reach.high p.v) e)
+            head.loop-k.invariant.1.0,
+        search rules,
+      ),
+    )
+
+pub returns : goal.returns
+returns c = let s = c.loop-k in record {
+  places = λ h. (
+    place_last _ _ s.k _ _ (search rules) s.invariant.0.0 h,
+    place_last _ _ s.k _ _ (search rules) s.invariant.0.1 h,
+  );
+  value = pass_last _ _ s.k _ s.invariant.1.1 s.invariant.1.0;
+}

@@ -1,0 +1,15 @@
+-- `fast_points::barrels::barrel_moved` meets its contract. The loop's invariant: the first k points are there. Assumes
+-- nothing.
+use Rattle.inverse.specs.Barrel.{barrel_from}
+use Rattle.inverse.proofs.WholePoints.{barrel_whole}
+use Rattle.fast_points.proofs.FillLaws.{Filling, fill_none, fill_more, fill_last}
+use Prim.Native.Nat.{ℕ, ◌-◌, ◌≤◌}
+use Rattle.exact.specs.Vector.{at}
+use borrow.Author.Rules.{rules}
+use Rattle.fast_points.proofs.barrels.barrel_moved.Given as goal
+
+abbrev pub invariant-loop-k : goal.invariant-loop-k
+invariant-loop-k l = Filling (λ (i : ℕ). barrel_from l.coef l.dy (at l.ds i) (at l.rs i)) l.k l.us l.vs × (l.k ≤ l.n)
+
+abbrev pub decreases-loop-k : goal.decreases-loop-k
+decreases-loop-k l = l.n - l.k

@@ -1,0 +1,18 @@
+-- `fast_points::barrels::guesses` meets its contract. The loop's invariant: the first k guesses are there. Assumes
+-- nothing.
+use Rattle.number.specs.Root.{guess}
+use Rattle.fast_points.proofs.BarrelLaws.{Mapping, each_none, each_more, each_last}
+use Prim.Native.Nat.{◌-◌, ◌≤◌}
+use borrow.Author.Rules.{rules}
+use Rattle.fast_points.proofs.barrels.guesses.Goals as goal
+
+pub loop-k-init : goal.loop-k-init
+loop-k-init c = (each_none _ _ (search rules), search rules)
+
+pub loop-k-preserved : goal.loop-k-preserved
+loop-k-preserved c =
+    let head = c in
+    (each_more _ _ head.loop-k.k c.guess.ensures (search rules) head.loop-k.invariant.0, search rules)
+
+pub returns : goal.returns
+returns c = each_last _ _ c.loop-k.k _ (search rules) c.loop-k.invariant.0

@@ -1,0 +1,16 @@
+-- `fast_points::points::affine_points` meets its contract. The loop's invariant: the first k points are there. Assumes
+-- nothing.
+use lib.Ieee.{Float}
+use Rattle.inverse.specs.Affine.{affine}
+use Rattle.point.proofs.WholeLaws.{point_whole}
+use Rattle.fast_points.specs.Points.{pixel_middle}
+use Rattle.fast_points.proofs.FillLaws.{Filling, fill_none, fill_span, fill_last}
+use Prim.Native.Nat.{ℕ, ◌+◌, ◌-◌, ◌≤◌}
+use borrow.Author.Rules.{rules}
+use Rattle.fast_points.proofs.points.affine_points.Given as goal
+
+abbrev pub invariant-loop-k : goal.invariant-loop-k
+invariant-loop-k l = Filling (λ (i : ℕ). affine l.coef (pixel_middle (l.first + i) l.x) l.y) l.k l.us l.vs × (l.k ≤ l.n)
+
+abbrev pub decreases-loop-k : goal.decreases-loop-k
+decreases-loop-k l = l.n - l.k

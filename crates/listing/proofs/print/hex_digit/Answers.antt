@@ -1,0 +1,13 @@
+-- `listing::print::hex_digit` meets its contract. Each way out is what the definition picks where its tests are as the
+-- code found them. Assumes nothing.
+use borrow.Author.Tests.{lt-ltb, le-ltb}
+use Rattle.listing.specs.Print.{hex_digit}
+use Rattle.listing.proofs.print.hex_digit.Goals as goal
+
+pub returns-then-n-lt10 : goal.returns-then-n-lt10
+unfolding hex_digit
+returns-then-n-lt10 c = simp (lt-ltb _ _ c.if-n-lt10.true)
+
+pub returns : goal.returns
+unfolding hex_digit
+returns c = simp (le-ltb _ _ c.if-n-lt10.false)

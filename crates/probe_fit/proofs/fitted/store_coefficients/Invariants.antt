@@ -1,0 +1,14 @@
+-- `probe_fit::fitted::store_coefficients` meets its contract. The loop's invariant: k coefficients are written, and the
+-- bytes are as many as before. Assumes nothing.
+use Rattle.probe_fit.specs.Fitted.{store_coefficient}
+use Rattle.exact.specs.Loop.{up_to}
+use lib.ListN.{length}
+use mathlib.Core.Path.{◌≡◌}
+use Prim.Native.Nat.{◌-◌, ◌≤◌}
+use Rattle.probe_fit.proofs.fitted.store_coefficients.Given as goal
+
+abbrev pub invariant-loop-k : goal.invariant-loop-k
+invariant-loop-k l = (l.out ≡ up_to (store_coefficient l.coef) 0 l.k l.initial.out) × ((length l.out ≡ length l.initial.out) × (l.k ≤ l.n))
+
+abbrev pub decreases-loop-k : goal.decreases-loop-k
+decreases-loop-k l = l.n - l.k

@@ -1,0 +1,6 @@
+-- The float of the bits, the tool, the bits again: what the three calls ensure, one after the other. Assumes nothing.
+use borrow.Author.Rules.{rules}
+use Rattle.probe_number.proofs.number_tools.probe_root.Goals as goal
+
+pub returns : goal.returns
+returns c = cc

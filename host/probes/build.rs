@@ -20,7 +20,7 @@ fn main() {
         println!("cargo::rerun-if-changed={}", archive.display());
         if !archive.is_file() {
             println!(
-                "cargo::error=lib{name}.a is not in {}: run `rt staticlib {name}` at the project's root first",
+                "cargo::error=lib{name}.a is not in {}: run `tools/archive {name}` at the project's root first",
                 folder.display()
             );
             return;

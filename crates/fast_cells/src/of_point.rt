@@ -12,7 +12,7 @@ use point::point::Point;
 
 // The column and the row below a point in index space, how far it lies beyond them, and whether it has a cell: if not,
 // the four numbers say nothing.
-#[derive(Drop)]
+#[derive(Clone, Copy)]
 pub struct Cell {
     pub column: u32,
     pub row: u32,
@@ -22,7 +22,7 @@ pub struct Cell {
 }
 
 // The column and the row of the one tap, and whether there is one.
-#[derive(Drop)]
+#[derive(Clone, Copy)]
 pub struct Place {
     pub column: u32,
     pub row: u32,

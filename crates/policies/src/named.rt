@@ -14,7 +14,7 @@ use crate::random::mix;
 use endian::pattern::bits_of_i64;
 
 // A pixel by its column and row, or a colour by its kind.
-#[derive(Drop)]
+#[derive(Clone, Copy)]
 pub enum Tap {
     Pixel(u64, u64),
     Background,

@@ -11,7 +11,7 @@ use picture::pixel::pixel_at;
 use picture::shape::Shape;
 
 // How a picture is read: what stands outside it, how it is read between its pixels, and the background's colour.
-#[derive(Drop)]
+#[derive(Clone, Copy)]
 pub struct Sampler {
     pub policy: u64,
     pub code: u64,

@@ -8,7 +8,7 @@ use number::magnitude::abs_f32;
 use picture::colour::Rgba;
 
 // The Rust's `acc` and `wsum`.
-#[derive(Drop)]
+#[derive(Clone, Copy)]
 pub struct Sums {
     pub r: f32,
     pub g: f32,

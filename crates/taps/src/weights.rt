@@ -39,7 +39,7 @@ fn products(wx: [f32; 4], wy: [f32; 4]) -> [f32; 16]
 }
 
 // The weights of the four taps of `Bilinear`: the cell's own pixel, the next, and both in the row after; and their sum.
-#[derive(Drop)]
+#[derive(Clone, Copy)]
 pub struct BilinearWeights {
     pub w00: f32,
     pub w10: f32,

@@ -1,8 +1,7 @@
 -- `fast_cells::cells::cells` meets its contract. The loop's invariant: the first k cells are filled in, if the answer
--- is still true, and it is where each point passed. Assumes nothing.
+-- is still true, and it is where each point passed.
 use mathlib.Core.Path.{sym, ap, ◌∙◌, subst}
 use mathlib.Core.Bool.{◌&&◌}
-use Prim.Native.Nat.{◌-◌, ◌≤◌}
 use borrow.Author.Rules.{rules}
 use lib.Ieee.{Float}
 use Rattle.point.specs.declared.point.Point.{Point}
@@ -10,8 +9,8 @@ use Rattle.point.specs.Point.{Whole}
 use Rattle.point.proofs.WholeLaws.{point_whole}
 use Rattle.fast_cells.specs.Cells.{CellOf}
 use Rattle.fast_cells.specs.Inner.{has_cell}
-use Rattle.fast_cells.proofs.CellsLaws.{Filling, fill_none, fill_more, fill_last, of_point}
-use Rattle.fast_cells.proofs.TestLaws.{Passing, pass_none, pass_more, pass_last}
+use Rattle.fast_cells.proofs.CellsLaws.{fill_none, fill_more, fill_last, of_point}
+use Rattle.fast_cells.proofs.TestLaws.{pass_none, pass_more, pass_last}
 use Rattle.fast_cells.proofs.cells.cells.Goals as goal
 
 pub loop-k-init : goal.loop-k-init
@@ -25,20 +24,19 @@ cell_of-c-requires c = record { whole = subst Whole (sym c.point.ensures) (point
 
 pub loop-k-preserved : goal.loop-k-preserved
 loop-k-preserved c =
-    let head = c in
-    let reach = head.args.reach in
+    let reach = c.args.reach in
     let e = c.point.ensures in
     let r = c.cell_of-c.result in
     let C = of_point (λ (u : Float). CellOf reach.wide u r.column r.x)
     (λ (v : Float). CellOf reach.high v r.row r.y) e c.cell_of-c.ensures.cell_of in (
       (
-        fill_more _ head.loop-k.k (search rules) (λ h. (C h).0) head.loop-k.invariant.0.0,
-        fill_more _ head.loop-k.k (search rules) (λ h. (C h).1) head.loop-k.invariant.0.1,
+        fill_more _ c.loop-k.k (search rules) (λ h. (C h).0) c.loop-k.invariant.0.0,
+        fill_more _ c.loop-k.k (search rules) (λ h. (C h).1) c.loop-k.invariant.0.1,
       ),
       (
-        pass_more _ _ head.loop-k.k (c.cell_of-c.ensures.inside_value
+        pass_more _ _ c.loop-k.k (c.cell_of-c.ensures.inside_value
             ∙ ap (λ (p : Point). has_cell reach.wide p.u && has_cell reach.high p.v) e)
-            head.loop-k.invariant.1.0,
+            c.loop-k.invariant.1.0,
         search rules,
       ),
     )

@@ -1,17 +1,9 @@
 -- `fast_cells::cells::cells` meets its contract. The loop's invariant: the first k cells are filled in, if the answer
 -- is still true, and it is where each point passed. Assumes nothing.
-use mathlib.Core.Path.{sym, ap, ◌∙◌, subst}
-use mathlib.Core.Bool.{◌&&◌}
 use Prim.Native.Nat.{◌-◌, ◌≤◌}
-use borrow.Author.Rules.{rules}
-use lib.Ieee.{Float}
-use Rattle.point.specs.declared.point.Point.{Point}
-use Rattle.point.specs.Point.{Whole}
-use Rattle.point.proofs.WholeLaws.{point_whole}
-use Rattle.fast_cells.specs.Cells.{CellOf}
 use Rattle.fast_cells.specs.Inner.{has_cell}
-use Rattle.fast_cells.proofs.CellsLaws.{Filling, fill_none, fill_more, fill_last, of_point}
-use Rattle.fast_cells.proofs.TestLaws.{Passing, pass_none, pass_more, pass_last}
+use Rattle.fast_cells.proofs.CellsLaws.{Filling}
+use Rattle.fast_cells.proofs.TestLaws.{Passing}
 use Rattle.fast_cells.proofs.cells.cells.Given as goal
 
 abbrev pub invariant-loop-k : goal.invariant-loop-k

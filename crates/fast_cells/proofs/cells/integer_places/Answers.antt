@@ -1,8 +1,7 @@
 -- `fast_cells::cells::integer_places` meets its contract. The loop's invariant: the first k places are filled in,
--- if the answer is still true, and it is where each point passed. Assumes nothing.
+-- if the answer is still true, and it is where each point passed.
 use mathlib.Core.Path.{sym, ap, ◌∙◌, subst}
 use mathlib.Core.Bool.{◌&&◌}
-use Prim.Native.Nat.{◌-◌, ◌≤◌}
 use borrow.Author.Rules.{rules}
 use lib.Ieee.{Float}
 use Rattle.point.specs.declared.point.Point.{Point}
@@ -12,8 +11,8 @@ use Rattle.taps.specs.Interpolation.{Integer}
 use Rattle.fast_cells.specs.Cells.{Place}
 use Rattle.fast_cells.specs.Inner.{has_cell}
 use Rattle.fast_cells.proofs.CellsLaws.{of_point}
-use Rattle.fast_cells.proofs.PlacesLaws.{Placing, place_none, place_more, place_last}
-use Rattle.fast_cells.proofs.TestLaws.{Passing, pass_none, pass_more, pass_last}
+use Rattle.fast_cells.proofs.PlacesLaws.{place_none, place_more, place_last}
+use Rattle.fast_cells.proofs.TestLaws.{pass_none, pass_more, pass_last}
 use Rattle.fast_cells.proofs.cells.integer_places.Goals as goal
 
 pub loop-k-init : goal.loop-k-init
@@ -24,20 +23,19 @@ integer_of-c-requires c = record { whole = subst Whole (sym c.point.ensures) (po
 
 pub loop-k-preserved : goal.loop-k-preserved
 loop-k-preserved c =
-    let head = c in
-    let reach = head.args.reach in
+    let reach = c.args.reach in
     let e = c.point.ensures in
     let r = c.integer_of-c.result in
     let C = of_point (λ (u : Float). Place Integer reach.wide u r.column)
     (λ (v : Float). Place Integer reach.high v r.row) e c.integer_of-c.ensures.place in (
       (
-        place_more _ _ head.loop-k.k (search rules) (λ h. (C h).0) head.loop-k.invariant.0.0,
-        place_more _ _ head.loop-k.k (search rules) (λ h. (C h).1) head.loop-k.invariant.0.1,
+        place_more _ _ c.loop-k.k (search rules) (λ h. (C h).0) c.loop-k.invariant.0.0,
+        place_more _ _ c.loop-k.k (search rules) (λ h. (C h).1) c.loop-k.invariant.0.1,
       ),
       (
-        pass_more _ _ head.loop-k.k (c.integer_of-c.ensures.inside_value
+        pass_more _ _ c.loop-k.k (c.integer_of-c.ensures.inside_value
             ∙ ap (λ (p : Point). has_cell reach.wide p.u && has_cell reach.high p.v) e)
-            head.loop-k.invariant.1.0,
+            c.loop-k.invariant.1.0,
         search rules,
       ),
     )

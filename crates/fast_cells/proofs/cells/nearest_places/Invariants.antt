@@ -1,19 +1,10 @@
 -- `fast_cells::cells::nearest_places` meets its contract. The loop's invariant: the first k places are filled in,
 -- if the answer is still true, and it is where each point passed. Assumes nothing.
-use mathlib.Core.Path.{sym, ap, ◌∙◌, subst}
-use mathlib.Core.Bool.{◌&&◌}
 use Prim.Native.Nat.{◌-◌, ◌≤◌}
-use borrow.Author.Rules.{rules}
-use lib.Ieee.{Float}
-use Rattle.point.specs.declared.point.Point.{Point}
-use Rattle.point.specs.Point.{Whole}
-use Rattle.point.proofs.WholeLaws.{point_whole}
 use Rattle.taps.specs.Interpolation.{Nearest}
-use Rattle.fast_cells.specs.Cells.{Place}
 use Rattle.fast_cells.specs.Inner.{has_place}
-use Rattle.fast_cells.proofs.CellsLaws.{of_point}
-use Rattle.fast_cells.proofs.PlacesLaws.{Placing, place_none, place_more, place_last}
-use Rattle.fast_cells.proofs.TestLaws.{Passing, pass_none, pass_more, pass_last}
+use Rattle.fast_cells.proofs.PlacesLaws.{Placing}
+use Rattle.fast_cells.proofs.TestLaws.{Passing}
 use Rattle.fast_cells.proofs.cells.nearest_places.Given as goal
 
 abbrev pub invariant-loop-k : goal.invariant-loop-k

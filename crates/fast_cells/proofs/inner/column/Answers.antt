@@ -1,5 +1,5 @@
 -- `fast_cells::inner::column` meets its contract: the floor is a natural number of 16 bits, so that its float casts to
--- it. Assumes nothing.
+-- it.
 use mathlib.Core.Path.{◌≡◌, sym, ap, ◌∙◌, subst}
 use native.Mathlib.Nat.{le_trans, le_of_lt, lt_of_lt_of_le}
 use lib.Dec.{T, lit≤}

@@ -1,5 +1,5 @@
 -- `fast_cells::inner::fraction_of` meets its contract: the whole number below z is its floor, and what is left is
--- short. Assumes nothing.
+-- short.
 use mathlib.Core.Path.{sym, ◌∙◌}
 use Rattle.fast_cells.proofs.inner.fraction_of.Goals as goal
 

@@ -1,6 +1,5 @@
--- `fast_cells::inner::has_cell` meets its contract: `reach` is a whole number that an f64 holds. Assumes nothing.
+-- `fast_cells::inner::has_cell` meets its contract: `reach` is a whole number that an f64 holds.
 use native.Mathlib.Nat.{le_trans}
-use borrow.Author.Rules.{rules}
 use lib.Dec.{lit≤}
 use lib.IntN.{pos}
 use lib.Ieee.{binary64}

@@ -1,13 +1,7 @@
 -- `fast_cells::inner::narrow_short` meets its contract: what is left of the pattern is that of the f32 next to d
--- (`short_cut`). Assumes nothing.
-use Rattle.fast_cells.proofs.ShortLaws.{short_bits, short_number, short_plain, short_held, short_cut}
+-- (`short_cut`).
+use Rattle.fast_cells.proofs.ShortLaws.{short_bits, short_plain, short_held, short_cut}
 use Rattle.fast_cells.proofs.inner.narrow_short.Goals as goal
-
-pub float_to_bits-d : goal.float_to_bits-d
-float_to_bits-d c = short_number _ c.requires
-
-pub without_low_digits-requires : goal.without_low_digits-requires
-without_low_digits-requires c = short_bits _ c.requires
 
 pub float_from_bits-result : goal.float_from_bits-result
 float_from_bits-result c = rw c.without_low_digits.ensures (short_plain _ c.requires)
@@ -17,3 +11,6 @@ float_to_float-result c = rw c.without_low_digits.ensures (short_held _ c.requir
 
 pub returns : goal.returns
 returns c = rw c.without_low_digits.ensures (short_cut _ c.requires)
+
+pub without_low_digits-requires : goal.without_low_digits-requires
+without_low_digits-requires c = short_bits _ c.requires

@@ -1,10 +1,9 @@
 -- `fast_cells::inner::without_low_digits` meets its contract: the quotient is the nearest whole number
--- (`closest_quotient`). Assumes nothing.
+-- (`closest_quotient`).
 use mathlib.Core.Path.{refl, sym, ap}
 use Prim.Native.Nat.{ℕ, ◌*◌}
 use lib.Dec.{lit≤}
 use Rattle.exact.proofs.Closest.{closest_quotient}
-use borrow.Author.Rules.{rules}
 use Rattle.fast_cells.proofs.inner.without_low_digits.Goals as goal
 
 pub returns : goal.returns

@@ -1,18 +1,14 @@
 -- `fast_cells::of_point::integer_of` meets its contract: each coordinate has its part of the place where both pass.
--- Assumes nothing.
-use borrow.Author.Rules.{rules}
 use Rattle.fast_cells.proofs.CellsLaws.{of_both}
 use Rattle.fast_cells.proofs.PlacesLaws.{integer}
 use Rattle.fast_cells.proofs.of_point.integer_of.Goals as goal
 
 pub returns : goal.returns
 returns c = let it =
-    let start = c in
-    let p = start.args.p in
-    let R = start.requires.wide_le_widest_reach in
-    of_both p start.requires.whole c.has_cell.ensures c.has_cell-2.ensures (λ h. h.usable) (λ h. h.usable)
+    let p = c.args.p in
+    let R = c.requires.wide_le_widest_reach in
+    of_both p c.requires.whole c.has_cell.ensures c.has_cell-2.ensures (λ h. h.usable) (λ h. h.usable)
     (integer _ R.0 p.u c.kept.ensures.value
     c.column.ensures c.has_cell.ensures)
     (integer _ R.1 p.v c.kept-2.ensures.value c.column-2.ensures
-    c.has_cell-2.ensures) in
-    record { inside_value = it.0; usable_value = it.1.0; place = it.1.1 }
+    c.has_cell-2.ensures) in record { inside_value = it.0; usable_value = it.1.0; place = it.1.1 }

@@ -1,9 +1,8 @@
--- The float of the bits, then its floor: what the two calls ensure, one after the other. Assumes nothing.
+-- The float of the bits, then its floor: what the two calls ensure, one after the other.
 use mathlib.Core.Path.{ap, ◌∙◌}
 use mir.Syntax.{w64}
 use mir.Facts.{to_z-of_z}
 use Rattle.number.specs.Floor.{floor_i64}
-use borrow.Author.Rules.{rules}
 use Rattle.probe_number.proofs.number_tools.probe_floor.Goals as goal
 
 pub returns : goal.returns

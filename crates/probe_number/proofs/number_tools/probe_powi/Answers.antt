@@ -1,5 +1,4 @@
--- The float of the bits, the tool, the bits again: what the three calls ensure, one after the other. Assumes nothing.
-use borrow.Author.Rules.{rules}
+-- The float of the bits, the tool, the bits again: what the three calls ensure, one after the other.
 use Rattle.probe_number.proofs.number_tools.probe_powi.Goals as goal
 
 pub returns : goal.returns

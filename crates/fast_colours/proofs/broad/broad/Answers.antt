@@ -1,0 +1,7 @@
+-- `fast_colours::broad::broad` meets its contract: four quotients of the sums. Assumes nothing.
+use borrow.Author.Rules.{rules}
+use Rattle.fast_colours.proofs.FourLaws.{four_broad}
+use Rattle.fast_colours.proofs.broad.broad.Goals as goal
+
+pub returns : goal.returns
+returns c = rw c.four-t.ensures (four_broad _ _ _ _ _ _ _ _ _)

@@ -1,0 +1,17 @@
+-- `fast_colours::one_by_one::store_one_by_one` meets its contract. The loop's invariant: the pixels passed are in the
+-- band. Assumes nothing.
+use mathlib.Core.Path.{◌∙◌, refl}
+use Prim.Native.Nat.{ℕ, ◌-◌}
+use native.Mathlib.Nat.{le_antisymm}
+use native.Mathlib.Omega.{arith}
+use borrow.Author.Rules.{rules}
+use Rattle.band.proofs.PixelLaws.{channels_pos}
+use Rattle.band.proofs.RowLaws.{RowHolds, row_start, row_room, row_next, row_done, row_same, place_small}
+use Rattle.fast_colours.specs.InsideSpan.{mixed_at}
+use Rattle.fast_colours.proofs.one_by_one.store_one_by_one.Given as goal
+
+abbrev pub invariant-loop-k : goal.invariant-loop-k
+invariant-loop-k l = RowHolds l.channels l.n l.pixel (mixed_at l.picture l.width l.channels l.columns l.rows l.w) (λ (i : ℕ). 0) l.initial.band l.band 0 l.k
+
+abbrev pub decreases-loop-k : goal.decreases-loop-k
+decreases-loop-k l = l.n - l.k

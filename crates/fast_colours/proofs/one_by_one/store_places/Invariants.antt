@@ -1,0 +1,20 @@
+-- `fast_colours::one_by_one::store_places` meets its contract. The loop's invariant: the pixels passed are in the band.
+-- Assumes nothing.
+use mathlib.Core.Path.{◌∙◌, refl}
+use Prim.Native.Nat.{ℕ, ◌-◌}
+use native.Mathlib.Nat.{le_antisymm}
+use native.Mathlib.Omega.{arith}
+use borrow.Author.Rules.{rules}
+use lib.ListN.{get_or}
+use Rattle.picture.specs.Pixel.{pixel_at}
+use Rattle.fast_colours.proofs.NumberLaws.{pixel_numbers}
+use Rattle.band.proofs.PixelLaws.{channels_pos}
+use Rattle.band.proofs.RowLaws.{RowHolds, row_start, row_room, row_next, row_done, row_same, place_small}
+use Rattle.fast_colours.proofs.one_by_one.store_places.Given as goal
+
+abbrev pub invariant-loop-k : goal.invariant-loop-k
+invariant-loop-k l = RowHolds l.channels l.n l.pixel (λ (i : ℕ). pixel_at l.picture l.width l.channels (get_or l.columns i 0) (get_or l.rows i 0))
+    (λ (i : ℕ). 0) l.initial.band l.band 0 l.k
+
+abbrev pub decreases-loop-k : goal.decreases-loop-k
+decreases-loop-k l = l.n - l.k

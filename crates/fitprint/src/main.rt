@@ -1,6 +1,8 @@
 // The program of specification 12.1, over `listing`: prints the coefficients of `Affine` for the pairs on standard
 // input. Each read is fed to the reader, so the text may be of any length; a proved loop has to end, so it makes 2^40
 // reads at most, which no run uses up.
+#![tactic(auto)]
+
 use listing::reader::Reader;
 use listing::{answer, reader, text};
 use std::io;

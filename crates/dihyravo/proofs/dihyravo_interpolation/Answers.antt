@@ -1,8 +1,7 @@
 -- `dihyravo::dihyravo_interpolation` meets its contract: the reader's answer has a small code, and its number is the
--- answer. Assumes nothing.
+-- answer.
 use mathlib.Core.Path.{ap, ◌∙◌}
 use Prim.Native.Nat.{◌^◌}
-use borrow.Author.Rules.{rules}
 use mir.Syntax.{w64}
 use mir.Facts.{to_z-of_z}
 use Rattle.names.specs.Names.{interpolation_names}

@@ -1,8 +1,6 @@
 -- `dihyravo::dihyravo_policy` meets its contract: the reader's answer has a small code, and its number is the answer.
--- Assumes nothing.
 use mathlib.Core.Path.{ap, ◌∙◌}
 use Prim.Native.Nat.{◌^◌}
-use borrow.Author.Rules.{rules}
 use mir.Syntax.{w64}
 use mir.Facts.{to_z-of_z}
 use Rattle.names.specs.Names.{policy_names}

@@ -1,8 +1,7 @@
 -- `dihyravo::number` meets its contract: each case of the enum is that of the definition, and a code that is small
--- enough is the signed number's value. Assumes nothing.
+-- enough is the signed number's value.
 use mathlib.Core.Path.{sym, ap, subst, ◌∙◌}
 use Prim.Native.Nat.{◌^◌}
-use borrow.Author.Rules.{rules}
 use mir.Syntax.{w64}
 use mir.Facts.{to_z_pos}
 use Rattle.names.specs.declared.Named.{Named}

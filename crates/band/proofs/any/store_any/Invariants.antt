@@ -1,25 +1,9 @@
 -- `band::any::store_any` meets its contract. The loop's invariant: the pixels passed are in the band, and the matte
 -- ones among them are counted. Assumes nothing.
-use mathlib.Core.Path.{◌∙◌}
 use Prim.Native.Nat.{ℕ, ◌-◌}
-use native.Mathlib.Nat.{le_antisymm}
-use native.Mathlib.Omega.{arith}
-use borrow.Author.Rules.{rules}
 use Rattle.exact.specs.Vector.{at}
-use Rattle.point.specs.Point.{usable}
 use Rattle.band.specs.Band.{sourced, kept_colour, kept_matte_pixels}
-use Rattle.band.proofs.PixelLaws.{channels_pos}
-use Rattle.band.proofs.RowLaws.{
-  RowHolds,
-  row_start,
-  row_room,
-  row_one,
-  row_next,
-  row_done,
-  row_same,
-  bit_most,
-  place_small,
-}
+use Rattle.band.proofs.RowLaws.{RowHolds}
 use Rattle.band.proofs.any.store_any.Given as goal
 
 abbrev pub invariant-loop-k : goal.invariant-loop-k

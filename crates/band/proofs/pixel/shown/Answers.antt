@@ -1,5 +1,4 @@
--- `band::pixel::shown` meets its contract: each way out is the case of the definition that the mark took. Assumes
--- nothing.
+-- `band::pixel::shown` meets its contract: each way out is the case of the definition that the mark took.
 use mathlib.Core.Path.{◌∙◌}
 use Rattle.band.specs.Band.{shown}
 use borrow.Author.Rules.{rules}

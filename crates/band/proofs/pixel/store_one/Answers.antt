@@ -1,5 +1,4 @@
 -- `band::pixel::store_one` meets its contract: one call after the other, and the mark of the source point is its test.
--- Assumes nothing.
 use mathlib.Core.Path.{◌∙◌, subst⁻¹}
 use borrow.Author.Rules.{rules}
 use Rattle.point.specs.Point.{Whole}
@@ -10,9 +9,8 @@ pub shown-requires : goal.shown-requires
 shown-requires c = record { picture = search rules; whole = subst⁻¹ Whole c.point-p.ensures (point_whole _ _) }
 
 pub returns : goal.returns
-returns c =
-    let e = c in (
-      c.matte_pixels_of.ensures ∙ rw e.point-p.ensures,
-      c.store_pixel.ensures
-          ∙ rw (c.shown.ensures, e.point-p.ensures),
-    )
+returns c = (
+  c.matte_pixels_of.ensures ∙ rw c.point-p.ensures,
+  c.store_pixel.ensures
+      ∙ rw (c.shown.ensures, c.point-p.ensures),
+)

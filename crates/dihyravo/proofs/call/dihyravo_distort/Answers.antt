@@ -1,8 +1,6 @@
--- `dihyravo_distort` meets its contract: it hands on the call's answer and band, and writes the answer. Assumes
--- nothing.
+-- `dihyravo_distort` meets its contract: it hands on the call's answer and band, and writes the answer.
 use mathlib.Core.Path.{◌≡◌, refl}
 use mathlib.Core.Bool.{Bool}
-use borrow.Author.Rules.{rules}
 use lib.IntN.{ℤ}
 use mir.Syntax.{w64}
 use mir.Val.{of_z, to_z}

@@ -1,5 +1,5 @@
 -- `store_answer` meets its contract: six writes, one after another, of an answer whose offsets are read back from their
--- bits; or none. Assumes nothing.
+-- bits; or none.
 use mathlib.Core.Path.{◌≡◌}
 use mir.Syntax.{w64}
 use mir.Val.{to_z, of_z}

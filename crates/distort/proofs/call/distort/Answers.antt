@@ -1,5 +1,5 @@
 -- `distort` meets its contract, stage by stage: the tests that need no fit, the fit, and the window with what is worked
--- in it. Assumes nothing.
+-- in it.
 use borrow.Author.Rules.{rules}
 use Rattle.distort.specs.Job.{call_by}
 use Rattle.distort.proofs.DistortLaws.{

@@ -1,6 +1,5 @@
--- `in_window` meets its contract: each way out is the case of the definition that its tests took. Assumes nothing.
+-- `in_window` meets its contract: each way out is the case of the definition that its tests took.
 use native.Mathlib.Omega.{arith}
-use borrow.Author.Rules.{rules}
 use mir.Syntax.{w64}
 use mir.ValLaws.{to_z-of_z}
 use Rattle.band.specs.Band.{sourced, framed}
@@ -13,18 +12,16 @@ returns-then-bad_rows c = rows_out _ _ _ _ _ c.bad_rows.ensures c.if-bad_rows.tr
 
 pub bad_tray-requires : goal.bad_tray-requires
 bad_tray-requires c =
-    let s = c in
-    let r = rows_fit s.args.out.height s.args.rows.first s.args.rows.count c.bad_rows.ensures
+    let r = rows_fit c.args.out.height c.args.rows.first c.args.rows.count c.bad_rows.ensures
     c.if-bad_rows.false in
-    (omega (arith, r, s.requires.width_le_largest_side), (omega (arith, s.requires.width_le_largest_side), (channels_range _ s.requires.channels).1))
+    (omega (arith, r, c.requires.width_le_largest_side), (omega (arith, c.requires.width_le_largest_side), (channels_range _ c.requires.channels).1))
 
 pub returns-then-bad_tray : goal.returns-then-bad_tray
 returns-then-bad_tray c = band_out_law _ _ _ _ _ c.bad_rows.ensures c.if-bad_rows.false c.bad_tray.ensures c.if-bad_tray.true
 
 pub store_rows-matte_pixels-requires : goal.store_rows-matte_pixels-requires
-store_rows-matte_pixels-requires c = let s = c in
-    let r = rows_fit s.args.out.height s.args.rows.first s.args.rows.count
-    c.bad_rows.ensures c.if-bad_rows.false in record { shaped = s.requires.shaped; channels = s.requires.channels; width_le_largest_side = (s.requires.width_le_largest_side.0, omega (arith, r, s.requires.width_le_largest_side.1)); x_bound = s.requires.x_bound; band_len = band_fit _ _ c.bad_tray.ensures c.if-bad_tray.false }
+store_rows-matte_pixels-requires c = let r = rows_fit c.args.out.height c.args.rows.first c.args.rows.count
+    c.bad_rows.ensures c.if-bad_rows.false in record { shaped = c.requires.shaped; channels = c.requires.channels; width_le_largest_side = (c.requires.width_le_largest_side.0, omega (arith, r, c.requires.width_le_largest_side.1)); x_bound = c.requires.x_bound; band_len = band_fit _ _ c.bad_tray.ensures c.if-bad_tray.false }
 
 pub returns : goal.returns
 returns c =

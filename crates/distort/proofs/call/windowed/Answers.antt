@@ -1,9 +1,7 @@
--- `windowed` meets its contract: the window is the definition's, and where there is one its limits are known. Assumes
--- nothing.
+-- `windowed` meets its contract: the window is the definition's, and where there is one its limits are known.
 use mathlib.Core.Path.{◌≡◌}
 use mir.Syntax.{w64}
 use mir.Val.{to_z, of_z}
-use mir.ValLaws.{to_z-of_z}
 use borrow.Author.Rules.{rules}
 use Rattle.distort.proofs.PlacedLaws.{limits_of, found, not_found}
 use Rattle.distort.proofs.call.windowed.Goals as goal

@@ -1,5 +1,4 @@
--- `bad_code` is its definition: the method is known or not, and the other tests are the definition's. Assumes nothing.
-use borrow.Author.Rules.{rules}
+-- `bad_code` is its definition: the method is known or not, and the other tests are the definition's.
 use Rattle.distort.specs.Refusal.{bad_code}
 use Rattle.distort.proofs.refusal.bad_code.Goals as goal
 

@@ -1,7 +1,5 @@
--- `bad_number` is its definition: each way out is the test that it found; a picture that is fit can be counted. Assumes
--- nothing.
+-- `bad_number` is its definition: each way out is the test that it found; a picture that is fit can be counted.
 use native.Mathlib.Omega.{arith}
-use borrow.Author.Rules.{rules}
 use Rattle.picture.proofs.SizeLaws.{counted, stock_whole}
 use Rattle.distort.specs.Refusal.{bad_number}
 use Rattle.distort.proofs.refusal.bad_number.Goals as goal

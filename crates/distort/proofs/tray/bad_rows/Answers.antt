@@ -1,5 +1,4 @@
 -- `bad_rows` is its definition: where the first row is not beyond the height, what is left above it is compared.
--- Assumes nothing.
 use mathlib.Core.Path.{◌≡◌, refl, sym}
 use mathlib.Core.Bool.{Bool, true, false}
 use Prim.Native.Nat.{ℕ, ◌+◌, ◌-◌, ◌≤◌, ◌<◌}

@@ -1,4 +1,4 @@
--- `bad_tray` is its definition: the product of so few rows, columns and channels can be counted. Assumes nothing.
+-- `bad_tray` is its definition: the product of so few rows, columns and channels can be counted.
 use mathlib.Core.Path.{refl}
 use native.Mathlib.Omega.{arith}
 use Rattle.picture.proofs.SizeLaws.{area_small, samples_small}

@@ -1,4 +1,4 @@
--- `widest` is its definition: the tests are the definition's, in its order. Assumes nothing.
+-- `widest` is its definition: the tests are the definition's, in its order.
 use borrow.Author.Tests.{eq-eqb, ne_eqb}
 use Rattle.distort.specs.Refusal.{widest}
 use Rattle.distort.proofs.tray.widest.Goals as goal

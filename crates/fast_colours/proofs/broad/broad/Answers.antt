@@ -1,5 +1,4 @@
--- `fast_colours::broad::broad` meets its contract: four quotients of the sums. Assumes nothing.
-use borrow.Author.Rules.{rules}
+-- `fast_colours::broad::broad` meets its contract: four quotients of the sums.
 use Rattle.fast_colours.proofs.FourLaws.{four_broad}
 use Rattle.fast_colours.proofs.broad.broad.Goals as goal
 

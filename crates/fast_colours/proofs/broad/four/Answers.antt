@@ -1,8 +1,7 @@
 -- `fast_colours::broad::four` meets its contract: the samples after the last tap's are those of the pixel to its right,
--- which lies inside. Assumes nothing.
+-- which lies inside.
 use Prim.Native.Nat.{◌+◌, ◌*◌, ◌≤◌}
 use native.Mathlib.Omega.{arith}
-use borrow.Author.Rules.{rules}
 use lib.ListN.{length}
 use Rattle.std.proofs.Common.{ℕ, ◌<◌, List}
 use Rattle.picture.specs.Pixel.{Picture}
@@ -18,39 +17,37 @@ small : {p : List ℕ} {w h : ℕ} (i j : ℕ) → Picture p w h 3 → (i + 2 < 
 small i j P b = Laws.last_small (i + 1) _ P (omega (arith, b.0)) b.1
 
 pub overflow_mul-k : goal.overflow_mul-k
-overflow_mul-k c = let q = c in omega (arith, room _ _ q.requires.picture q.requires.i_bound, small _ _ q.requires.picture q.requires.i_bound)
+overflow_mul-k c = omega (arith, room _ _ c.requires.picture c.requires.i_bound, small _ _ c.requires.picture c.requires.i_bound)
 
 pub overflow_add-k : goal.overflow_add-k
-overflow_add-k c = let q = c in omega (arith, room _ _ q.requires.picture q.requires.i_bound, small _ _ q.requires.picture q.requires.i_bound)
+overflow_add-k c = omega (arith, room _ _ c.requires.picture c.requires.i_bound, small _ _ c.requires.picture c.requires.i_bound)
 
 pub overflow_mul-k-2 : goal.overflow_mul-k-2
-overflow_mul-k-2 c = let q = c in omega (arith, room _ _ q.requires.picture q.requires.i_bound, small _ _ q.requires.picture q.requires.i_bound)
+overflow_mul-k-2 c = omega (arith, room _ _ c.requires.picture c.requires.i_bound, small _ _ c.requires.picture c.requires.i_bound)
 
 pub overflow_mul-n : goal.overflow_mul-n
-overflow_mul-n c = let q = c in omega (arith, room _ _ q.requires.picture q.requires.i_bound, small _ _ q.requires.picture q.requires.i_bound)
+overflow_mul-n c = omega (arith, room _ _ c.requires.picture c.requires.i_bound, small _ _ c.requires.picture c.requires.i_bound)
 
 pub overflow_add-n : goal.overflow_add-n
-overflow_add-n c = let q = c in omega (arith, room _ _ q.requires.picture q.requires.i_bound, small _ _ q.requires.picture q.requires.i_bound)
+overflow_add-n c = omega (arith, room _ _ c.requires.picture c.requires.i_bound, small _ _ c.requires.picture c.requires.i_bound)
 
 pub overflow_add-k-2 : goal.overflow_add-k-2
-overflow_add-k-2 c = let q = c in omega (arith, room _ _ q.requires.picture q.requires.i_bound, small _ _ q.requires.picture q.requires.i_bound)
+overflow_add-k-2 c = omega (arith, room _ _ c.requires.picture c.requires.i_bound, small _ _ c.requires.picture c.requires.i_bound)
 
 pub widened-requires : goal.widened-requires
-widened-requires c = let q = c in (omega (arith, room _ _ q.requires.picture q.requires.i_bound), q.requires.picture.limited)
+widened-requires c = (omega (arith, room _ _ c.requires.picture c.requires.i_bound), c.requires.picture.limited)
 
 pub widened-requires-2 : goal.widened-requires-2
-widened-requires-2 c = let q = c in (omega (arith, room _ _ q.requires.picture q.requires.i_bound), q.requires.picture.limited)
+widened-requires-2 c = (omega (arith, room _ _ c.requires.picture c.requires.i_bound), c.requires.picture.limited)
 
 pub overflow_add-n-2 : goal.overflow_add-n-2
-overflow_add-n-2 c = let q = c in omega (arith, room _ _ q.requires.picture q.requires.i_bound, small _ _ q.requires.picture q.requires.i_bound)
+overflow_add-n-2 c = omega (arith, room _ _ c.requires.picture c.requires.i_bound, small _ _ c.requires.picture c.requires.i_bound)
 
 pub widened-requires-3 : goal.widened-requires-3
-widened-requires-3 c = let q = c in
-    (omega (arith, room _ _ q.requires.picture q.requires.i_bound), q.requires.picture.limited)
+widened-requires-3 c = (omega (arith, room _ _ c.requires.picture c.requires.i_bound), c.requires.picture.limited)
 
 pub widened-requires-4 : goal.widened-requires-4
-widened-requires-4 c = let q = c in
-    (omega (arith, room _ _ q.requires.picture q.requires.i_bound), q.requires.picture.limited)
+widened-requires-4 c = (omega (arith, room _ _ c.requires.picture c.requires.i_bound), c.requires.picture.limited)
 
 pub returns : goal.returns
 returns c =

@@ -1,8 +1,8 @@
 -- `fast_colours::broad::next_columns_inside` meets its contract. The loop's invariant: the first k columns are before
--- the edge, if the answer is still true. Assumes nothing.
+-- the edge, if the answer is still true.
 use mathlib.Core.Path.{◌≡◌, refl}
 use mathlib.Core.Bool.{Bool, true, false, ◌&&◌, false≢true}
-use Prim.Native.Nat.{ℕ, ◌+◌, ◌-◌, ◌≤◌, ◌<◌}
+use Prim.Native.Nat.{ℕ, ◌+◌, ◌-◌, ◌<◌}
 use native.Mathlib.Nat.{not-suc-le-zero}
 use native.Mathlib.Omega.{arith}
 use borrow.Author.Count.{below_more}

@@ -1,16 +1,9 @@
 -- `fast_colours::broad::next_columns_inside` meets its contract. The loop's invariant: the first k columns are before
 -- the edge, if the answer is still true. Assumes nothing.
-use mathlib.Core.Path.{◌≡◌, refl}
-use mathlib.Core.Bool.{Bool, true, false, ◌&&◌, false≢true}
-use Prim.Native.Nat.{ℕ, ◌+◌, ◌-◌, ◌≤◌, ◌<◌}
-use native.Mathlib.Nat.{not-suc-le-zero}
-use native.Mathlib.Omega.{arith}
-use borrow.Author.Count.{below_more}
-use borrow.Author.Rules.{rules}
-use borrow.Author.Tests.{ltb-true}
-use lib.Dec.{ltb}
+use mathlib.Core.Path.{◌≡◌}
+use mathlib.Core.Bool.{true}
+use Prim.Native.Nat.{ℕ, ◌-◌, ◌≤◌, ◌<◌}
 use lib.ListN.{get_or}
-use mathlib.Core.List.{List}
 use Rattle.fast_colours.proofs.broad.next_columns_inside.Given as goal
 
 abbrev pub invariant-loop-k : goal.invariant-loop-k

@@ -1,9 +1,7 @@
 -- `fast_colours::broad::store_broad` meets its contract: the last pixel puts over what the ones before it left open.
--- Assumes nothing.
 use mathlib.Core.Path.{◌∙◌, subst}
 use Prim.Native.Nat.{ℕ, ◌+◌}
 use native.Mathlib.Omega.{arith}
-use borrow.Author.Rules.{rules}
 use mathlib.Core.List.{List}
 use lib.Ieee.{Float}
 use Rattle.picture.specs.Pixel.{Picture}
@@ -21,29 +19,28 @@ fewer B = record {
 }
 
 pub store_first-requires : goal.store_first-requires
-store_first-requires c = let q = c in record { shaped = q.requires.shaped; channels_value = q.requires.channels_value; m_lt_longest_span = q.requires.m_lt_longest_span; beside = fewer q.requires.beside; m_in_bounds = omega (arith, q.requires.m_in_bounds) }
+store_first-requires c = record { shaped = c.requires.shaped; channels_value = c.requires.channels_value; m_lt_longest_span = c.requires.m_lt_longest_span; beside = fewer c.requires.beside; m_in_bounds = omega (arith, c.requires.m_in_bounds) }
 
 pub mixed-requires : goal.mixed-requires
-mixed-requires c = let q = c in
-    let S = q.requires.beside in record {
-      picture = subst (Picture _ _ _) q.requires.channels_value q.requires.shaped;
-      i_bound = (
-        omega (
-          arith,
-          S.column q.args.m (omega arith),
-          c.wide.ensures,
-        ),
-        omega (arith, S.row q.args.m (omega arith), c.wide-2.ensures),
-      );
-    }
+mixed-requires c = let S = c.requires.beside in record {
+  picture = subst (Picture _ _ _) c.requires.channels_value c.requires.shaped;
+  i_bound = (
+    omega (
+      arith,
+      S.column c.args.m (omega arith),
+      c.wide.ensures,
+    ),
+    omega (arith, S.row c.args.m (omega arith), c.wide-2.ensures),
+  );
+}
 
 pub store_number_pixel-requires : goal.store_number_pixel-requires
-store_number_pixel-requires c = let q = c in record {
+store_number_pixel-requires c = record {
   channels_nonzero = (
     omega arith,
     omega (
       arith,
-      q.requires.m_in_bounds,
+      c.requires.m_in_bounds,
       c.store_first.auto.band,
     ),
   );
@@ -52,16 +49,15 @@ store_number_pixel-requires c = let q = c in record {
     c.wide.ensures,
     c.wide-2.ensures,
   )
-      (q.requires.mixable.numbers q.args.m (omega arith));
+      (c.requires.mixable.numbers c.args.m (omega arith));
 }
 
 pub returns : goal.returns
 returns c =
-    let q = c in
-    covered_done q.args.m q.args.pixel
-    (mixed_at q.args.picture.now q.args.shape.width 3 q.args.columns.now q.args.rows.now
-    q.args.w.now)
-    q.args.band.now q.requires.m_in_bounds
+    covered_done c.args.m c.args.pixel
+    (mixed_at c.args.picture.now c.args.shape.width 3 c.args.columns.now c.args.rows.now
+    c.args.w.now)
+    c.args.band.now c.requires.m_in_bounds
     c.store_first.ensures
     (c.store_number_pixel.ensures
     ∙ rw (

@@ -1,14 +1,12 @@
 -- `fast_colours::broad::store_first` meets its contract. The loop's invariant: the pixels passed are in the band, and
--- of the rest the next one's first sample alone may differ. Assumes nothing.
+-- of the rest the next one's first sample alone may differ.
 use mathlib.Core.Path.{subst}
 use Prim.Native.Nat.{ℕ, ◌+◌, ◌-◌, ◌*◌, ◌≤◌}
 use native.Mathlib.Nat.{le_antisymm}
 use native.Mathlib.Omega.{arith}
 use borrow.Author.Rules.{rules}
-use lib.ListN.{length}
 use Rattle.picture.specs.Pixel.{Picture}
-use Rattle.fast_colours.specs.InsideSpan.{mixed_at}
-use Rattle.fast_colours.proofs.CoverLaws.{Overlaid, covered_start, covered_next, covered_last}
+use Rattle.fast_colours.proofs.CoverLaws.{covered_start, covered_next, covered_last}
 use Rattle.fast_colours.proofs.broad.store_first.Goals as goal
 
 room : (p m n : ℕ) → (p + m) * 3 * 4 + 4 ≤ n → (p + m) * 3 * 4 ≤ n
@@ -19,39 +17,35 @@ loop-k-init c = covered_start (room c.args.pixel c.args.m _ c.requires.m_in_boun
 
 pub overflow_add-pixel : goal.overflow_add-pixel
 overflow_add-pixel c =
-    let e = c in
-    record { fits = omega (arith, e.requires.m_in_bounds, e.well_formed.1.1.1.1.1.1.1.0.0) }
+    record { fits = omega (arith, c.requires.m_in_bounds, c.well_formed.1.1.1.1.1.1.1.0.0) }
 
 pub overflow_mul-pixel : goal.overflow_mul-pixel
 overflow_mul-pixel c =
-    let e = c in
-    record { fits = omega (arith, e.requires.m_in_bounds, e.well_formed.1.1.1.1.1.1.1.0.0) }
+    record { fits = omega (arith, c.requires.m_in_bounds, c.well_formed.1.1.1.1.1.1.1.0.0) }
 
 pub broad-requires : goal.broad-requires
-broad-requires c = let e = c in record {
-  picture = subst (Picture _ _ _) e.requires.channels_value e.requires.shaped;
+broad-requires c = record {
+  picture = subst (Picture _ _ _) c.requires.channels_value c.requires.shaped;
   i_bound = (
     rw c.wide.ensures
-        (e.requires.beside.column _ (search rules)),
+        (c.requires.beside.column _ (search rules)),
     rw c.wide-in-loop-k.ensures
-        (e.requires.beside.row _ (search rules)),
+        (c.requires.beside.row _ (search rules)),
   );
 }
 
 pub store_four-requires : goal.store_four-requires
-store_four-requires c = let e = c in
-    let H = c.loop-k.invariant in record {
-      k_in_bounds = omega (arith, e.requires.m_in_bounds, H.long);
-      numbers = rw (
-        c.broad.ensures,
-        c.wide.ensures,
-        c.wide-in-loop-k.ensures,
-      ) (e.requires.beside.numbers _ (search rules));
-    }
+store_four-requires c = let H = c.loop-k.invariant in record {
+  k_in_bounds = omega (arith, c.requires.m_in_bounds, H.long);
+  numbers = rw (
+    c.broad.ensures,
+    c.wide.ensures,
+    c.wide-in-loop-k.ensures,
+  ) (c.requires.beside.numbers _ (search rules));
+}
 
 pub loop-k-preserved : goal.loop-k-preserved
 loop-k-preserved c =
-    let e = c in
     covered_next (room c.args.pixel c.args.m _ c.requires.m_in_bounds) c.loop-k.invariant
     c.loop-k-test.true c.broad.result
     (rw (

@@ -1,14 +1,8 @@
 -- `fast_colours::broad::store_first` meets its contract. The loop's invariant: the pixels passed are in the band, and
 -- of the rest the next one's first sample alone may differ. Assumes nothing.
-use mathlib.Core.Path.{subst}
-use Prim.Native.Nat.{◌+◌, ◌-◌, ◌*◌, ◌≤◌}
-use native.Mathlib.Nat.{le_antisymm}
-use native.Mathlib.Omega.{arith}
-use borrow.Author.Rules.{rules}
-use lib.ListN.{length}
-use Rattle.picture.specs.Pixel.{Picture}
+use Prim.Native.Nat.{◌-◌}
 use Rattle.fast_colours.specs.InsideSpan.{mixed_at}
-use Rattle.fast_colours.proofs.CoverLaws.{Overlaid, covered_start, covered_next, covered_last}
+use Rattle.fast_colours.proofs.CoverLaws.{Overlaid}
 use Rattle.fast_colours.proofs.broad.store_first.Given as goal
 
 abbrev pub invariant-loop-k : goal.invariant-loop-k

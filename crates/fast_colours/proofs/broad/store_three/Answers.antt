@@ -1,5 +1,4 @@
 -- `fast_colours::broad::store_three` meets its contract: at fractions from 0 to 1 the quotients are the weighted mean.
--- Assumes nothing.
 use mathlib.Core.Path.{◌≡◌, ◌∙◌, subst}
 use Prim.Native.Nat.{ℕ, ◌+◌, ◌-◌, ◌<◌}
 use native.Mathlib.Omega.{arith}
@@ -13,27 +12,25 @@ again : (n : ℕ) → 0 < n → n - 1 + 1 ≡ n
 again n h = omega arith
 
 pub store_broad-requires : goal.store_broad-requires
-store_broad-requires c = let q = c in
-    let shape = q.args.shape in
-    let n = again q.args.span.n q.requires.n_nonzero.0 in
-    let P = subst (Picture _ _ _) q.requires.channels_value q.requires.shaped in
+store_broad-requires c = let shape = c.args.shape in
+    let n = again c.args.span.n c.requires.n_nonzero.0 in
+    let P = subst (Picture _ _ _) c.requires.channels_value c.requires.shaped in
     let W = c.weigh.ensures in
-    let I = q.requires.cells_inside in
-    let F = q.requires.fractions in record {
-      shaped = q.requires.shaped;
-      channels_value = q.requires.channels_value;
+    let I = c.requires.cells_inside in
+    let F = c.requires.fractions in record {
+      shaped = c.requires.shaped;
+      channels_value = c.requires.channels_value;
       m_lt_longest_span = search rules;
-      beside = rw n (all_beside P I q.requires.by_index F.0 F.1 W);
-      mixable = rw n (mixable q.args.picture.now shape.width 3 q.args.columns.now q.args.rows.now
+      beside = rw n (all_beside P I c.requires.by_index F.0 F.1 W);
+      mixable = rw n (mixable c.args.picture.now shape.width 3 c.args.columns.now c.args.rows.now
           shape.height P I F.0 F.1 W);
-      m_in_bounds = rw n q.requires.n_in_bounds;
+      m_in_bounds = rw n c.requires.n_in_bounds;
     }
 
 pub returns : goal.returns
 returns c =
-    let q = c in
-    let span = q.args.span in
-    let F = q.requires.fractions in
-    rw (again span.n q.requires.n_nonzero.0) at c.store_broad.ensures
-    ∙ blend_all q.args.picture.now q.args.shape.width 3 q.args.columns.now q.args.rows.now F.0
-    F.1 c.weigh.ensures span.pixel q.args.band.now
+    let span = c.args.span in
+    let F = c.requires.fractions in
+    rw (again span.n c.requires.n_nonzero.0) at c.store_broad.ensures
+    ∙ blend_all c.args.picture.now c.args.shape.width 3 c.args.columns.now c.args.rows.now F.0
+    F.1 c.weigh.ensures span.pixel c.args.band.now

@@ -1,4 +1,4 @@
--- `fast_colours::one_by_one::sized` meets its contract: what it is told of its argument. Assumes nothing.
+-- `fast_colours::one_by_one::sized` meets its contract: what it is told of its argument.
 use lib.Ieee.{binary32}
 use borrow.Kind.Array.{e_float}
 use Rattle.fast_colours.proofs.InsideSpanLaws.{are_sized}

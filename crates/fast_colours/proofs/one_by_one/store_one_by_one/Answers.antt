@@ -1,13 +1,12 @@
 -- `fast_colours::one_by_one::store_one_by_one` meets its contract. The loop's invariant: the pixels passed are in the
--- band. Assumes nothing.
+-- band.
 use mathlib.Core.Path.{◌∙◌, refl}
-use Prim.Native.Nat.{ℕ, ◌-◌}
+use Prim.Native.Nat.{◌-◌}
 use native.Mathlib.Nat.{le_antisymm}
 use native.Mathlib.Omega.{arith}
 use borrow.Author.Rules.{rules}
 use Rattle.band.proofs.PixelLaws.{channels_pos}
-use Rattle.band.proofs.RowLaws.{RowHolds, row_start, row_room, row_next, row_done, row_same, place_small}
-use Rattle.fast_colours.specs.InsideSpan.{mixed_at}
+use Rattle.band.proofs.RowLaws.{row_start, row_room, row_next, row_done, row_same, place_small}
 use Rattle.fast_colours.proofs.one_by_one.store_one_by_one.Goals as goal
 
 pub loop-k-init : goal.loop-k-init
@@ -15,34 +14,33 @@ loop-k-init c = row_start c.requires.channels_in_bounds (λ k. omega arith)
 
 pub overflow_add-pixel : goal.overflow_add-pixel
 overflow_add-pixel c =
-    let e = c in
     record {
       fits = omega (
         arith,
-        place_small e.args.span.pixel e.args.span.n e.args.shape.channels _
-            (channels_pos _ e.requires.channels) e.requires.channels_in_bounds,
+        place_small c.args.span.pixel c.args.span.n c.args.shape.channels _
+            (channels_pos _ c.requires.channels) c.requires.channels_in_bounds,
         c.loop-k.invariant.most,
-        e.well_formed.1.1.1.1.1.1.0.0,
+        c.well_formed.1.1.1.1.1.1.0.0,
       );
     }
 
 pub coloured-requires : goal.coloured-requires
-coloured-requires c = let e = c in record {
-  picture = e.requires.shaped;
-  channels = e.requires.channels;
+coloured-requires c = record {
+  picture = c.requires.shaped;
+  channels = c.requires.channels;
   i_bound = (
     rw c.wide.ensures
-        (e.requires.cells_inside.column _ (search rules)),
+        (c.requires.cells_inside.column _ (search rules)),
     rw c.wide-in-loop-k.ensures
-        (e.requires.cells_inside.row _ (search rules)),
+        (c.requires.cells_inside.row _ (search rules)),
   );
 }
 
 pub store_number_pixel-requires : goal.store_number_pixel-requires
-store_number_pixel-requires c = let e = c in record {
+store_number_pixel-requires c = record {
   channels_nonzero = (
-    channels_pos _ e.requires.channels,
-    row_room e.requires.channels_in_bounds
+    channels_pos _ c.requires.channels,
+    row_room c.requires.channels_in_bounds
         c.loop-k.invariant
         (search rules),
   );
@@ -51,7 +49,7 @@ store_number_pixel-requires c = let e = c in record {
     c.wide.ensures,
     c.wide-in-loop-k.ensures,
   )
-      (e.requires.mixable.numbers _ (search rules));
+      (c.requires.mixable.numbers _ (search rules));
 }
 
 pub loop-k-preserved : goal.loop-k-preserved

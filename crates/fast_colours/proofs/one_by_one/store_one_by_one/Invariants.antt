@@ -1,12 +1,7 @@
 -- `fast_colours::one_by_one::store_one_by_one` meets its contract. The loop's invariant: the pixels passed are in the
 -- band. Assumes nothing.
-use mathlib.Core.Path.{◌∙◌, refl}
 use Prim.Native.Nat.{ℕ, ◌-◌}
-use native.Mathlib.Nat.{le_antisymm}
-use native.Mathlib.Omega.{arith}
-use borrow.Author.Rules.{rules}
-use Rattle.band.proofs.PixelLaws.{channels_pos}
-use Rattle.band.proofs.RowLaws.{RowHolds, row_start, row_room, row_next, row_done, row_same, place_small}
+use Rattle.band.proofs.RowLaws.{RowHolds}
 use Rattle.fast_colours.specs.InsideSpan.{mixed_at}
 use Rattle.fast_colours.proofs.one_by_one.store_one_by_one.Given as goal
 

@@ -1,15 +1,13 @@
 -- `fast_colours::one_by_one::store_places` meets its contract. The loop's invariant: the pixels passed are in the band.
--- Assumes nothing.
 use mathlib.Core.Path.{◌∙◌, refl}
-use Prim.Native.Nat.{ℕ, ◌-◌}
+use Prim.Native.Nat.{◌-◌}
 use native.Mathlib.Nat.{le_antisymm}
 use native.Mathlib.Omega.{arith}
 use borrow.Author.Rules.{rules}
-use lib.ListN.{get_or}
 use Rattle.picture.specs.Pixel.{pixel_at}
 use Rattle.fast_colours.proofs.NumberLaws.{pixel_numbers}
 use Rattle.band.proofs.PixelLaws.{channels_pos}
-use Rattle.band.proofs.RowLaws.{RowHolds, row_start, row_room, row_next, row_done, row_same, place_small}
+use Rattle.band.proofs.RowLaws.{row_start, row_room, row_next, row_done, row_same, place_small}
 use Rattle.fast_colours.proofs.one_by_one.store_places.Goals as goal
 
 pub loop-k-init : goal.loop-k-init
@@ -17,46 +15,42 @@ loop-k-init c = row_start c.requires.channels_in_bounds (λ k. omega arith)
 
 pub overflow_add-pixel : goal.overflow_add-pixel
 overflow_add-pixel c =
-    let e = c in
     record {
       fits = omega (
         arith,
-        place_small e.args.span.pixel e.args.span.n e.args.shape.channels _
-            (channels_pos _ e.requires.channels) e.requires.channels_in_bounds,
+        place_small c.args.span.pixel c.args.span.n c.args.shape.channels _
+            (channels_pos _ c.requires.channels) c.requires.channels_in_bounds,
         c.loop-k.invariant.most,
-        e.well_formed.1.1.1.1.1.0.0,
+        c.well_formed.1.1.1.1.1.0.0,
       );
     }
 
 pub pixel_at-requires : goal.pixel_at-requires
 pixel_at-requires c =
-    let e = c in
-    let W = e.requires.pixels_inside in
+    let W = c.requires.pixels_inside in
     record {
-      height = e.args.shape.height;
-      picture = e.requires.shaped;
+      height = c.args.shape.height;
+      picture = c.requires.shaped;
       column = rw c.wide.ensures (W.column _ (search rules));
       row =
           rw c.wide-in-loop-k.ensures (W.row _ (search rules));
     }
 
 pub store_number_pixel-requires : goal.store_number_pixel-requires
-store_number_pixel-requires c = let e = c in
-    let W = e.requires.pixels_inside in record {
-      channels_nonzero = (
-        channels_pos _ e.requires.channels,
-        row_room e.requires.channels_in_bounds c.loop-k.invariant
-            (search rules),
-      );
-      numbers = rw (c.pixel_at.ensures, c.wide.ensures, c.wide-in-loop-k.ensures)
-          (pixel_numbers e.requires.shaped _ _ (W.column _ (search rules)) (W.row _ (search rules)));
-    }
+store_number_pixel-requires c = let W = c.requires.pixels_inside in record {
+  channels_nonzero = (
+    channels_pos _ c.requires.channels,
+    row_room c.requires.channels_in_bounds c.loop-k.invariant
+        (search rules),
+  );
+  numbers = rw (c.pixel_at.ensures, c.wide.ensures, c.wide-in-loop-k.ensures)
+      (pixel_numbers c.requires.shaped _ _ (W.column _ (search rules)) (W.row _ (search rules)));
+}
 
 pub loop-k-preserved : goal.loop-k-preserved
 loop-k-preserved c =
-    let e = c in
-    row_next e.requires.channels_in_bounds
-    c.loop-k.invariant e.requires.channels
+    row_next c.requires.channels_in_bounds
+    c.loop-k.invariant c.requires.channels
     (search rules) refl
     (c.store_number_pixel.ensures
     ∙ rw (

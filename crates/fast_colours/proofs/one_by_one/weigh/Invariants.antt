@@ -1,9 +1,7 @@
 -- `fast_colours::one_by_one::weigh` meets its contract. The loop's invariant: the first k points are weighed. Assumes
 -- nothing.
 use Prim.Native.Nat.{◌-◌, ◌≤◌}
-use borrow.Author.Rules.{rules}
-use Rattle.sampler.proofs.MixedLaws.{weighed_by}
-use Rattle.fast_colours.proofs.InsideSpanLaws.{Weighing, weigh_none, weigh_more, weigh_last}
+use Rattle.fast_colours.proofs.InsideSpanLaws.{Weighing}
 use Rattle.fast_colours.proofs.one_by_one.weigh.Given as goal
 
 abbrev pub invariant-loop-k : goal.invariant-loop-k

@@ -1,5 +1,4 @@
--- `fast_cubic::kernels::both_kernels` meets its contract: both answers. Assumes nothing.
-use borrow.Author.Rules.{rules}
+-- `fast_cubic::kernels::both_kernels` meets its contract: both answers.
 use Rattle.fast_cubic.proofs.KernelLaws.{both_true}
 use Rattle.fast_cubic.proofs.kernels.both_kernels.Goals as goal
 

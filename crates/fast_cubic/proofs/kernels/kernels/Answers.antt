@@ -1,5 +1,4 @@
--- `fast_cubic::kernels::kernels` meets its contract: the row is the code's. Assumes nothing.
-use borrow.Author.Rules.{rules}
+-- `fast_cubic::kernels::kernels` meets its contract: the row is the code's.
 use Rattle.fast_cubic.proofs.KernelLaws.{kernel_catrom, kernel_spline}
 use Rattle.fast_cubic.proofs.kernels.kernels.Goals as goal
 

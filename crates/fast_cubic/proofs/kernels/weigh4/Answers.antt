@@ -1,27 +1,25 @@
 -- `fast_cubic::kernels::weigh4` meets its contract. The loop's invariant: the first k fractions are weighed, if the
--- answer is still true. Assumes nothing.
+-- answer is still true.
 use mathlib.Core.Path.{ap}
 use mathlib.Core.List.{List, [], ◌∷◌}
-use Prim.Native.Nat.{◌-◌, ◌≤◌}
 use lib.Ieee.{Float}
 use borrow.Author.Rules.{rules}
 use Rattle.exact.specs.Vector.{at}
 use Rattle.cubic.proofs.CubicCode.{middle_weights}
-use Rattle.fast_cubic.proofs.KernelLaws.{Weighing4, weigh4_none, weigh4_more, weigh4_last}
+use Rattle.fast_cubic.proofs.KernelLaws.{weigh4_none, weigh4_more, weigh4_last}
 use Rattle.fast_cubic.proofs.kernels.weigh4.Goals as goal
 
 pub loop-k-init : goal.loop-k-init
 loop-k-init c = (weigh4_none c.sized.ensures, search rules)
 
 pub loop-k-preserved : goal.loop-k-preserved
-loop-k-preserved c =
-    let head = c in (
-      weigh4_more head.loop-k.k (search rules)
-          (λ e. middle_weights _ _ c.distances_of-d.ensures c.between-good.ensures e
-          (ap (λ (w : List Float). at w 0 ∷ at w 1 ∷ at w 2 ∷ at w 3 ∷ []) c.middle-m.ensures))
-          head.loop-k.invariant.0,
-      search rules,
-    )
+loop-k-preserved c = (
+  weigh4_more c.loop-k.k (search rules)
+      (λ e. middle_weights _ _ c.distances_of-d.ensures c.between-good.ensures e
+      (ap (λ (w : List Float). at w 0 ∷ at w 1 ∷ at w 2 ∷ at w 3 ∷ []) c.middle-m.ensures))
+      c.loop-k.invariant.0,
+  search rules,
+)
 
 pub returns : goal.returns
 returns c = weigh4_last c.loop-k.k _ (search rules) c.loop-k.invariant.0

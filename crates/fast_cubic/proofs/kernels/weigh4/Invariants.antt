@@ -1,13 +1,7 @@
 -- `fast_cubic::kernels::weigh4` meets its contract. The loop's invariant: the first k fractions are weighed, if the
 -- answer is still true. Assumes nothing.
-use mathlib.Core.Path.{ap}
-use mathlib.Core.List.{List, [], ◌∷◌}
 use Prim.Native.Nat.{◌-◌, ◌≤◌}
-use lib.Ieee.{Float}
-use borrow.Author.Rules.{rules}
-use Rattle.exact.specs.Vector.{at}
-use Rattle.cubic.proofs.CubicCode.{middle_weights}
-use Rattle.fast_cubic.proofs.KernelLaws.{Weighing4, weigh4_none, weigh4_more, weigh4_last}
+use Rattle.fast_cubic.proofs.KernelLaws.{Weighing4}
 use Rattle.fast_cubic.proofs.kernels.weigh4.Given as goal
 
 abbrev pub invariant-loop-k : goal.invariant-loop-k

@@ -1,7 +1,5 @@
 -- `fast_cubic::spans::cells_within` meets its contract: both lists of cells, and none in the first column or row.
--- Assumes nothing.
 use mathlib.Core.Bool.{false≢true}
-use borrow.Author.Rules.{rules}
 use Rattle.fast_cubic.proofs.FourByFourLaws.{standing}
 use Rattle.fast_cubic.proofs.spans.cells_within.Goals as goal
 

@@ -1,10 +1,6 @@
 -- `fast_cubic::spans::past` meets its contract. The loop's invariant: the first k are above 0, if the answer is still
--- true. Assumes nothing.
-use mathlib.Core.Path.{◌≡◌}
-use mathlib.Core.Bool.{true}
-use Prim.Native.Nat.{◌-◌, ◌≤◌}
+-- true.
 use borrow.Author.Rules.{rules}
-use Rattle.fast_cubic.specs.FourByFours.{Past}
 use Rattle.fast_cubic.proofs.FourByFourLaws.{past_none, past_more, past_last}
 use Rattle.fast_cubic.proofs.spans.past.Goals as goal
 

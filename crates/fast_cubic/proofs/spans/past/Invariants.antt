@@ -3,9 +3,7 @@
 use mathlib.Core.Path.{◌≡◌}
 use mathlib.Core.Bool.{true}
 use Prim.Native.Nat.{◌-◌, ◌≤◌}
-use borrow.Author.Rules.{rules}
 use Rattle.fast_cubic.specs.FourByFours.{Past}
-use Rattle.fast_cubic.proofs.FourByFourLaws.{past_none, past_more, past_last}
 use Rattle.fast_cubic.proofs.spans.past.Given as goal
 
 abbrev pub invariant-loop-k : goal.invariant-loop-k

@@ -1,15 +1,10 @@
 -- `fast_cubic::spans::store_four_by_fours` meets its contract. The loop's invariant: the pixels passed are in the band.
--- Assumes nothing.
 use mathlib.Core.Path.{◌∙◌, refl}
-use Prim.Native.Nat.{ℕ, ◌-◌}
 use native.Mathlib.Nat.{le_antisymm}
 use native.Mathlib.Omega.{arith}
 use borrow.Author.Rules.{rules}
-use lib.ListN.{get_or}
-use Rattle.fast_cubic.specs.Kernels.{of_four}
-use Rattle.fast_cubic.specs.FourByFours.{four_by_four}
 use Rattle.band.proofs.PixelLaws.{channels_pos}
-use Rattle.band.proofs.RowLaws.{RowHolds, row_start, row_room, row_next, row_done, row_same, place_small}
+use Rattle.band.proofs.RowLaws.{row_start, row_room, row_next, row_done, row_same, place_small}
 use Rattle.fast_cubic.proofs.spans.store_four_by_fours.Goals as goal
 
 pub loop-k-init : goal.loop-k-init
@@ -17,36 +12,34 @@ loop-k-init c = row_start c.requires.channels_in_bounds (λ k. omega arith)
 
 pub overflow_add-pixel : goal.overflow_add-pixel
 overflow_add-pixel c =
-    let e = c in
     record {
       fits = omega (
         arith,
-        place_small e.args.span.pixel e.args.span.n e.args.shape.channels _
-            (channels_pos _ e.requires.channels) e.requires.channels_in_bounds,
+        place_small c.args.span.pixel c.args.span.n c.args.shape.channels _
+            (channels_pos _ c.requires.channels) c.requires.channels_in_bounds,
         c.loop-k.invariant.most,
-        e.well_formed.1.1.1.1.1.1.1.0.0,
+        c.well_formed.1.1.1.1.1.1.1.0.0,
       );
     }
 
 pub colour_of-requires : goal.colour_of-requires
-colour_of-requires c = let e = c in
-    let S = e.requires.four_by_fours in record {
-      picture = e.requires.shaped;
-      i_nonzero = (
-        rw c.wide.ensures
-            (S.left _ (search rules)),
-        (
-          rw c.wide.ensures
-              (S.right _ (search rules)),
-          (
-            rw c.wide-in-loop-k.ensures
-                (S.above _ (search rules)),
-            rw c.wide-in-loop-k.ensures
-                (S.under _ (search rules)),
-          ),
-        ),
-      );
-    }
+colour_of-requires c = let S = c.requires.four_by_fours in record {
+  picture = c.requires.shaped;
+  i_nonzero = (
+    rw c.wide.ensures
+        (S.left _ (search rules)),
+    (
+      rw c.wide.ensures
+          (S.right _ (search rules)),
+      (
+        rw c.wide-in-loop-k.ensures
+            (S.above _ (search rules)),
+        rw c.wide-in-loop-k.ensures
+            (S.under _ (search rules)),
+      ),
+    ),
+  );
+}
 
 pub store_pixel-requires : goal.store_pixel-requires
 store_pixel-requires c = (

@@ -1,15 +1,10 @@
 -- `fast_cubic::spans::store_four_by_fours` meets its contract. The loop's invariant: the pixels passed are in the band.
 -- Assumes nothing.
-use mathlib.Core.Path.{◌∙◌, refl}
 use Prim.Native.Nat.{ℕ, ◌-◌}
-use native.Mathlib.Nat.{le_antisymm}
-use native.Mathlib.Omega.{arith}
-use borrow.Author.Rules.{rules}
 use lib.ListN.{get_or}
 use Rattle.fast_cubic.specs.Kernels.{of_four}
 use Rattle.fast_cubic.specs.FourByFours.{four_by_four}
-use Rattle.band.proofs.PixelLaws.{channels_pos}
-use Rattle.band.proofs.RowLaws.{RowHolds, row_start, row_room, row_next, row_done, row_same, place_small}
+use Rattle.band.proofs.RowLaws.{RowHolds}
 use Rattle.fast_cubic.proofs.spans.store_four_by_fours.Given as goal
 
 abbrev pub invariant-loop-k : goal.invariant-loop-k

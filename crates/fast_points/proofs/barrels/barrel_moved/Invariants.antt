@@ -1,11 +1,9 @@
 -- `fast_points::barrels::barrel_moved` meets its contract. The loop's invariant: the first k points are there. Assumes
 -- nothing.
 use Rattle.inverse.specs.Barrel.{barrel_from}
-use Rattle.inverse.proofs.WholePoints.{barrel_whole}
-use Rattle.fast_points.proofs.FillLaws.{Filling, fill_none, fill_more, fill_last}
+use Rattle.fast_points.proofs.FillLaws.{Filling}
 use Prim.Native.Nat.{ℕ, ◌-◌, ◌≤◌}
 use Rattle.exact.specs.Vector.{at}
-use borrow.Author.Rules.{rules}
 use Rattle.fast_points.proofs.barrels.barrel_moved.Given as goal
 
 abbrev pub invariant-loop-k : goal.invariant-loop-k

@@ -1,8 +1,5 @@
--- `fast_points::barrels::guesses` meets its contract. The loop's invariant: the first k guesses are there. Assumes
--- nothing.
-use Rattle.number.specs.Root.{guess}
-use Rattle.fast_points.proofs.BarrelLaws.{Mapping, each_none, each_more, each_last}
-use Prim.Native.Nat.{◌-◌, ◌≤◌}
+-- `fast_points::barrels::guesses` meets its contract. The loop's invariant: the first k guesses are there.
+use Rattle.fast_points.proofs.BarrelLaws.{each_none, each_more, each_last}
 use borrow.Author.Rules.{rules}
 use Rattle.fast_points.proofs.barrels.guesses.Goals as goal
 
@@ -11,8 +8,7 @@ loop-k-init c = (each_none _ _ (search rules), search rules)
 
 pub loop-k-preserved : goal.loop-k-preserved
 loop-k-preserved c =
-    let head = c in
-    (each_more _ _ head.loop-k.k c.guess.ensures (search rules) head.loop-k.invariant.0, search rules)
+    (each_more _ _ c.loop-k.k c.guess.ensures (search rules) c.loop-k.invariant.0, search rules)
 
 pub returns : goal.returns
 returns c = each_last _ _ c.loop-k.k _ (search rules) c.loop-k.invariant.0

@@ -1,9 +1,8 @@
 -- `fast_points::barrels::guesses` meets its contract. The loop's invariant: the first k guesses are there. Assumes
 -- nothing.
 use Rattle.number.specs.Root.{guess}
-use Rattle.fast_points.proofs.BarrelLaws.{Mapping, each_none, each_more, each_last}
+use Rattle.fast_points.proofs.BarrelLaws.{Mapping}
 use Prim.Native.Nat.{◌-◌, ◌≤◌}
-use borrow.Author.Rules.{rules}
 use Rattle.fast_points.proofs.barrels.guesses.Given as goal
 
 abbrev pub invariant-loop-k : goal.invariant-loop-k

@@ -1,8 +1,7 @@
 -- `fast_points::barrels::radii_squared` meets its contract. The loop's invariant: the first k offsets and squares are
 -- there. Assumes nothing.
-use Rattle.fast_points.proofs.BarrelLaws.{Squaring, square_none, square_more, square_last}
+use Rattle.fast_points.proofs.BarrelLaws.{Squaring}
 use Prim.Native.Nat.{◌-◌, ◌≤◌}
-use borrow.Author.Rules.{rules}
 use Rattle.fast_points.proofs.barrels.radii_squared.Given as goal
 
 abbrev pub invariant-loop-k : goal.invariant-loop-k

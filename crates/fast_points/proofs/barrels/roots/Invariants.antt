@@ -1,8 +1,7 @@
 -- `fast_points::barrels::roots` meets its contract. The loop's invariant: the first k roots are there. Assumes nothing.
 use Rattle.number.specs.Root.{root}
-use Rattle.fast_points.proofs.BarrelLaws.{Mapping, each_none, each_more, each_last}
+use Rattle.fast_points.proofs.BarrelLaws.{Mapping}
 use Prim.Native.Nat.{◌-◌, ◌≤◌}
-use borrow.Author.Rules.{rules}
 use Rattle.fast_points.proofs.barrels.roots.Given as goal
 
 abbrev pub invariant-loop-k : goal.invariant-loop-k

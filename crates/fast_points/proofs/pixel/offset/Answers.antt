@@ -1,8 +1,7 @@
 -- `fast_points::pixel::offset` meets its contract: the offset is a whole number that an f64 holds. The machine reads it
--- back from its bits, which is the offset, since it fits. Assumes nothing.
+-- back from its bits, which is the offset, since it fits.
 use mathlib.Core.Path.{sym, subst}
 use native.Mathlib.Nat.{le_trans}
-use borrow.Author.Rules.{rules}
 use lib.Dec.{T, lit≤}
 use lib.IntN.{ℤ}
 use lib.Ieee.{binary64, in_float}

@@ -1,5 +1,5 @@
 -- `fast_points::pixel::pixel_middle` meets its contract: the machine reads the column back from the bits of an i32,
--- which is the column, since it is small. Assumes nothing.
+-- which is the column, since it is small.
 use native.Mathlib.Nat.{lt_of_le_of_lt}
 use lib.Dec.{lit<}
 use lib.IntN.{ℤ}
@@ -8,7 +8,6 @@ use mir.Syntax.{w32}
 use mir.ValLaws.{to_z_pos}
 use Rattle.exact.specs.Double.{◌⊕◌, half}
 use mathlib.Core.Path.{ap}
-use borrow.Author.Rules.{rules}
 use Rattle.fast_points.proofs.pixel.pixel_middle.Goals as goal
 
 pub returns : goal.returns

@@ -1,11 +1,8 @@
--- `fast_points::points::affine_points` meets its contract. The loop's invariant: the first k points are there. Assumes
--- nothing.
+-- `fast_points::points::affine_points` meets its contract. The loop's invariant: the first k points are there.
 use lib.Ieee.{Float}
 use Rattle.inverse.specs.Affine.{affine}
 use Rattle.point.proofs.WholeLaws.{point_whole}
-use Rattle.fast_points.specs.Points.{pixel_middle}
-use Rattle.fast_points.proofs.FillLaws.{Filling, fill_none, fill_span, fill_last}
-use Prim.Native.Nat.{ℕ, ◌+◌, ◌-◌, ◌≤◌}
+use Rattle.fast_points.proofs.FillLaws.{fill_none, fill_span, fill_last}
 use borrow.Author.Rules.{rules}
 use Rattle.fast_points.proofs.points.affine_points.Goals as goal
 
@@ -14,10 +11,9 @@ loop-k-init c = (fill_none _ (search rules) (search rules), search rules)
 
 pub loop-k-preserved : goal.loop-k-preserved
 loop-k-preserved c =
-    let head = c in
-    let a = head.args in (
-      fill_span (λ (z : Float). affine a.coef.now z a.y) a.x a.first (λ z. point_whole _ _) head.loop-k.k
-          c.pixel_middle.ensures c.affine-p.ensures (search rules) head.loop-k.invariant.0,
+    let a = c.args in (
+      fill_span (λ (z : Float). affine a.coef.now z a.y) a.x a.first (λ z. point_whole _ _) c.loop-k.k
+          c.pixel_middle.ensures c.affine-p.ensures (search rules) c.loop-k.invariant.0,
       search rules,
     )
 

@@ -1,11 +1,8 @@
--- `fast_points::points::forward_points` meets its contract. The loop's invariant: the first k points are there. Assumes
--- nothing.
+-- `fast_points::points::forward_points` meets its contract. The loop's invariant: the first k points are there.
 use lib.Ieee.{Float}
 use Rattle.inverse.specs.Forward.{bilinear_forward}
 use Rattle.inverse.proofs.WholePoints.{forward_whole}
-use Rattle.fast_points.specs.Points.{pixel_middle}
-use Rattle.fast_points.proofs.FillLaws.{Filling, fill_none, fill_span, fill_last}
-use Prim.Native.Nat.{ℕ, ◌+◌, ◌-◌, ◌≤◌}
+use Rattle.fast_points.proofs.FillLaws.{fill_none, fill_span, fill_last}
 use borrow.Author.Rules.{rules}
 use Rattle.fast_points.proofs.points.forward_points.Goals as goal
 
@@ -14,11 +11,10 @@ loop-k-init c = (fill_none _ (search rules) (search rules), search rules)
 
 pub loop-k-preserved : goal.loop-k-preserved
 loop-k-preserved c =
-    let head = c in
-    let a = head.args in (
+    let a = c.args in (
       fill_span (λ (z : Float). bilinear_forward a.coef.now z a.y)
-          a.x a.first (λ z. forward_whole _ z _) head.loop-k.k
-          c.pixel_middle.ensures c.bilinear_forward-p.ensures (search rules) head.loop-k.invariant.0,
+          a.x a.first (λ z. forward_whole _ z _) c.loop-k.k
+          c.pixel_middle.ensures c.bilinear_forward-p.ensures (search rules) c.loop-k.invariant.0,
       search rules,
     )
 

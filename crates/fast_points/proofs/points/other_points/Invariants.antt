@@ -1,12 +1,9 @@
 -- `fast_points::points::other_points` meets its contract. The loop's invariant: the first k points are there. Assumes
 -- nothing.
-use lib.Ieee.{Float}
 use Rattle.inverse.specs.Inverse.{inverse}
-use Rattle.inverse.proofs.WholePoints.{inverse_whole}
 use Rattle.fast_points.specs.Points.{pixel_middle}
-use Rattle.fast_points.proofs.FillLaws.{Filling, fill_none, fill_span, fill_last}
+use Rattle.fast_points.proofs.FillLaws.{Filling}
 use Prim.Native.Nat.{ℕ, ◌+◌, ◌-◌, ◌≤◌}
-use borrow.Author.Rules.{rules}
 use Rattle.fast_points.proofs.points.other_points.Given as goal
 
 abbrev pub invariant-loop-k : goal.invariant-loop-k

@@ -1,5 +1,4 @@
--- `fast_points::points::points` meets its contract: each way out is the span of the kind that the test found. Assumes
--- nothing.
+-- `fast_points::points::points` meets its contract: each way out is the span of the kind that the test found.
 use lib.IntN.{ℤ}
 use lib.Ieee.{Float, binary64, of_int}
 use mir.Syntax.{w64}
@@ -17,7 +16,6 @@ use Rattle.fast_points.proofs.PointsLaws.{
 }
 use mathlib.Core.Path.{◌≡◌, refl, ap, ◌∙◌}
 use Rattle.std.proofs.Common.{ℕ}
-use borrow.Author.Rules.{rules}
 use Rattle.fast_points.proofs.points.points.Goals as goal
 
 -- the offset and the row's middle, as floats, are those of the frame, whose offsets are read back from their bits

@@ -1,7 +1,5 @@
 -- `rows::ahead::read` is safe and ends: every fourth of n cells is one of them. Assumes nothing.
 use Prim.Native.Nat.{◌-◌, ◌*◌, ◌≤◌}
-use borrow.Author.Rules.{rules}
-use native.Mathlib.Omega.{arith}
 use Rattle.rows.proofs.ahead.read.Given as goal
 
 abbrev pub invariant-loop-e : goal.invariant-loop-e

@@ -1,19 +1,16 @@
 -- `rows::inside::store_bilinear` meets its contract: where every point of the span has its cell inside, none is matte,
--- and each cell's colour is the point's. Assumes nothing.
+-- and each cell's colour is the point's.
 use mathlib.Core.Path.{refl}
 use mathlib.Core.Bool.{false≢true}
-use borrow.Author.Rules.{rules}
 use Rattle.band.proofs.InnerLaws.{inner_put}
 use Rattle.fast_colours.proofs.InsideSpanLaws.{cells_inside, cells_units, cells_shown}
 use Rattle.rows.proofs.inside.store_bilinear.Goals as goal
 
 pub ahead-requires : goal.ahead-requires
-ahead-requires c = let a = c in
-    let C = c.cells.ensures.cells c.if-cells.true in record { shaped = a.requires.shaped; n_le_longest_span = a.requires.n_le_longest_span; cells_inside = cells_inside _ _ C.0 C.1 }
+ahead-requires c = let C = c.cells.ensures.cells c.if-cells.true in record { shaped = c.requires.shaped; n_le_longest_span = c.requires.n_le_longest_span; cells_inside = cells_inside _ _ C.0 C.1 }
 
 pub store_broad_cells-requires : goal.store_broad_cells-requires
-store_broad_cells-requires c = let a = c in
-    let C = c.cells.ensures.cells c.if-cells.true in record { shaped = a.requires.shaped; channels = a.requires.channels; n_le_longest_span = a.requires.n_le_longest_span; cells_inside = cells_inside _ _ C.0 C.1; fractions = (cells_units C.0, cells_units C.1); channels_in_bounds = a.requires.channels_in_bounds }
+store_broad_cells-requires c = let C = c.cells.ensures.cells c.if-cells.true in record { shaped = c.requires.shaped; channels = c.requires.channels; n_le_longest_span = c.requires.n_le_longest_span; cells_inside = cells_inside _ _ C.0 C.1; fractions = (cells_units C.0, cells_units C.1); channels_in_bounds = c.requires.channels_in_bounds }
 
 pub returns-then-ahead : goal.returns-then-ahead
 returns-then-ahead c =

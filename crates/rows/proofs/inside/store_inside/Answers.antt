@@ -1,9 +1,8 @@
--- `rows::inside::store_inside` meets its contract: each loop is called for its codes. Assumes nothing.
+-- `rows::inside::store_inside` meets its contract: each loop is called for its codes.
 use mathlib.Core.Path.{refl}
 use mathlib.Core.Bool.{false≢true}
 use borrow.Author.Rules.{rules}
 use native.Mathlib.Omega.{arith}
-use borrow.Author.Tests.{leb-true}
 use Rattle.rows.proofs.inside.store_inside.Goals as goal
 
 pub returns-then-code-eq-BILINEAR : goal.returns-then-code-eq-BILINEAR

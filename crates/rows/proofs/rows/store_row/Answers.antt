@@ -1,13 +1,13 @@
 -- `rows::rows::store_row` meets its contract. The loop's invariant: the row's pixels passed are in the band, and the
--- matte ones among them are counted. Assumes nothing.
+-- matte ones among them are counted.
 use mathlib.Core.Path.{◌∙◌, sym}
-use Prim.Native.Nat.{ℕ, ◌-◌}
+use Prim.Native.Nat.{◌-◌}
 use native.Mathlib.Nat.{le_trans, le_antisymm, le_of_eq}
 use native.Mathlib.Omega.{arith}
 use borrow.Author.Rules.{rules}
-use Rattle.band.specs.Band.{sourced, framed, point_at, colour_at, matte_pixels_at, row_bytes, row_matte_pixels}
+use Rattle.band.specs.Band.{framed, point_at, row_bytes, row_matte_pixels}
 use Rattle.band.proofs.PixelLaws.{channels_pos}
-use Rattle.band.proofs.RowLaws.{RowHolds, row_start, row_done, row_same, bit_most, place_small}
+use Rattle.band.proofs.RowLaws.{row_start, row_done, row_same, bit_most, place_small}
 use Rattle.rows.proofs.SpanLaws.{row_part, within_row, part_room, part_most}
 use Rattle.rows.proofs.rows.store_row.Goals as goal
 
@@ -19,30 +19,28 @@ loop-i-init c =
 
 pub overflow_add-span : goal.overflow_add-span
 overflow_add-span c =
-    let e = c in
     record {
       fits = omega (
         arith,
-        place_small e.args.row.pixel e.args.out.width e.args.out.channels _
-            (channels_pos _ e.requires.channels) e.requires.channels_in_bounds,
+        place_small c.args.row.pixel c.args.out.width c.args.out.channels _
+            (channels_pos _ c.requires.channels) c.requires.channels_in_bounds,
         c.loop-i.invariant.most,
-        e.well_formed.1.1.1.1.1.1.1.0.0,
+        c.well_formed.1.1.1.1.1.1.1.0.0,
       );
     }
 
 pub store_span-matte_pixels-requires : goal.store_span-matte_pixels-requires
-store_span-matte_pixels-requires c = let e = c in
-    let H = c.loop-i.invariant in
+store_span-matte_pixels-requires c = let H = c.loop-i.invariant in
     let n = c.next_span-n.ensures in
-    let w = within_row c.loop-i.i c.next_span-n.result e.args.out.width
+    let w = within_row c.loop-i.i c.next_span-n.result c.args.out.width
     (search rules) n.1.0 in record {
-      shaped = e.requires.shaped;
-      channels = e.requires.channels;
-      n_le_longest_span = (n.1.1, (le_trans w e.requires.width_le_largest_side.0, e.requires.width_le_largest_side.1));
-      x_bound = e.requires.x_bound;
-      out_channels_in_bounds = part_room e.args.row.pixel c.loop-i.i
-          c.next_span-n.result e.args.out.width e.args.out.channels _ w
-          (le_trans e.requires.channels_in_bounds (le_of_eq (sym (row_same e.requires.channels_in_bounds H))));
+      shaped = c.requires.shaped;
+      channels = c.requires.channels;
+      n_le_longest_span = (n.1.1, (le_trans w c.requires.width_le_largest_side.0, c.requires.width_le_largest_side.1));
+      x_bound = c.requires.x_bound;
+      out_channels_in_bounds = part_room c.args.row.pixel c.loop-i.i
+          c.next_span-n.result c.args.out.width c.args.out.channels _ w
+          (le_trans c.requires.channels_in_bounds (le_of_eq (sym (row_same c.requires.channels_in_bounds H))));
     }
 
 pub overflow_add-matte_pixels : goal.overflow_add-matte_pixels
@@ -89,8 +87,7 @@ shape_of-band c = row_same c.requires.channels_in_bounds c.loop-i.invariant
 pub returns : goal.returns
 unfolding row_bytes row_matte_pixels
 returns c =
-    let a = c in
     let H = c.loop-i.invariant in (
       H.count ∙ rw (le_antisymm H.most (search rules)),
-      row_done a.requires.channels_in_bounds H (le_antisymm H.most (search rules)),
+      row_done c.requires.channels_in_bounds H (le_antisymm H.most (search rules)),
     )

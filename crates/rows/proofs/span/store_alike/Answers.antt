@@ -1,7 +1,6 @@
--- `rows::span::store_alike` meets its contract: what is put has the picture's channels. Assumes nothing.
+-- `rows::span::store_alike` meets its contract: what is put has the picture's channels.
 use mathlib.Core.Path.{refl}
 use mathlib.Core.Bool.{false≢true}
-use borrow.Author.Rules.{rules}
 use Rattle.rows.proofs.span.store_alike.Goals as goal
 
 pub store_inside-requires : goal.store_inside-requires

@@ -1,6 +1,5 @@
 -- `rows::span::store_colours` meets its contract: what the loop for such pixels put, or else what `store_any` put into
--- the band as it was. Assumes nothing.
-use borrow.Author.Rules.{rules}
+-- the band as it was.
 use Rattle.band.specs.Band.{sourced}
 use Rattle.rows.proofs.SpanLaws.{same_room, same_put}
 use Rattle.rows.proofs.span.store_colours.Goals as goal
@@ -9,12 +8,12 @@ pub returns-then-store_alike : goal.returns-then-store_alike
 returns-then-store_alike c = c.store_alike.ensures.0 c.if-store_alike.true _ _ _
 
 pub store_any-requires : goal.store_any-requires
-store_any-requires c = let e = c in record {
-  shaped = e.requires.shaped;
-  channels = e.requires.channels;
-  n_le_longest_span = e.requires.n_le_longest_span;
+store_any-requires c = record {
+  shaped = c.requires.shaped;
+  channels = c.requires.channels;
+  n_le_longest_span = c.requires.n_le_longest_span;
   out_channels_in_bounds = same_room (c.store_alike.ensures.1 c.if-store_alike.false)
-      e.requires.out_channels_in_bounds;
+      c.requires.out_channels_in_bounds;
 }
 
 pub returns : goal.returns

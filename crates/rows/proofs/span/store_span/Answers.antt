@@ -1,13 +1,11 @@
--- `rows::span::store_span` meets its contract: the coordinates that are kept show what the source points show. Assumes
--- nothing.
+-- `rows::span::store_span` meets its contract: the coordinates that are kept show what the source points show.
 use mathlib.Core.Path.{◌∙◌}
-use borrow.Author.Rules.{rules}
 use Rattle.band.specs.Band.{sourced}
 use Rattle.rows.proofs.SpanLaws.{span_mattes, span_colours}
 use Rattle.rows.proofs.span.store_span.Goals as goal
 
 pub store_colours-requires : goal.store_colours-requires
-store_colours-requires c = let e = c in record { shaped = e.requires.shaped; channels = e.requires.channels; n_le_longest_span = e.requires.n_le_longest_span.0; out_channels_in_bounds = e.requires.out_channels_in_bounds }
+store_colours-requires c = record { shaped = c.requires.shaped; channels = c.requires.channels; n_le_longest_span = c.requires.n_le_longest_span.0; out_channels_in_bounds = c.requires.out_channels_in_bounds }
 
 pub returns : goal.returns
 returns c =

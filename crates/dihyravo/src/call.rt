@@ -42,9 +42,9 @@ pub extern "C" fn dihyravo_distort(
         (call_of picture.now width height channels method arguments.now policy interpolation
         background.now matte.now bestfit viewport view_width view_height view_x view_y
         first_row rows band.old) answer.old }
-    ensures picture_value { (picture.now ≡ picture.now)
-        × ((arguments.now ≡ arguments.now)
-        × ((background.now ≡ background.now) × (matte.now ≡ matte.now))) }
+    ensures lent_kept { (picture.exit.now ≡ picture.entry.now)
+        × ((arguments.exit.now ≡ arguments.entry.now)
+        × ((background.exit.now ≡ background.entry.now) × (matte.exit.now ≡ matte.entry.now))) }
 {
     let shape = Shape {
         width,

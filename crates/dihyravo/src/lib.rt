@@ -1,5 +1,7 @@
 // The product's static library, which host/ and programs in C link. Each exported call is thin over a crate that does
 // the work, and takes every argument. A slice comes as a pointer and a length.
+#![tactic(auto)]
+
 pub mod call;
 
 ghost use Rattle.std.specs.Prelude.{◌≡◌, ◌^◌};

@@ -53,6 +53,7 @@ pub fn bad_number(
 }
 
 // The first number from 1 to 7 that applies, 0 where none does.
+#[tactic(auto, unfolding(crate::specs::Refusal::unfit, exact::specs::Table::first_of))]
 pub fn unfit(
     picture: &[u8],
     arguments: &[u8],

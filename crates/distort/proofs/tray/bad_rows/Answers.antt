@@ -6,8 +6,7 @@ use Prim.Native.Nat.{ℕ, ◌+◌, ◌-◌, ◌≤◌, ◌<◌}
 use native.Mathlib.Omega.{arith}
 use lib.Dec.{ltb}
 use borrow.Author.Tests.{lt-ltb, le-ltb, ltb-true, ltb-false}
-use Rattle.distort.proofs.tray.bad_rows.Statement.{statement}
-use Rattle.distort.proofs.tray.bad_rows.Tie as tie
+use Rattle.distort.proofs.tray.bad_rows.Goals as goal
 
 beyond : (h f r : ℕ) → h < f → true ≡ ltb h (f + r)
 beyond h f r a = sym (lt-ltb h (f + r) (omega arith))
@@ -25,11 +24,8 @@ left-above h f r a = go (ltb (h - f) r) refl
     go true e = sym (lt-ltb h (f + r) (more (ltb-true (h - f) r e)))
     go false e = sym (le-ltb h (f + r) (fewer (ltb-false (h - f) r e)))
 
-returns : tie.Need-returns
-returns c = beyond _ _ _ c.if1.true
+pub returns-then-out_height-first_row : goal.returns-then-out_height-first_row
+returns-then-out_height-first_row c = beyond _ _ _ c.if-out_height-first_row.true
 
-returns-2 : tie.Need-returns-2
-returns-2 c = left-above _ _ _ c.if1.false
-
-pub bad-rows-spec : {M : Type 1} → statement M
-bad-rows-spec = tie.close (tie.spec returns returns-2)
+pub returns : goal.returns
+returns c = left-above _ _ _ c.if-out_height-first_row.false

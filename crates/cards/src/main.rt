@@ -1,6 +1,8 @@
 // A program that tests/cards runs: it runs trial cards through the distort call (specification 12.2) and prints how
 // many came out right: the limits of refusals 1, 4 and 5 on both sides, and those cards of the proved table that are
 // calls. Each asks for no rows of a grey picture of zeros, under `Edge` and `Nearest`.
+#![tactic(auto)]
+
 ghost use Rattle.std.specs.Prelude.{◌≡◌, [], ◌≤◌, pos};
 ghost use Rattle.distort.specs.Call.{answer, number_of, store_answer};
 ghost use Rattle.distort.specs.Job.{call_of};

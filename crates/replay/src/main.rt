@@ -5,6 +5,8 @@
 // bytes of background and 16 of matte, the picture, the arguments, and of an accepted job the answer's 48 bytes and the
 // band. Nothing is longer than 4,096 bytes. No contract can speak of a file: what compares has one, and all is safe and
 // ends.
+#![tactic(auto)]
+
 ghost use Rattle.std.specs.Prelude.{◌≡◌, ◌&&◌, ◌≤◌, take};
 ghost use Rattle.endian.specs.Bytes.{twos_complement};
 ghost use Rattle.replay.specs.Same as Same;

@@ -7,20 +7,14 @@ use Rattle.endian.specs.Bytes.{store_number}
 use Rattle.distort.specs.Call.{answer, number_of, store_answer}
 use Rattle.distort.specs.Job.{Call}
 use Rattle.distort.specs.declared.answer.Answer.{Answer}
-use Rattle.cards.proofs.ask.Statement.{statement}
-use Rattle.cards.proofs.ask.Tie as tie
+use Rattle.cards.proofs.ask.Goals as goal
 
 store-as-answered : (k : Call) (a : Answer) (r : ℕ) (before after : List ℕ) → a ≡ answer k → (r ≡ number_of a)
     × (after ≡ store_answer a before) → (r ≡ number_of (answer k)) × (after ≡ store_answer (answer k) before)
 store-as-answered k a r before after e h = rw (← e) h
 
-returns : tie.Need-returns
+pub returns : goal.returns
 unfolding store_number
 returns c =
-    rw (← c.before.before.before.before.before.before.before.yes.ensures)
-    (store-as-answered _ _ _ _ _ c.before.before.before.distort.ensures.0 c.store-answer.ensures)
-
-pub ask-spec : {M : Type 1} → statement M
-ask-spec =
-    tie.close
-    (tie.spec (λ c κs. search rules) (λ c. search rules) (λ c κs. search rules) (λ c κs. search rules) returns)
+    rw (← c.yes.ensures)
+    (store-as-answered _ _ _ _ _ c.distort-answered.ensures.0 c.store_answer.ensures)

@@ -7,10 +7,8 @@ use lib.IntN.{ℤ, pos, negsuc, ◌-ℤ◌}
 use mir.Syntax.{w64}
 use mir.Val.{SFits, of_z, to_z}
 use mir.Facts.{to_z-of_z}
-use borrow.Author.Rules.{rules}
 use Rattle.endian.specs.Bytes.{twos_complement}
-use Rattle.replay.proofs.signed.Statement.{statement}
-use Rattle.replay.proofs.signed.Tie as tie
+use Rattle.replay.proofs.signed.Goals as goal
 
 -- a number of 63 bits is its own
 plain : (n : ℕ) → n < 2 ^ 63 → to_z w64 n ≡ pos n
@@ -32,8 +30,8 @@ fit k h = subst (SFits w64) (sym (made k h)) (record { sfits = h })
 small : (bits : ℕ) → 2 ^ 63 ≤ bits → 18446744073709551615 - bits < 2 ^ 63
 small bits h = omega arith
 
-sub-result-2 : tie.Need-overflow-sub-result-2
-sub-result-2 c = fit _ (small _ c.if1.false)
+pub overflow_sub-result-else-bits-lt9223372036854775808 : goal.overflow_sub-result-else-bits-lt9223372036854775808
+overflow_sub-result-else-bits-lt9223372036854775808 c = fit _ (small _ c.if-bits-lt9223372036854775808.false)
 
 -- what the code answers, read back
 above : (bits : ℕ) → 2 ^ 63 ≤ bits → bits < 2 ^ 64
@@ -49,12 +47,8 @@ below : (bits : ℕ) → bits < 2 ^ 63 → twos_complement (to_z w64 bits) ≡ b
 unfolding twos_complement
 below bits h = ap twos_complement (plain bits h)
 
-returns : tie.Need-returns
-returns c = below _ c.if1.true
+pub returns-then-bits-lt9223372036854775808 : goal.returns-then-bits-lt9223372036854775808
+returns-then-bits-lt9223372036854775808 c = below _ c.if-bits-lt9223372036854775808.true
 
-returns-2 : tie.Need-returns-2
-returns-2 c = above _ c.if1.false c.before.ranges.bits.fits
-
-pub signed-spec : {M : Type 1} → statement M
-signed-spec =
-    tie.close (tie.spec (λ c. search rules) (λ c. search rules) (λ c. search rules) sub-result-2 returns returns-2)
+pub returns-else-bits-lt9223372036854775808 : goal.returns-else-bits-lt9223372036854775808
+returns-else-bits-lt9223372036854775808 c = above _ c.if-bits-lt9223372036854775808.false c.ranges.bits.fits

@@ -22,7 +22,6 @@ use Rattle.mappings.specs.Monomials as Monomials
 use Rattle.linear.specs.Normal as Normal
 use Rattle.fit.specs.Orient as Orient
 use Rattle.fit.specs.Perspective as Perspective
-use Rattle.fit.specs.Polynomial as Polynomial
 use Rattle.linear.specs.Solve as Solve
 use Rattle.inverse.specs.Inverse as Inverse
 use Rattle.inverse.specs.Perspective as Perspectives

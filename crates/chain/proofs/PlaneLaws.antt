@@ -24,7 +24,6 @@ use Rattle.picture.specs.Pixel.{Picture, widened, pixel_at}
 use Rattle.taps.specs.Weighted.{Opaque}
 use Rattle.picture.specs.declared.colour.Rgba.{Rgba}
 use Rattle.policies.specs.declared.named.Tap.{Tap}
-use Rattle.policies.specs.declared.named.Tap.TheVariants as Tap
 use Rattle.sampler.proofs.AtOpaque.{at_opaque}
 use Rattle.policies.proofs.NamedLaws.{named_lies}
 use Rattle.distort.specs.Job.{Image, Given, colour_of}

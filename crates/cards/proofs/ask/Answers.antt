@@ -2,7 +2,6 @@
 use Prim.Native.Nat.{ℕ}
 use mathlib.Core.Path.{◌≡◌}
 use mathlib.Core.List.{List}
-use borrow.Author.Rules.{rules}
 use Rattle.endian.specs.Bytes.{store_number}
 use Rattle.distort.specs.Call.{answer, number_of, store_answer}
 use Rattle.distort.specs.Job.{Call}

@@ -1,0 +1,2 @@
+-- The definitions of the misfit.
+pub mod Misfit

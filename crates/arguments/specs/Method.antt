@@ -1,7 +1,22 @@
 -- The methods by their codes, which count from 0 in the order of the Rust enum's declaration; the four that are absent
 -- have theirs too. Then what each method states: its least pair count and its term count. Specification 1.2, 3.2.
 -- Assumes nothing.
-use Rattle.std.specs.Prelude.{ℕ, Bool, not, ◌&&◌, ◌||◌, cond, eqb, ltb, leb, Float}
+use Rattle.std.specs.Prelude.{◌≡◌, ℕ, Bool, false, not, ◌&&◌, ◌||◌, cond, eqb, ltb, leb, Result, MatchResult, Float}
+use Rattle.refusals.specs.declared.Refusal.{Refusal}
+use Rattle.refusals.specs.declared.Refusal.TheVariants.{Code}
+use Rattle.arguments.specs.declared.code.Method.{Method}
+use Rattle.arguments.specs.declared.code.Method.TheVariants.{
+  Affine,
+  AffineProjection,
+  Perspective,
+  PerspectiveProjection,
+  BilinearReverse,
+  BilinearForward,
+  Polynomial,
+  Barrel,
+  BarrelInverse,
+  Shepards,
+}
 use Rattle.arguments.specs.Order.{terms_of}
 
 abbrev pub affine_code : ℕ
@@ -47,6 +62,23 @@ de_polar_code = 10
 -- `Shepards` is the last
 unfoldable pub present : ℕ → Bool
 present m = leb m shepards_code && not (eqb m scale_rotate_translate_code) && (ltb m arc_code || ltb de_polar_code m)
+
+-- ---- a method's code, and the method of a code: none for one that is absent
+
+abbrev pub code_of : Method → ℕ
+code_of Affine = affine_code
+code_of AffineProjection = affine_projection_code
+code_of Perspective = perspective_code
+code_of PerspectiveProjection = perspective_projection_code
+code_of BilinearReverse = bilinear_reverse_code
+code_of BilinearForward = bilinear_forward_code
+code_of Polynomial = polynomial_code
+code_of Barrel = barrel_code
+code_of BarrelInverse = barrel_inverse_code
+code_of Shepards = shepards_code
+
+abbrev pub Judged : ℕ → Result Method Refusal → Type 0
+Judged code r = MatchResult r (λ m. code_of m ≡ code) (λ e. (e ≡ Code) × (present code ≡ false))
 
 -- the methods that take pairs
 unfoldable pub pair_method : ℕ → Bool

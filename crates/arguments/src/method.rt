@@ -13,6 +13,7 @@ impl Affine {
     pub const LEAST_PAIRS: u64 = 1;
 
     // A similarity, of two pairs, has four unknowns in one system; else there are three for u and three for v.
+    #[tactic(auto, unfolding(crate::specs::Method::affine_terms))]
     pub fn terms(pairs: u64) -> u64
         ensures { result ≡ affine_terms pairs }
     {
@@ -88,6 +89,7 @@ impl Polynomial {
     pub const SKIP: u64 = 1;
 
     // Exactly 1.5: the terms 1, x, y, xy.
+    #[tactic(auto, unfolding(crate::specs::Order::bilinear_order))]
     pub fn bilinear(order: f64) -> bool
         ensures { result ≡ bilinear_order order }
     {
@@ -95,6 +97,7 @@ impl Polynomial {
     }
 
     // A whole order from 1 to 5 as a number; 0 for 1.5, which has no degree, and for what is no order.
+    #[tactic(auto, unfolding(crate::specs::Order::degree))]
     pub fn degree(order: f64) -> u64
         ensures { result ≡ degree order }
     {
@@ -116,6 +119,7 @@ impl Polynomial {
         0
     }
 
+    #[tactic(auto, unfolding(crate::specs::Order::terms_of), using(crate::proofs::OrderLaws::degree_range, crate::proofs::OrderLaws::terms_twice))]
     pub fn terms(order: f64) -> u64
         ensures { result ≡ terms_of order }
     {
@@ -134,6 +138,7 @@ impl Polynomial {
     }
 
     // Exactly 1, 1.5, 2, 3, 4 or 5.
+    #[tactic(auto, unfolding(crate::specs::Order::good_order))]
     pub fn good_order(order: f64) -> bool
         ensures { result ≡ good_order order }
     {

@@ -8,21 +8,25 @@ use Rattle.exact.specs.Warp.{half}
 use Rattle.exact.specs.Vector.{Vector, at}
 use Rattle.inverse.specs.Inverse.{inverse}
 use Rattle.inverse.specs.declared.frame.Frame.{Frame}
+use Rattle.mappings.specs.declared.mapping.Kind.{Kind}
 use Rattle.mappings.specs.declared.mapping.Mapping.{Mapping}
 use Rattle.point.specs.Point.{point, usable}
 use Rattle.point.specs.declared.point.Point.{Point}
 use Rattle.sampler.specs.Interpolate.{interpolate}
 use Rattle.picture.specs.Store.{store_pixel}
+use Rattle.policies.specs.Named as Policies
+use Rattle.taps.specs.Interpolation as Interpolations
+use Rattle.picture.specs.declared.picture.Picture.{Picture}
 use Rattle.picture.specs.declared.colour.Rgba.{Rgba}
 use Rattle.picture.specs.declared.shape.Shape.{Shape}
 use Rattle.band.specs.declared.look.Look.{Look}
-use Rattle.band.specs.Image.{Image, shaped_image}
+use Rattle.band.specs.Image.{Image, image_of, shaped_image}
 use Rattle.band.specs.Joined.{joined, totalled}
 
 -- ---- what a pixel is worked from
 -- the mapping, and where the window lies
 pub record Mapped : Type 0 where
-  pub kind : ℕ
+  pub kind : Kind
   pub order : ℕ
   pub count : ℕ
   pub coef : Vector
@@ -47,17 +51,23 @@ source_by image policy interpolation background matte = record {
   matte = matte;
 }
 
--- both by the records that the code hands on, with the lists that it lends
-abbrev pub framed : Vector → Frame → Mapped
-framed coef f =
-    record { kind = f.kind; order = f.order; count = f.count; coef = coef; x = f.x; y = f.y }
-
 -- a mapping in a window at x, y
 abbrev pub mapped : Mapping → ℤ → ℤ → Mapped
 mapped m x y = record { kind = m.kind; order = m.order; count = m.count; coef = m.coef; x = x; y = y }
 
+abbrev pub looked : Image → Look → Source
+looked image l =
+    source_by image (Policies.code_of l.policy) (Interpolations.code_of l.interpolation) l.background l.matte
+
+-- both by the records that the code hands on, with the lists that it lends
+abbrev pub framed : Frame → Mapped
+framed f = mapped f.mapping.now f.x f.y
+
 abbrev pub sourced : List ℕ → Shape → Look → Source
-sourced bytes s l = source_by (shaped_image bytes s) l.policy l.interpolation l.background l.matte
+sourced bytes s l = looked (shaped_image bytes s) l
+
+abbrev pub pictured : Picture → Look → Source
+pictured p l = looked (image_of p.bytes.now p.width p.height p.channels) l
 
 -- ---- one pixel, at column i and row j of the window
 abbrev pub point_at : Mapped → ℕ → ℕ → Point

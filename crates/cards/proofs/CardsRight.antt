@@ -38,7 +38,7 @@ use Rattle.window.specs.Ceil as Ceil
 use Rattle.window.specs.Edges as Edges
 use Rattle.window.specs.Extent as Extent
 use Rattle.window.specs.Window as Window
-use Rattle.window.specs.declared.window.Placed.TheVariants as Placed
+use Rattle.window.specs.Placed as Placed
 use Rattle.distort.specs.Refusal as Refusal
 use Rattle.cards.specs.Cards.{
   Named,

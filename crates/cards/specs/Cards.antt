@@ -16,7 +16,7 @@ use Rattle.policies.specs.Named.{edge_code, tile_code, mirror_code, checker_tile
 use Rattle.taps.specs.Interpolation.{nearest_code, bilinear_code}
 use Rattle.picture.specs.declared.colour.Rgba.{Rgba}
 use Rattle.policies.specs.declared.named.Tap.{Tap}
-use Rattle.window.specs.declared.window.Placed.{Placed}
+use Rattle.window.specs.Placed.{Placed}
 use Rattle.distort.specs.Job.{Image, Given, Call}
 use Rattle.distort.specs.Refusal.{window_of, refusal}
 

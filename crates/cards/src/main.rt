@@ -3,7 +3,7 @@
 // calls. Each asks for no rows of a grey picture of zeros, under `Edge` and `Nearest`.
 #![tactic(auto)]
 
-ghost use Rattle.std.specs.Prelude.{◌≡◌, [], ◌≤◌, pos};
+ghost use Rattle.std.specs.Prelude.{◌≡◌, [], pos};
 ghost use Rattle.distort.specs.Call.{answer, number_of, store_answer};
 ghost use Rattle.distort.specs.Job.{call_of};
 ghost use Rattle.policies.specs.Named.{edge_code};
@@ -15,11 +15,11 @@ use band::rows::Rows;
 use distort::answer::store_answer;
 use distort::call::distort;
 use distort::job::Job;
-use endian::bytes::{store_u64, u64_at};
+use endian::bytes::{ReadAt, StoreAt};
 use picture::shape::Shape;
-use policies::policy::EDGE;
+use policies::policy::Policy;
 use std::io;
-use taps::interpolation::NEAREST;
+use taps::interpolation::Interpolation;
 use window::view::{View, yes};
 
 const ONE: u64 = 0x3ff0_0000_0000_0000;
@@ -54,18 +54,14 @@ fn ask(
     };
     let view = View {
         bestfit: yes(bestfit),
-        given: false,
-        width: 0,
-        height: 0,
-        x: 0,
-        y: 0,
+        viewport: None,
     };
     let rows = Rows { first: 0, count: 0 };
     let job = Job {
         shape,
         method,
-        policy: EDGE,
-        interpolation: NEAREST,
+        policy: Policy::Edge.code(),
+        interpolation: Interpolation::Nearest.code(),
         view,
         rows,
     };
@@ -76,9 +72,9 @@ fn ask(
 // The arguments 1, 0, 0, 1, 0, last by their bits, into the first 48 bytes.
 fn projection(last: u64) -> [u8; 48] {
     let mut bytes = [0u8; 48];
-    store_u64(&mut bytes, 0, ONE);
-    store_u64(&mut bytes, 24, ONE);
-    store_u64(&mut bytes, 40, last);
+    ONE.store_at(&mut bytes, 0);
+    ONE.store_at(&mut bytes, 24);
+    last.store_at(&mut bytes, 40);
     bytes
 }
 
@@ -134,10 +130,10 @@ fn singular_card() -> bool {
     let picture = [0u8; 4];
     let mut out = [0u8; 48];
     let mut arguments = [0u8; 48];
-    store_u64(&mut arguments, 0, ONE);
-    store_u64(&mut arguments, 8, 0x4000_0000_0000_0000);
-    store_u64(&mut arguments, 16, 0x4000_0000_0000_0000);
-    store_u64(&mut arguments, 24, 0x4010_0000_0000_0000);
+    ONE.store_at(&mut arguments, 0);
+    0x4000_0000_0000_0000_u64.store_at(&mut arguments, 8);
+    0x4000_0000_0000_0000_u64.store_at(&mut arguments, 16);
+    0x4010_0000_0000_0000_u64.store_at(&mut arguments, 24);
     let method = AffineProjection::CODE;
     ask(&picture, 1, 1, method, &arguments, 0, &mut out) == 8
 }
@@ -147,22 +143,16 @@ fn order_card() -> bool {
     let picture = [0u8; 4];
     let mut out = [0u8; 48];
     let mut arguments = [0u8; 296];
-    store_u64(&mut arguments, 0, 0x4004_0000_0000_0000);
+    0x4004_0000_0000_0000_u64.store_at(&mut arguments, 0);
     ask(&picture, 1, 1, Polynomial::CODE, &arguments, 0, &mut out) == 6
 }
 
 // Whether the answer is 6 by 5 at -1, -1.
 fn grown(out: &[u8; 48]) -> bool {
-    if u64_at(out, 0) != 6 {
-        return false;
-    }
-    if u64_at(out, 8) != 5 {
-        return false;
-    }
-    if u64_at(out, 16) != MINUS_ONE {
-        return false;
-    }
-    u64_at(out, 24) == MINUS_ONE
+    u64::read_at(out, 0) == 6
+        && u64::read_at(out, 8) == 5
+        && u64::read_at(out, 16) == MINUS_ONE
+        && u64::read_at(out, 24) == MINUS_ONE
 }
 
 // The identity's bestfit on 4 by 3.
@@ -171,38 +161,27 @@ fn bestfit_card() -> bool {
     let mut out = [0u8; 48];
     let arguments = projection(0);
     let method = AffineProjection::CODE;
-    if ask(&picture, 4, 3, method, &arguments, 1, &mut out) != 0 {
-        return false;
-    }
-    grown(&out)
+    ask(&picture, 4, 3, method, &arguments, 1, &mut out) == 0 && grown(&out)
 }
 
-fn right(held: bool) -> u64
-    ensures { result ≤ 1 }
-{
-    if held { 1 } else { 0 }
-}
-
-// How many of the cards of the limits came out right.
-fn limits() -> u64
-    ensures { result ≤ 6 }
-{
-    let sizes = right(size_card(4096, 0)) + right(size_card(4097, 1));
-    let numbers = right(number_card(0x4130_0000_0000_0000, 0))
-        + right(number_card(0x4130_0000_0000_0001, 5));
-    let pairs = right(pairs_card(64, 0)) + right(pairs_card(65, 4));
-    sizes + numbers + pairs
-}
-
-// How many of the table's cards came out right.
-fn others() -> u64
-    ensures { result ≤ 3 }
-{
-    right(singular_card()) + right(order_card()) + right(bestfit_card())
+// Whether each card came out right.
+fn cards() -> [bool; 9] {
+    [
+        size_card(4096, 0),
+        size_card(4097, 1),
+        number_card(0x4130_0000_0000_0000, 0),
+        number_card(0x4130_0000_0000_0001, 5),
+        pairs_card(64, 0),
+        pairs_card(65, 4),
+        singular_card(),
+        order_card(),
+        bestfit_card(),
+    ]
 }
 
 fn main(rt: HostRuntime) -> io::Result<()> {
-    let passed = limits() + others();
-    let failed = 9 - passed;
+    let cards = cards();
+    let passed = cards.iter().filter(|right| **right).count();
+    let failed = cards.len() - passed;
     println!(rt; "cards: {passed} passed, {failed} failed")
 }

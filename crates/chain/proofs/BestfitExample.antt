@@ -7,7 +7,7 @@ use native.Mathlib.Omega.{arith}
 use lib.IntN.{pos, negsuc}
 use Rattle.distort.specs.Job.{Image, Given, Call}
 use Rattle.distort.specs.Refusal.{fit_of}
-use Rattle.distort.specs.declared.answer.Answer.TheVariants.{Accepted}
+use Rattle.distort.specs.Answer.{Accepted}
 use Rattle.chain.specs.Demand.{Conditions, by_affine_projection, by_perspective, Near}
 use Rattle.exact.specs.Each.{Each}
 use Rattle.chain.specs.Exact.{exactly, exact_chain}

@@ -12,7 +12,7 @@ use Rattle.exact.specs.Fraction.{frac, value, ◌<F◌, ◌+F◌, ◌-F◌, ◌*
 use Rattle.exact.specs.Surface.{floor_f, part_f}
 use Rattle.exact.proofs.Products.{lt_le_trans}
 use Rattle.distort.specs.Job.{Image, Given, Call}
-use Rattle.distort.specs.declared.answer.Answer.TheVariants.{Accepted}
+use Rattle.distort.specs.Answer.{Accepted}
 use Rattle.chain.specs.ExactPoint.{exact_point}
 use Rattle.chain.specs.Demand.{sample_of}
 use Rattle.chain.specs.Exact.{exactly, plane, source, warped_sample, exact_chain}

@@ -14,7 +14,7 @@ use Rattle.exact.proofs.Booleans.{both}
 use Rattle.distort.specs.Call.{out_height, rows_of, matte_pixels_of, answer, left}
 use Rattle.distort.specs.Job.{Image, Call}
 use Rattle.distort.specs.Refusal.{refusal}
-use Rattle.distort.specs.declared.answer.Answer.{Answer}
+use Rattle.distort.specs.Answer.{Answer}
 use Rattle.distort.proofs.AcceptedLaws.{accepted_call}
 use Rattle.distort.proofs.CallLaws.{answer_accepted, left_accepted}
 use Rattle.chain.specs.Demand.{First, Conditions, Lent, ThirdDemand, NoWarps}

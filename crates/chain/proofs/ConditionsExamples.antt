@@ -14,6 +14,7 @@ use Rattle.exact.specs.Sums.{asked, asked_f}
 use Rattle.exact.specs.Vector.{Vector}
 use Rattle.inverse.specs.Polynomial.{of_u, of_v}
 use Rattle.inverse.specs.Inverse.{inverse}
+use Rattle.mappings.specs.declared.mapping.Kind.{Kind}
 use Rattle.chain.specs.ExactPoint.{monomials_f, power_at, exact_point}
 use Rattle.chain.specs.Conditions.{TermsMeet, Meets, Faithful}
 use Rattle.chain.proofs.PointNear.{asked_near}
@@ -36,7 +37,7 @@ X = asked_f 0 (pos 0)
 abbrev Y : Fraction
 Y = asked_f 1 (pos 0)
 
-pub affine_meets : Meets 1 0 m X Y
+pub affine_meets : Meets Kind.Affine 0 m X Y
 unfolding TermsMeet exact_point abs_f ◌*F◌ ◌+F◌
 affine_meets = record {
   terms = record {
@@ -61,7 +62,7 @@ affine_meets = record {
   v = record { le = lit≤ tt };
 }
 
-pub perspective_meets : Meets 2 0 m X Y
+pub perspective_meets : Meets Kind.Perspective 0 m X Y
 unfolding TermsMeet exact_point abs_f ◌*F◌ ◌+F◌ ◌/F◌
 perspective_meets = record {
   terms = record {
@@ -106,7 +107,7 @@ four P a b c d (suc (suc (suc (suc k)))) h = absurd (past k h)
     past : (k : ℕ) → suc (suc (suc (suc k))) < 4 → ⊥
     past k h = omega arith
 
-pub polynomial_meets : Meets 3 0 m X Y
+pub polynomial_meets : Meets Kind.Poly 0 m X Y
 unfolding TermsMeet exact_point abs_f ◌*F◌ ◌+F◌ monomials_f up_to turns
 polynomial_meets = record {
   terms = (
@@ -125,5 +126,5 @@ polynomial_meets = record {
   v = record { le = lit≤ tt };
 }
 
-pub polynomial_faithful : Faithful (inverse 3 0 8 m (asked 0 (pos 0)) (asked 1 (pos 0))) (exact_point 3 0 m X Y)
-polynomial_faithful = asked_near 0 1 (pos 0) (pos 0) (lit≤ tt) (lit≤ tt) (lit≤ tt) (lit≤ tt) 3 0 8 m polynomial_meets
+pub polynomial_faithful : Faithful (inverse Kind.Poly 0 8 m (asked 0 (pos 0)) (asked 1 (pos 0))) (exact_point Kind.Poly 0 m X Y)
+polynomial_faithful = asked_near 0 1 (pos 0) (pos 0) (lit≤ tt) (lit≤ tt) (lit≤ tt) (lit≤ tt) Kind.Poly 0 8 m polynomial_meets

@@ -17,7 +17,7 @@ use Rattle.distort.specs.Call.{out_width, out_height, mapped_of, source_of, rows
 use Rattle.distort.specs.Job.{Image, Given, Call}
 use Rattle.band.specs.Joined.{joined}
 use Rattle.distort.specs.Refusal.{out_channels, refusal}
-use Rattle.distort.specs.declared.answer.Answer.{Answer}
+use Rattle.distort.specs.Answer.{Answer}
 use Rattle.band.proofs.LengthLaws.{row_length_law}
 use Rattle.distort.proofs.BandLaws.{row_length}
 use Rattle.distort.proofs.CallLaws.{size, answer_accepted, left_accepted}

@@ -66,7 +66,7 @@ unfolding left answer matte_pixels_of Joined.totalled Band.row_matte_pixels Band
     Perspective.fit_perspective_projection Orient.orient Perspectives.perspective Eliminate.better Eliminate.take_term
     Eliminate.clear_row Eliminate.column Eliminate.column_or Eliminate.outcome Fit.both Monomials.push Monomials.of_degree
     Monomials.monomials Monomials.store_term Normal.add_product Normal.add_term Normal.normal Normal.lstsq Normal.in_turn
-    Solve.add_known Solve.substitute Solve.solution_of Solve.solved Polynomials.polynomial
+    Solve.add_known Solve.substitute Solve.solved Polynomials.polynomial
     Polynomials.terms Bytes.twos_complement Magnitude.reaching Loop.down_to Random.mix Random.folded Order.terms_of
     Order.good_order Power.power Perspective.fit_perspective Perspective.add_part Window.judged Bestfit.bestfit
     Bestfit.affine_found Bestfit.perspective_found Edges.boxed Edges.grown Edges.unbounded Magnitude.fmin Magnitude.fmax

@@ -6,7 +6,7 @@ use Prim.Native.Nat.{ℕ}
 use native.Mathlib.Omega.{arith}
 use lib.IntN.{pos}
 use Rattle.mappings.specs.Mapping.{perspective_kind, mapping, fitted}
-use Rattle.mappings.specs.declared.mapping.Fitted.{Fitted}
+use Rattle.mappings.specs.Mapping.{Fitted}
 use Rattle.distort.specs.Job.{Image, Given, Call}
 use Rattle.distort.specs.Refusal.{fit_of, refusal}
 use Rattle.chain.specs.Demand.{Conditions, by_perspective, Near}

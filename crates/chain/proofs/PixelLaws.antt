@@ -40,8 +40,8 @@ use Rattle.distort.specs.Call.{out_width, out_height, mapped_of, source_of}
 use Rattle.distort.specs.Job.{Image, Given, colour_of}
 use Rattle.distort.specs.Refusal.{fit_of, window_of, widest, out_channels}
 use Rattle.distort.proofs.SampleLaws.{part as component}
-use Rattle.distort.specs.declared.answer.Answer.{Answer}
-use Rattle.distort.specs.declared.answer.Answer.TheVariants.{Accepted}
+use Rattle.distort.specs.Answer.{Answer}
+use Rattle.distort.specs.Answer.{Accepted}
 use Rattle.chain.specs.Demand.{OpaqueColour}
 use Rattle.policies.specs.Named.{transparent_code}
 use Rattle.taps.specs.Interpolation.{bilinear_code}

@@ -18,7 +18,9 @@ use Rattle.exact.proofs.Products.{eq_refl, back, unit_one, unit_same}
 use Rattle.endian.specs.Bytes.{sample_at}
 use Rattle.picture.specs.At.{tap_samples, at}
 use Rattle.picture.specs.Colour as Colour
-use Rattle.policies.specs.Named.{Policy, Transparent, policies, policy, transparent_code, named, Lies}
+use Rattle.policies.specs.declared.policy.Policy.{Policy}
+use Rattle.policies.specs.declared.policy.Policy.TheVariants.{Transparent}
+use Rattle.policies.specs.Named.{policies, policy, transparent_code, named, Lies}
 use Rattle.sampler.specs.Opaque.{OpaquePlace, Exact, UnitExact, NearExact}
 use Rattle.picture.specs.Pixel.{Picture, widened, pixel_at}
 use Rattle.taps.specs.Weighted.{Opaque}

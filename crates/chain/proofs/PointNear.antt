@@ -2,7 +2,7 @@
 -- its sums. Provides: `affine_near`, `perspective_near`, `polynomial_near`; `point_near` (by the kind, at any
 -- coordinates), `asked_near` (at a pixel). Assumes nothing.
 use mathlib.Core.Path.{◌≡◌, sym, ◌∙◌, subst, subst⁻¹}
-use Prim.Native.Nat.{ℕ, zero, suc, ◌^◌, ◌≤◌}
+use Prim.Native.Nat.{ℕ, ◌^◌, ◌≤◌}
 use lib.Dec.{lit≤}
 use lib.IntN.{ℤ, nat_abs}
 use lib.ListN.{length}
@@ -20,6 +20,7 @@ use Rattle.exact.proofs.Polynomial.{plus_zero, polynomial_close}
 use Rattle.exact.specs.Vector.{Vector, at}
 use Rattle.linear.specs.Matrix.{nought}
 use Rattle.mappings.specs.Monomials.{monomials}
+use Rattle.mappings.specs.declared.mapping.Kind.{Kind}
 use Rattle.point.specs.Point.{point}
 use Rattle.inverse.specs.Affine.{affine}
 use Rattle.inverse.specs.Perspective.{perspective}
@@ -47,9 +48,9 @@ module _ {x y : Float} {X Y : Fraction} (c : PixelCoordinate x X) (d : PixelCoor
   affine_near m t p q = faithful (frac 1 (2 ^ 37)) (record { le = lit≤ tt }) (affine_close c d t.u p)
       (affine_close c d t.v q)
 
-  pub perspective_near : (m : Vector) → PerspectiveTerms m X Y → abs_f (exact_point 2 0 m X Y).0 ≤F frac 16384 1
-      → abs_f (exact_point 2 0 m X Y).1 ≤F frac 16384 1
-      → Faithful (perspective m x y) (exact_point 2 0 m X Y)
+  pub perspective_near : (m : Vector) → PerspectiveTerms m X Y → abs_f (exact_point Kind.Perspective 0 m X Y).0 ≤F frac 16384 1
+      → abs_f (exact_point Kind.Perspective 0 m X Y).1 ≤F frac 16384 1
+      → Faithful (perspective m x y) (exact_point Kind.Perspective 0 m X Y)
   unfolding perspective exact_point
   perspective_near m t p q =
       rw (perspective_passes c d t.w t.least)
@@ -82,18 +83,21 @@ module _ {x y : Float} {X Y : Fraction} (c : PixelCoordinate x X) (d : PixelCoor
       (sum_near order (of_v m (many order X Y)) s q))
 
   -- ---- by the kind
-  pub point_near : (kind order count : ℕ) (m : Vector) → Meets kind order m X Y
+  pub point_near : (kind : Kind) (order count : ℕ) (m : Vector) → Meets kind order m X Y
       → Faithful (inverse kind order count m x y) (exact_point kind order m X Y)
   unfolding inverse exact_point TermsMeet
-  point_near zero order count m M = absurd M.terms
-  point_near (suc zero) order count m M = affine_near m M.terms M.u M.v
-  point_near (suc (suc zero)) order count m M = perspective_near m M.terms M.u M.v
-  point_near (suc (suc (suc zero))) order count m M = polynomial_near order m M.terms.0 M.terms.1 M.u M.v
-  point_near (suc (suc (suc (suc n)))) order count m M = absurd M.terms
+  point_near Kind.Nothing order count m M = absurd M.terms
+  point_near Kind.Affine order count m M = affine_near m M.terms M.u M.v
+  point_near Kind.Perspective order count m M = perspective_near m M.terms M.u M.v
+  point_near Kind.Poly order count m M = polynomial_near order m M.terms.0 M.terms.1 M.u M.v
+  point_near Kind.BilinearForward order count m M = absurd M.terms
+  point_near Kind.Barrel order count m M = absurd M.terms
+  point_near Kind.BarrelInverse order count m M = absurd M.terms
+  point_near Kind.Shepards order count m M = absurd M.terms
 
 -- at the output pixel (i, j) of a window at the offset (o, p)
 pub asked_near : (i j : ℕ) (o p : ℤ) → i ≤ 4096 → j ≤ 4096 → nat_abs o ≤ 1048576 → nat_abs p ≤ 1048576
-    → (kind order count : ℕ) (m : Vector)
+    → (kind : Kind) (order count : ℕ) (m : Vector)
     → Meets kind order m (asked_f i o) (asked_f j p)
     → Faithful (inverse kind order count m (asked i o) (asked j p))
     (exact_point kind order m (asked_f i o) (asked_f j p))

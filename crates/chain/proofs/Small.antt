@@ -10,7 +10,7 @@ use lib.Ieee.{Float}
 use Rattle.endian.specs.Bytes as Bytes
 use Rattle.picture.specs.Pixel as Pixel
 use Rattle.distort.specs.Job.{Image, Given, Call, colour_of}
-use Rattle.distort.specs.declared.answer.Answer.TheVariants.{Accepted}
+use Rattle.distort.specs.Answer.{Accepted}
 use Rattle.chain.specs.Demand.{First, OpaqueColour}
 use Rattle.chain.specs.Warps.{Warp, State}
 use Rattle.chain.proofs.Closed.{below, below_every, le_f, unitly, unit}

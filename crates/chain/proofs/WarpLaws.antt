@@ -19,8 +19,8 @@ use Rattle.band.specs.Band.{colour_at}
 use Rattle.distort.specs.Call.{out_width, out_height, mapped_of, source_of, rows_of}
 use Rattle.distort.specs.Job.{Image, Given}
 use Rattle.distort.specs.Refusal.{window_of, out_channels}
-use Rattle.distort.specs.declared.answer.Answer.{Answer}
-use Rattle.distort.specs.declared.answer.Answer.TheVariants.{Accepted}
+use Rattle.distort.specs.Answer.{Answer}
+use Rattle.distort.specs.Answer.{Accepted}
 use Rattle.distort.proofs.AcceptedLaws.{AcceptedJob}
 use Rattle.distort.proofs.BandLaws.{rows_length}
 use Rattle.distort.proofs.BandSamples.{sample_at_law}

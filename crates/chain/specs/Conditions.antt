@@ -1,12 +1,13 @@
 -- The conditions of the exact chain at one output pixel, worked in exact fractions: each coefficient times its power is
 -- at most 16,384 in magnitude in the sums for u and v, and so are u and v; perspective denominators are at least
 -- 1/1,024 with terms of magnitude at most 4. Specification 11.2. Assumes nothing.
-use Rattle.std.specs.Prelude.{ℕ, zero, suc, ◌<◌, ◌≡◌, true, T, Float}
+use Rattle.std.specs.Prelude.{ℕ, ◌<◌, ◌≡◌, true, T, Float}
 use Rattle.std.specs.Float.Ieee.Scale.{finite}
 use Rattle.exact.specs.Fraction.{Fraction, frac, value, ◌≤F◌, ◌*F◌, abs_f}
 use Rattle.exact.specs.Sums.{Linear, largest_term}
 use Rattle.exact.specs.Warp.{Coordinate}
 use Rattle.exact.specs.Vector.{Vector, at}
+use Rattle.mappings.specs.declared.mapping.Kind.{Kind}
 use Rattle.point.specs.declared.point.Point.{Point}
 use Rattle.inverse.specs.Polynomial.{of_u, of_v}
 use Rattle.chain.specs.ExactPoint.{denominator_f, power_at, many, exact_point}
@@ -33,16 +34,18 @@ pub record PolyTerms (order : ℕ) (X Y : Fraction) (c : ℕ → Float) : Type 0
   pub number : (k : ℕ) → k < many order X Y → T (finite (c k))
   pub size : (k : ℕ) → k < many order X Y → abs_f (power_at order X Y k *F value (c k)) ≤F largest_term
 
--- by the kind: 1 affine, 2 perspective, 3 polynomial, and no other
-unfoldable pub TermsMeet : ℕ → ℕ → Vector → Fraction → Fraction → Type 0
-TermsMeet zero order m X Y = ⊥
-TermsMeet (suc zero) order m X Y = AffineTerms m X Y
-TermsMeet (suc (suc zero)) order m X Y = PerspectiveTerms m X Y
-TermsMeet (suc (suc (suc zero))) order m X Y = PolyTerms order X Y (of_u m)
-    × PolyTerms order X Y (of_v m (many order X Y))
-TermsMeet (suc (suc (suc (suc n)))) order m X Y = ⊥
+-- by the kind: affine, perspective, polynomial, and no other
+unfoldable pub TermsMeet : Kind → ℕ → Vector → Fraction → Fraction → Type 0
+TermsMeet Kind.Nothing order m X Y = ⊥
+TermsMeet Kind.Affine order m X Y = AffineTerms m X Y
+TermsMeet Kind.Perspective order m X Y = PerspectiveTerms m X Y
+TermsMeet Kind.Poly order m X Y = PolyTerms order X Y (of_u m) × PolyTerms order X Y (of_v m (many order X Y))
+TermsMeet Kind.BilinearForward order m X Y = ⊥
+TermsMeet Kind.Barrel order m X Y = ⊥
+TermsMeet Kind.BarrelInverse order m X Y = ⊥
+TermsMeet Kind.Shepards order m X Y = ⊥
 
-pub record Meets (kind order : ℕ) (m : Vector) (X Y : Fraction) : Type 0 where
+pub record Meets (kind : Kind) (order : ℕ) (m : Vector) (X Y : Fraction) : Type 0 where
   pub terms : TermsMeet kind order m X Y
   pub u : abs_f (exact_point kind order m X Y).0 ≤F largest_term
   pub v : abs_f (exact_point kind order m X Y).1 ≤F largest_term

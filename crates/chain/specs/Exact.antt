@@ -14,7 +14,7 @@ use Rattle.picture.specs.declared.colour.Rgba.{Rgba}
 use Rattle.policies.specs.declared.named.Tap.{Tap}
 use Rattle.policies.specs.declared.named.Tap.TheVariants.{Pixel, Background, Black, White, Gray, Transparent}
 use Rattle.distort.specs.Job.{Image, Given, colour_of}
-use Rattle.distort.specs.declared.answer.Answer.{Answer}
+use Rattle.distort.specs.Answer.{Answer}
 use Rattle.chain.specs.Warps.{Warp, width_in, height_in, x_in, y_in}
 
 -- width, height, channels, and a fraction for each sample: column, row, channel

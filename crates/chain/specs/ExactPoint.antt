@@ -1,13 +1,14 @@
 -- The source point worked in exact fractions, with the fitted coefficients as the fractions that their bits name: sums,
 -- and in the perspective kind over the denominator. Only the three kinds of the exact chain have one. Specification
 -- 11.3. Assumes nothing.
-use Rattle.std.specs.Prelude.{ℕ, zero, suc, ◌+◌, ◌-◌, min, cond, List, [], ◌∷◌, ◌++◌, length, get_or, eqb, Float}
+use Rattle.std.specs.Prelude.{ℕ, ◌+◌, ◌-◌, min, cond, List, [], ◌∷◌, ◌++◌, length, get_or, eqb, Float}
 use Rattle.exact.specs.Fraction.{Fraction, frac, value, ◌*F◌, ◌/F◌}
 use Rattle.exact.specs.Loop.{up_to}
 use Rattle.exact.specs.Power.{pow_f}
 use Rattle.exact.specs.Sums.{linear_f, summed_f}
 use Rattle.exact.specs.Vector.{Vector, at}
 use Rattle.inverse.specs.Polynomial.{of_u, of_v}
+use Rattle.mappings.specs.declared.mapping.Kind.{Kind}
 
 -- ---- affine, and perspective
 abbrev pub sum_u : Vector → Fraction → Fraction → Fraction
@@ -40,10 +41,13 @@ many order X Y = length (monomials_f order X Y)
 abbrev pub poly_f : ℕ → Fraction → Fraction → (ℕ → Float) → Fraction
 poly_f order X Y c = summed_f (λ (k : ℕ). power_at order X Y k *F value (c k)) (many order X Y)
 
--- ---- u and v by the kind: 1 affine, 2 perspective, 3 polynomial
-unfoldable pub exact_point : ℕ → ℕ → Vector → Fraction → Fraction → Fraction × Fraction
-exact_point zero order m X Y = (frac 0 1, frac 0 1)
-exact_point (suc zero) order m X Y = (sum_u m X Y, sum_v m X Y)
-exact_point (suc (suc zero)) order m X Y = (sum_u m X Y /F denominator_f m X Y, sum_v m X Y /F denominator_f m X Y)
-exact_point (suc (suc (suc zero))) order m X Y = (poly_f order X Y (of_u m), poly_f order X Y (of_v m (many order X Y)))
-exact_point (suc (suc (suc (suc n)))) order m X Y = (frac 0 1, frac 0 1)
+-- ---- u and v by the kind: affine, perspective, polynomial
+unfoldable pub exact_point : Kind → ℕ → Vector → Fraction → Fraction → Fraction × Fraction
+exact_point Kind.Nothing order m X Y = (frac 0 1, frac 0 1)
+exact_point Kind.Affine order m X Y = (sum_u m X Y, sum_v m X Y)
+exact_point Kind.Perspective order m X Y = (sum_u m X Y /F denominator_f m X Y, sum_v m X Y /F denominator_f m X Y)
+exact_point Kind.Poly order m X Y = (poly_f order X Y (of_u m), poly_f order X Y (of_v m (many order X Y)))
+exact_point Kind.BilinearForward order m X Y = (frac 0 1, frac 0 1)
+exact_point Kind.Barrel order m X Y = (frac 0 1, frac 0 1)
+exact_point Kind.BarrelInverse order m X Y = (frac 0 1, frac 0 1)
+exact_point Kind.Shepards order m X Y = (frac 0 1, frac 0 1)

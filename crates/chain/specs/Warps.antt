@@ -7,8 +7,8 @@ use Rattle.distort.specs.Call.{answer, left}
 use Rattle.distort.specs.Job.{Image, Given, Call}
 use Rattle.band.specs.Joined.{joined}
 use Rattle.distort.specs.Refusal.{refusal}
-use Rattle.distort.specs.declared.answer.Answer.{Answer}
-use Rattle.distort.specs.declared.answer.Answer.TheVariants.{Accepted, Refused}
+use Rattle.distort.specs.Answer.{Answer}
+use Rattle.distort.specs.Answer.{Accepted, Refused}
 
 -- ---- whether two are the same: by their bytes and numbers
 unfoldable pub same_bytes : List ℕ → List ℕ → Bool

@@ -1,11 +1,10 @@
 // The cubic kernels' weights. Assumes nothing.
 ghost use Rattle.std.specs.Prelude.{◌≡◌};
+ghost use Rattle.cubic.specs.declared.cubic.CubicRow.{CubicRow};
 ghost use Rattle.cubic.specs.Cubic as Cubic;
 ghost use Rattle.cubic.specs.Cubic.{
   catrom_row,
   spline_row,
-  catrom,
-  spline,
   distances_of,
   outer,
   between,
@@ -16,7 +15,7 @@ ghost use Rattle.cubic.specs.Cubic.{
   cubic_weights,
 };
 
-use number::magnitude::abs_f32;
+use number::magnitude::abs;
 
 // A kernel's row of the printed table, all over 6: the cubic, the square and the constant number of the near piece,
 // below 1, then the cubic, the square, the linear and the constant one of the far piece, from 1 to 2.
@@ -31,31 +30,47 @@ pub struct CubicRow {
     pub far0: f32,
 }
 
-pub fn catrom_row() -> CubicRow
-    ensures { result ≡ catrom_row }
-{
-    CubicRow {
-        near3: 9.0,
-        near2: -15.0,
-        near0: 6.0,
-        far3: -3.0,
-        far2: 15.0,
-        far1: -24.0,
-        far0: 12.0,
+// A kernel: a type in place of a row, so that the compiler knows the numbers.
+pub trait Kernel {
+    ghost numbers: { CubicRow };
+
+    fn row() -> CubicRow
+        ensures { result ≡ numbers };
+}
+
+pub struct Catrom {}
+
+impl Kernel for Catrom {
+    ghost numbers = { catrom_row };
+
+    fn row() -> CubicRow {
+        CubicRow {
+            near3: 9.0,
+            near2: -15.0,
+            near0: 6.0,
+            far3: -3.0,
+            far2: 15.0,
+            far1: -24.0,
+            far0: 12.0,
+        }
     }
 }
 
-pub fn spline_row() -> CubicRow
-    ensures { result ≡ spline_row }
-{
-    CubicRow {
-        near3: 3.0,
-        near2: -6.0,
-        near0: 4.0,
-        far3: -1.0,
-        far2: 6.0,
-        far1: -12.0,
-        far0: 8.0,
+pub struct Spline {}
+
+impl Kernel for Spline {
+    ghost numbers = { spline_row };
+
+    fn row() -> CubicRow {
+        CubicRow {
+            near3: 3.0,
+            near2: -6.0,
+            near0: 4.0,
+            far3: -1.0,
+            far2: 6.0,
+            far1: -12.0,
+            far0: 8.0,
+        }
     }
 }
 
@@ -89,7 +104,7 @@ fn pieces(row: CubicRow, ax: f32) -> f32
 fn weight(row: CubicRow, x: f32) -> f32
     ensures { result ≡ kernel row x }
 {
-    pieces(row, abs_f32(x)) / 6.0
+    pieces(row, abs(x)) / 6.0
 }
 
 // Of the four taps around a point, t being its fraction between the second and the third.
@@ -117,10 +132,10 @@ pub fn distances_of(t: f32) -> Distances
     ensures { result ≡ distances_of t }
 {
     Distances {
-        first: abs_f32(t + 1.0),
-        second: abs_f32(t),
-        third: abs_f32(t - 1.0),
-        fourth: abs_f32(t - 2.0),
+        first: abs(t + 1.0),
+        second: abs(t),
+        third: abs(t - 1.0),
+        fourth: abs(t - 2.0),
     }
 }
 
@@ -151,23 +166,13 @@ pub fn middle(row: CubicRow, d: Distances) -> [f32; 4]
     ]
 }
 
-// The two kernels, each with its row in place, so that the compiler knows the numbers.
-pub fn catrom(t: f32) -> [f32; 4]
-    ensures { result ≡ catrom t }
+// A kernel's weights.
+pub fn weights_by<K: Kernel>(t: f32) -> [f32; 4]
+    ensures { result ≡ cubic_weights t K.numbers }
 {
     let d = distances_of(t);
     if between(d) {
-        return middle(catrom_row(), d);
+        return middle(K::row(), d);
     }
-    cubic_weights(t, catrom_row())
-}
-
-pub fn spline(t: f32) -> [f32; 4]
-    ensures { result ≡ spline t }
-{
-    let d = distances_of(t);
-    if between(d) {
-        return middle(spline_row(), d);
-    }
-    cubic_weights(t, spline_row())
+    cubic_weights(t, K::row())
 }

@@ -4,7 +4,7 @@ use mathlib.Core.List.{List}
 use Prim.Native.Nat.{ℕ}
 use Rattle.distort.specs.Call.{answer, left, number_of, store_answer}
 use Rattle.distort.specs.Job.{Call}
-use Rattle.distort.specs.declared.answer.Answer.{Answer}
+use Rattle.distort.specs.Answer.{Answer}
 use Rattle.dihyravo.specs.Called.{called}
 
 number_of_law : {c d : Call} → c ≡ d → {a : Answer} {n : ℕ} → a ≡ answer c → n ≡ number_of a → n ≡ number_of (answer d)

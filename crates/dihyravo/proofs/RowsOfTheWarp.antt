@@ -7,7 +7,7 @@ use Prim.Native.Nat.{ℕ}
 use lib.ListN.{length}
 use Rattle.distort.specs.Call.{answer, store_answer}
 use Rattle.distort.specs.Job.{Call}
-use Rattle.distort.specs.declared.answer.Answer.{Answer}
+use Rattle.distort.specs.Answer.{Answer}
 use Rattle.distort.proofs.CallLaws.{answer_number}
 use Rattle.distort.proofs.RowsOfTheWarp.{counting, warp, warp_length, rows_in, own, rows_of_the_warp}
 use Rattle.dihyravo.specs.Called.{called}

@@ -10,7 +10,7 @@ use distort::answer::store_answer;
 use distort::call::distort;
 use distort::job::Job;
 use picture::shape::Shape;
-use window::view::{View, yes};
+use window::view::{View, Window};
 
 // 0 where the call is accepted, else the refusal's number. Of bestfit and viewport 0 is no, anything else yes. On 0 the
 // answer holds width and height, x and y, the output's channels and the band's matte pixels; a refusal changes no byte
@@ -51,14 +51,13 @@ pub extern "C" fn dihyravo_distort(
         height,
         channels,
     };
-    let view = View {
-        bestfit: yes(bestfit),
-        given: yes(viewport),
+    let asked = Window {
         width: view_width,
         height: view_height,
         x: view_x,
         y: view_y,
     };
+    let view = View::of_numbers(bestfit, viewport, asked);
     let rows = Rows {
         first: first_row,
         count: rows,

@@ -8,16 +8,16 @@ ghost use Rattle.std.specs.Prelude.{◌≡◌, ◌^◌};
 ghost use Rattle.names.specs.Names.{lookup, method_names, policy_names, interpolation_names, Below};
 ghost use Rattle.dihyravo.specs.Answer.{named_answer};
 
-use names::Named;
+use refusals::Refusal;
 
 // A code, or minus the refusal's number.
-fn number(r: Named) -> i64
+fn number(r: Option<u64>) -> i64
     requires { Below (2 ^ 63) r }
     ensures { result ≡ named_answer r }
 {
     match r {
-        Named::Code(n) => n as i64,
-        Named::Refused => -3,
+        Some(n) => n as i64,
+        None => -(Refusal::Code.number() as i64),
     }
 }
 

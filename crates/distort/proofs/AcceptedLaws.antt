@@ -19,8 +19,8 @@ use Rattle.arguments.specs.Refusal as Arguments
 use Rattle.arguments.proofs.AcceptedLaws.{Accepted, accepted}
 use Rattle.fit.proofs.DegenerateLaws.{build_8}
 use Rattle.window.specs.Window.{refusal_of, width_of, height_of, x_of, y_of}
-use Rattle.window.specs.declared.window.Placed.{Placed}
-use Rattle.window.specs.declared.window.Placed.TheVariants.{Window, Refused}
+use Rattle.window.specs.Placed.{Placed}
+use Rattle.window.specs.Placed.{Window, Refused}
 use Rattle.window.proofs.WindowLaws.{Side, Limits, window_limits}
 use Rattle.policies.specs.Named.{transparent_code}
 use Rattle.picture.specs.Colour.{one}
@@ -77,7 +77,7 @@ module _ (p : Image) (g : Given) where
       record { size = r1.0; stock = r2.0; code = r3.0; count = r4.0; number = r5.0; order = r6.0; few = r7.0 }
 
   module _ (t : Passed p g) where
-    codes : (not (present g.method) ≡ false) × ((g.policy ≤ 13) × (g.interpolation ≤ 8))
+    pub codes : (not (present g.method) ≡ false) × ((g.policy ≤ 13) × (g.interpolation ≤ 8))
     unfolding bad_code
     codes =
         let a = or_false (not (present g.method)) (ltb 13 g.policy || ltb 8 g.interpolation) t.code in

@@ -9,8 +9,8 @@ use lib.Dec.{lit≤}
 use borrow.Author.Tests.{eq-eqb, ne_eqb}
 use Rattle.exact.proofs.TableLaws.{row_holds, row_passed, no_rows}
 use Rattle.window.specs.Window.{x_of, y_of}
-use Rattle.distort.specs.declared.answer.Answer.{Answer}
-use Rattle.distort.specs.declared.answer.Answer.TheVariants.{Accepted, Refused}
+use Rattle.distort.specs.Answer.{Answer}
+use Rattle.distort.specs.Answer.{Accepted, Refused}
 use Rattle.distort.specs.Call.{
   out_width,
   out_height,

@@ -11,39 +11,27 @@ use borrow.Author.Tests.{eq-eqb, ne_eqb}
 use Rattle.exact.specs.Table.{first_of}
 use Rattle.exact.proofs.TableLaws.{row_holds, row_passed, no_rows}
 use Rattle.fit.specs.Build.{build}
-use Rattle.mappings.specs.declared.mapping.Fitted.{Fitted}
+use Rattle.mappings.specs.Mapping.{Fitted, refused}
 use Rattle.mappings.specs.declared.mapping.Mapping.{Mapping}
 use Rattle.window.specs.Window.{window, refusal_of, width_of, height_of, x_of, y_of}
-use Rattle.window.specs.declared.window.Placed.{Placed}
-use Rattle.window.specs.declared.window.Placed.TheVariants.{Window}
-use Rattle.window.specs.declared.window.Placed.TheVariants as Placed
-use Rattle.picture.specs.Pixel.{Picture, Channels, Inside}
-use Rattle.picture.proofs.SizeLaws.{size_fit, one_pixel}
+use Rattle.window.specs.Placed.{Placed}
+use Rattle.window.specs.Placed.{Window}
+use Rattle.picture.specs.Pixel.{Picture, Channels, Limited}
+use Rattle.picture.proofs.SizeLaws.{size_fit, pixel_picture}
 use Rattle.picture.specs.declared.colour.Rgba.{Rgba}
-use Rattle.distort.specs.declared.answer.Answer.{Answer}
-use Rattle.distort.specs.declared.answer.Answer.TheVariants.{Refused}
+use Rattle.distort.specs.Answer.{Answer}
+use Rattle.distort.specs.Answer.{Refused}
 use Rattle.distort.specs.Call.{source_of, answer, left}
 use Rattle.band.specs.Band.{Source, mapped}
 use Rattle.band.specs.declared.rows.Rows.{Rows}
 use Rattle.window.specs.declared.view.View.{View}
 use Rattle.distort.specs.Job.{Image, Given, Call, colour_of}
 use Rattle.distort.specs.Placed.{in_window, windowed}
-use Rattle.distort.specs.Refusal.{
-  fit_of,
-  view_of,
-  window_of,
-  widest,
-  out_channels,
-  degenerate,
-  bad_window,
-  large,
-  unfit,
-  job_refusal,
-  refusal,
-}
+use Rattle.distort.specs.Refusal.{fit_of, view_of, window_of, widest, out_channels, degenerate, bad_window, large, unfit, job_refusal}
 use Rattle.distort.proofs.AcceptedLaws.{
   Passed,
   unfit_passed,
+  codes,
   small,
   picture_passed,
   fit_8,
@@ -71,11 +59,11 @@ module _ (c : Call) where
   abbrev asked : Rows
   asked = record { first = c.first; count = c.rows }
 
-  abbrev looked_at : Rgba → Rgba → Source
-  looked_at background matte = record {
-    image = p;
-    policy = g.policy;
-    interpolation = g.interpolation;
+  abbrev looked_at : Image → ℕ → ℕ → Rgba → Rgba → Source
+  looked_at image policy interpolation background matte = record {
+    image = image;
+    policy = policy;
+    interpolation = interpolation;
     background = background;
     matte = matte;
   }
@@ -106,13 +94,20 @@ module _ (c : Call) where
       picture_known = picture_passed p g passed
 
       -- the background and the matte
-      pub background_known : length g.background ≡ 16 → Inside g.background 1 4 0 0
+      pub background_known : length g.background ≡ 16 → Limited g.background
       unfolding large
-      background_known e = one_pixel g.background e (small p g passed).background
+      background_known e = (pixel_picture g.background e (small p g passed).background).limited
 
-      pub matte_known : length g.matte ≡ 16 → Inside g.matte 1 4 0 0
+      pub matte_known : length g.matte ≡ 16 → Limited g.matte
       unfolding large
-      matte_known e = one_pixel g.matte e (small p g passed).matte
+      matte_known e = (pixel_picture g.matte e (small p g passed).matte).limited
+
+      -- the codes passed, so none is refused
+      pub policy_known : 13 < g.policy → ⊥
+      policy_known h = let k = (codes p g passed).1.0 in omega (arith, h, k)
+
+      pub interpolation_known : 8 < g.interpolation → ⊥
+      interpolation_known h = let k = (codes p g passed).1.1 in omega (arith, h, k)
 
       pub channels_known : {n : ℕ} (background : Rgba) → n ≡ widest p.channels g.policy background
           → Channels n
@@ -165,21 +160,32 @@ module _ (c : Call) where
                   (job_call c 9 (lit≤ tt) (window_left
                   ∙ sym (row_holds 9 _ _ (ap (λ (q : Placed). eqb (refusal_of q) 9) e))))
 
-          pub by_window : (view : View) {background matte : Rgba} {channels : ℕ} {r : Answer} {out : List ℕ}
+          pub by_window : (view : View) {image : Image} {policy interpolation : ℕ} {background matte : Rgba} {channels : ℕ} {r : Answer}
+              {out : List ℕ}
               → window f.mapping.kind f.mapping.coef p.width p.height view
               ≡ window f.mapping.kind f.mapping.coef p.width p.height (view_of g)
-              → background ≡ colour_of g.background → matte ≡ colour_of g.matte
+              → image ≡ p → policy ≡ g.policy → interpolation ≡ g.interpolation → background ≡ colour_of g.background → matte ≡ colour_of g.matte
               → channels ≡ widest p.channels g.policy background
               → ◌≡◌ {A = Answer × List ℕ} (r, out)
-              (windowed (window f.mapping.kind f.mapping.coef p.width p.height view)
-              (looked_at background matte) f.mapping channels asked c.band)
+              (windowed (window f.mapping.kind f.mapping.coef image.width image.height view)
+              (looked_at image policy interpolation background matte) f.mapping channels asked c.band)
               → Done r out
           unfolding window_of
-          by_window view {background} {matte} {channels} seen eg em ec e =
+          by_window view {image} {policy} {interpolation} {background} {matte} {channels} seen eo ep ei eg em ec e =
               let wide = ec ∙ ap (widest p.channels g.policy) eg in
               parts
               (e
-              ∙ ap (λ (q : Placed). windowed q (looked_at background matte) f.mapping channels asked c.band) seen
+              ∙ (λ i. windowed (window f.mapping.kind f.mapping.coef (eo i).width (eo i).height view)
+              (looked_at (eo i) policy interpolation background matte) f.mapping channels asked c.band)
+              ∙ ap (λ (q : Placed). windowed q (looked_at p policy interpolation background matte) f.mapping channels asked
+              c.band) seen
               ∙ (λ i. windowed (window (fitted i).mapping.kind (fitted i).mapping.coef p.width p.height
-              (view_of g)) (looked_at (eg i) (em i)) (fitted i).mapping (wide i) asked c.band)
+              (view_of g)) (looked_at p (ep i) (ei i) (eg i) (em i)) (fitted i).mapping (wide i) asked c.band)
               ∙ at_window)
+
+-- by a refusal that the code gives
+pub fit_refused : (c : Call) {number n : ℕ} (tests : number ≡ unfit c.image c.given) → number ≡ 0
+    → refused n ≡ build c.given.method c.given.arguments c.image.width c.image.height → (n ≡ 0 → ⊥)
+    → Done c (Refused n) c.band
+unfolding refused
+fit_refused c tests none e h = by_fit c tests none e h

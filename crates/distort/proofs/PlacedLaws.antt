@@ -9,17 +9,15 @@ use lib.IntN.{ℤ}
 use lib.ListN.{length}
 use borrow.Author.Tests.{ltb-false, eqb-true, not-false}
 use Rattle.exact.specs.Vector.{Vector}
-use Rattle.window.specs.Window.{window}
-use Rattle.window.specs.declared.window.Placed.{Placed}
-use Rattle.window.specs.declared.window.Placed.TheVariants.{Window}
-use Rattle.window.specs.declared.window.Placed.TheVariants as Placed
+use Rattle.window.specs.Window.{window, refusal_of}
+use Rattle.window.specs.Placed.{Placed}
+use Rattle.window.specs.Placed.{Window}
 use Rattle.window.proofs.WindowLaws.{Side, Limits, window_limits}
-use Rattle.distort.specs.declared.answer.Answer.{Answer}
-use Rattle.distort.specs.declared.answer.Answer.TheVariants.{Accepted, Refused}
-use Rattle.band.specs.Band.{Mapped, Source, framed, mapped, rows_bytes, rows_matte_pixels}
+use Rattle.distort.specs.Answer.{Answer}
+use Rattle.distort.specs.Answer.{Accepted, Refused}
+use Rattle.band.specs.Band.{Mapped, Source, mapped, rows_bytes, rows_matte_pixels}
 use Rattle.band.specs.declared.rows.Rows.{Rows}
-use Rattle.inverse.specs.Frame.{frame_of}
-use Rattle.inverse.specs.declared.frame.Frame.{Frame}
+use Rattle.mappings.specs.declared.mapping.Kind.{Kind}
 use Rattle.mappings.specs.declared.mapping.Mapping.{Mapping}
 use Rattle.picture.specs.declared.shape.Shape.{Shape}
 use Rattle.window.specs.declared.view.View.{View}
@@ -76,26 +74,25 @@ module _ (s : Source) (f : Mapped) (out : Shape) (rows : Rows) (band : List ℕ)
         (λ i. (Accepted out.width out.height (ex i) (ey i) out.channels (em i), eo i)) ∙ both_in k
 
 -- ---- the window
-pub limits_of : (kind : ℕ) (coef : Vector) (width height : ℕ) (view : View) {placed : Placed} {w h : ℕ} {x y : ℤ}
-    → placed ≡ window kind coef width height view → placed ≡ Window w h x y → Side x w × Side y h
-limits_of kind coef width height view e f =
-    subst (λ (p : Placed). Limits p) (sym e ∙ f) (window_limits kind coef width height view)
+pub limits_of : (kind : Kind) (coef : Vector) (width height : ℕ) (view : View) {w h : ℕ} {x y : ℤ}
+    → Window w h x y ≡ window kind coef width height view → Side x w × Side y h
+limits_of kind coef width height view e =
+    subst (λ (p : Placed). Limits p) (sym e) (window_limits kind coef width height view)
 
 module _ (s : Source) (m : Mapping) (channels : ℕ) (rows : Rows) (band : List ℕ) where
-  pub found : {placed q : Placed} {w h : ℕ} {x y c d : ℤ} {frame : Frame} {done : Answer × List ℕ} → placed ≡ q
-      → placed ≡ Window w h x y → c ≡ x → d ≡ y → frame ≡ frame_of m c d
-      → done ≡ in_window s (framed m.coef frame) (record { width = w; height = h; channels = channels }) rows band
+  -- the offset as the code hands it on
+  pub found : {q : Placed} {w h : ℕ} {x y a b : ℤ} {done : Answer × List ℕ} → Window w h x y ≡ q → a ≡ x → b ≡ y
+      → done ≡ in_window s (mapped m a b) (record { width = w; height = h; channels = channels }) rows band
       → done ≡ windowed q s m channels rows band
   unfolding windowed
-  found {w = w} {h = h} e f ec ed g k =
+  found {w = w} {h = h} e f g k =
       k
-      ∙ ap
-      (λ (z : Frame). in_window s (framed m.coef z) (record { width = w; height = h; channels = channels }) rows band)
-      g
-      ∙ (λ i. in_window s (mapped m (ec i) (ed i)) (record { width = w; height = h; channels = channels }) rows band)
-      ∙ ap (λ (p : Placed). windowed p s m channels rows band) (sym f ∙ e)
+      ∙ (λ i. in_window s (mapped m (f i) (g i)) (record { width = w; height = h; channels = channels }) rows band)
+      ∙ ap (λ (p : Placed). windowed p s m channels rows band) e
 
-  pub not_found : {placed q : Placed} → placed ≡ q → placed ≡ Placed.Refused
-      → ◌≡◌ {A = Answer × List ℕ} (Refused 9, band) (windowed q s m channels rows band)
+  pub not_found : {q : Placed} {n : ℕ} → Placed.Refused ≡ q → n ≡ refusal_of q
+      → ◌≡◌ {A = Answer × List ℕ} (Refused n, band) (windowed q s m channels rows band)
   unfolding windowed
-  not_found e f = ap (λ (p : Placed). windowed p s m channels rows band) (sym f ∙ e)
+  not_found e k =
+      ap (λ (n : ℕ). (Refused n, band)) (k ∙ ap refusal_of (sym e))
+      ∙ ap (λ (p : Placed). windowed p s m channels rows band) e

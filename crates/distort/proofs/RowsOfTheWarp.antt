@@ -7,8 +7,8 @@ use Prim.Native.Nat.{ℕ, ◌+◌, ◌-◌, ◌*◌, ◌≤◌}
 use native.Mathlib.Nat.{zero-add}
 use native.Mathlib.Omega.{arith}
 use lib.ListN.{length, take, drop}
-use Rattle.distort.specs.declared.answer.Answer.{Answer}
-use Rattle.distort.specs.declared.answer.Answer.TheVariants.{Accepted, Refused}
+use Rattle.distort.specs.Answer.{Answer}
+use Rattle.distort.specs.Answer.{Accepted, Refused}
 use Rattle.distort.specs.Call.{out_width, out_height, matte_pixels_of, answer, left}
 use Rattle.distort.specs.Job.{Call}
 use Rattle.distort.specs.Refusal.{out_channels, refusal}

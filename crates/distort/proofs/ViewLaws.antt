@@ -1,33 +1,29 @@
--- Where there is no viewport its numbers are not read, so the code may hand on what it was given. Assumes nothing.
-use mathlib.Core.Path.{◌≡◌, refl}
-use mathlib.Core.Bool.{Bool, true, false, cond}
+-- What is asked of the window is read back from a call's numbers as it was handed on. Assumes nothing.
+use mathlib.Core.Path.{◌≡◌, refl, ap}
+use mathlib.Core.Bool.{Bool, true, false}
 use mathlib.Core.List.{List}
 use Prim.Native.Nat.{ℕ}
-use lib.IntN.{ℤ, pos}
+use Rattle.std.specs.Prelude.{Option, Some, None}
 use Rattle.exact.specs.Vector.{Vector}
+use Rattle.mappings.specs.declared.mapping.Kind.{Kind}
 use Rattle.window.specs.Window.{window}
-use Rattle.window.specs.declared.window.Placed.{Placed}
+use Rattle.window.specs.declared.view.View.{View}
+use Rattle.window.specs.declared.view.Window.{Window}
 use Rattle.distort.specs.Job.{given_by}
-use Rattle.window.specs.View.{yes, flag}
 use Rattle.distort.specs.Refusal.{view_of}
+use Rattle.window.specs.View.{flag, view_by, is_given, window_or_none}
 use Rattle.distort.specs.declared.job.Job.{Job}
 
+read_back : (b : Bool) (v : Option Window)
+    → ◌≡◌ {A = View} (record { bestfit = b; viewport = v }) (view_by (flag b) (flag (is_given v)) (window_or_none v))
+read_back true (Some w) = refl
+read_back true None = refl
+read_back false (Some w) = refl
+read_back false None = refl
+
 -- the window that the call is given is the one that its view asks for
-pub view_read : (kind : ℕ) (coef : Vector) (width height : ℕ) (arguments background matte : List ℕ) (j : Job)
+pub view_read : (kind : Kind) (coef : Vector) (width height : ℕ) (arguments background matte : List ℕ) (j : Job)
     → window kind coef width height j.view ≡ window kind coef width height
     (view_of (given_by arguments background matte j))
-unfolding window
-view_read kind coef width height arguments background matte j = go j.view.bestfit j.view.given
-  where
-    asked : Bool → Bool → ℕ → ℕ → ℤ → ℤ → Placed
-    asked b g w h x y = window kind coef width height
-        (record { bestfit = b; given = g; width = w; height = h; x = x; y = y })
-
-    go : (b g : Bool)
-        → asked b g j.view.width j.view.height j.view.x j.view.y
-        ≡ asked (yes (flag b)) (yes (flag g)) (cond g j.view.width 0) (cond g j.view.height 0)
-        (cond g j.view.x (pos 0)) (cond g j.view.y (pos 0))
-    go true true = refl
-    go true false = refl
-    go false true = refl
-    go false false = refl
+view_read kind coef width height arguments background matte j =
+    ap (window kind coef width height) (read_back j.view.bestfit j.view.viewport)

@@ -4,8 +4,8 @@
 use Rattle.std.specs.Prelude.{ℕ, cond, List, eqb}
 use Rattle.endian.specs.Bytes.{store_u64, store_i64}
 use Rattle.window.specs.Window.{width_of, height_of, x_of, y_of}
-use Rattle.distort.specs.declared.answer.Answer.{Answer}
-use Rattle.distort.specs.declared.answer.Answer.TheVariants.{Accepted, Refused}
+use Rattle.distort.specs.Answer.{Answer}
+use Rattle.distort.specs.Answer.{Accepted, Refused}
 use Rattle.band.specs.Band.{Mapped, Source, mapped, rows_bytes, rows_matte_pixels}
 use Rattle.distort.specs.Job.{Image, Given, Call, colour_of}
 use Rattle.distort.specs.Refusal.{fit_of, window_of, out_channels, refusal}

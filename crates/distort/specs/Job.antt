@@ -1,9 +1,9 @@
 -- A distort call: the picture it is lent, what it is given besides, the rows it is asked for and the band they go to.
 -- Specification 1.1. Assumes nothing.
-use Rattle.std.specs.Prelude.{ℕ, cond, List, ℤ, pos}
+use Rattle.std.specs.Prelude.{ℕ, List, ℤ}
 use Rattle.picture.specs.Pixel.{pixel_at}
 use Rattle.picture.specs.declared.colour.Rgba.{Rgba}
-use Rattle.window.specs.View.{yes, flag}
+use Rattle.window.specs.View.{flag, view_by, is_given, window_or_none}
 use Rattle.distort.specs.declared.job.Job.{Job}
 pub use Rattle.band.specs.Image.{Image, image_of, shaped_image}
 
@@ -40,11 +40,11 @@ given_by arguments background matte j = record {
   background = background;
   matte = matte;
   bestfit = flag j.view.bestfit;
-  viewport = flag j.view.given;
-  view_width = cond j.view.given j.view.width 0;
-  view_height = cond j.view.given j.view.height 0;
-  view_x = cond j.view.given j.view.x (pos 0);
-  view_y = cond j.view.given j.view.y (pos 0);
+  viewport = flag (is_given j.view.viewport);
+  view_width = (window_or_none j.view.viewport).width;
+  view_height = (window_or_none j.view.viewport).height;
+  view_x = (window_or_none j.view.viewport).x;
+  view_y = (window_or_none j.view.viewport).y;
 }
 
 abbrev pub call_by : List ℕ → List ℕ → List ℕ → List ℕ → Job → List ℕ → Call
@@ -64,14 +64,7 @@ job_of width height channels method policy interpolation bestfit viewport view-w
       method = method;
       policy = policy;
       interpolation = interpolation;
-      view = record {
-        bestfit = yes bestfit;
-        given = yes viewport;
-        width = view-width;
-        height = view-height;
-        x = view-x;
-        y = view-y;
-      };
+      view = view_by bestfit viewport (record { width = view-width; height = view-height; x = view-x; y = view-y });
       rows = record { first = first; count = rows };
     }
 

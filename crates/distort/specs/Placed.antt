@@ -1,11 +1,10 @@
 -- A call whose mapping and window are known: rows and band are tested, and then the rows are worked. Each gives the
 -- answer, and the band afterwards. Assumes nothing.
 use Rattle.std.specs.Prelude.{ℕ, ◌+◌, ◌*◌, not, cond, List, eqb, ltb, length}
-use Rattle.window.specs.declared.window.Placed.{Placed}
-use Rattle.window.specs.declared.window.Placed.TheVariants.{Window}
-use Rattle.window.specs.declared.window.Placed.TheVariants as Placed
-use Rattle.distort.specs.declared.answer.Answer.{Answer}
-use Rattle.distort.specs.declared.answer.Answer.TheVariants.{Accepted, Refused}
+use Rattle.window.specs.Placed.{Placed}
+use Rattle.window.specs.Placed.{Window}
+use Rattle.distort.specs.Answer.{Answer}
+use Rattle.distort.specs.Answer.{Accepted, Refused}
 use Rattle.band.specs.Band.{Mapped, Source, mapped, rows_bytes, rows_matte_pixels}
 use Rattle.band.specs.declared.rows.Rows.{Rows}
 use Rattle.mappings.specs.declared.mapping.Mapping.{Mapping}

@@ -8,30 +8,24 @@ unfoldable pub use Rattle.sample_limit.specs.Samples.{large}
 use Rattle.arguments.specs.Method.{present}
 use Rattle.arguments.specs.Refusal as Arguments
 use Rattle.fit.specs.Build.{build}
-use Rattle.mappings.specs.declared.mapping.Fitted.{Fitted}
+use Rattle.mappings.specs.Mapping.{Fitted}
 use Rattle.policies.specs.Named.{transparent_code, random_code}
 use Rattle.picture.specs.Colour.{one}
 use Rattle.picture.specs.declared.colour.Rgba.{Rgba}
 use Rattle.taps.specs.Interpolation.{background_code}
 use Rattle.window.specs.Window.{window, refusal_of, width_of, height_of}
 use Rattle.window.specs.declared.view.View.{View}
-use Rattle.window.specs.declared.window.Placed.{Placed}
+use Rattle.window.specs.Placed.{Placed}
 use Rattle.distort.specs.Job.{Image, Given, Call, colour_of}
-use Rattle.window.specs.View.{yes}
+use Rattle.window.specs.View.{view_by}
 
 -- ---- the fit, the window and the channels of the output
 unfoldable pub fit_of : Image → Given → Fitted
 fit_of p g = build g.method g.arguments p.width p.height
 
 abbrev pub view_of : Given → View
-view_of g = record {
-  bestfit = yes g.bestfit;
-  given = yes g.viewport;
-  width = g.view_width;
-  height = g.view_height;
-  x = g.view_x;
-  y = g.view_y;
-}
+view_of g = view_by g.bestfit g.viewport
+    (record { width = g.view_width; height = g.view_height; x = g.view_x; y = g.view_y })
 
 unfoldable pub window_of : Image → Given → Placed
 window_of p g = window (fit_of p g).mapping.kind (fit_of p g).mapping.coef p.width p.height (view_of g)

@@ -1,45 +1,42 @@
 // What a distort call answers, and the answer in bytes. Assumes nothing.
 ghost use Rattle.std.specs.Prelude.{◌≡◌};
+ghost use Rattle.distort.specs.Answer.{answered};
 ghost use Rattle.distort.specs.Call.{number_of, store_answer};
 
-use endian::bytes::{store_i64, store_u64};
+use endian::bytes::StoreAt;
+use refusals::Refusal;
 
-// An accepted call: the output's size, where it lies, its channels, and the matte pixels of the band. A refused one:
-// the number.
-#[derive(Drop)]
-pub enum Answer {
-    Accepted {
-        width: u64,
-        height: u64,
-        x: i64,
-        y: i64,
-        channels: u64,
-        matte_pixels: u64,
-    },
-    Refused(u64),
+// What an accepted call answers: the output's size, where it lies, its channels, and the matte pixels of the band.
+#[derive(Clone, Copy)]
+pub struct Output {
+    pub width: u64,
+    pub height: u64,
+    pub x: i64,
+    pub y: i64,
+    pub channels: u64,
+    pub matte_pixels: u64,
+}
+
+fn store_output(o: Output, out: &mut [u8; 48])
+    ensures { out.new ≡ store_answer (answered (Ok o)) out.old }
+{
+    o.width.store_at(out, 0);
+    o.height.store_at(out, 8);
+    o.x.store_at(out, 16);
+    o.y.store_at(out, 24);
+    o.channels.store_at(out, 32);
+    o.matte_pixels.store_at(out, 40);
 }
 
 // The number, 0 where the call is accepted, and then its values in the bytes lent; a refusal writes nothing.
-pub fn store_answer(answer: Answer, out: &mut [u8; 48]) -> u64
-    ensures { (result ≡ number_of answer) × (out.new ≡ store_answer answer out.old) }
+pub fn store_answer(answer: Result<Output, Refusal>, out: &mut [u8; 48]) -> u64
+    ensures { (result ≡ number_of (answered answer)) × (out.new ≡ store_answer (answered answer) out.old) }
 {
     match answer {
-        Answer::Accepted {
-            width,
-            height,
-            x,
-            y,
-            channels,
-            matte_pixels,
-        } => {
-            store_u64(out, 0, width);
-            store_u64(out, 8, height);
-            store_i64(out, 16, x);
-            store_i64(out, 24, y);
-            store_u64(out, 32, channels);
-            store_u64(out, 40, matte_pixels);
+        Ok(o) => {
+            store_output(o, out);
             0
         }
-        Answer::Refused(number) => number,
+        Err(refusal) => refusal.number(),
     }
 }

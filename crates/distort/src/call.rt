@@ -1,100 +1,105 @@
 // The distort call: its refusals in the table's order, and else the rows asked for, worked into the band. `distort`
 // assumes nothing; what it calls assumes what the tests before it showed.
-ghost use Rattle.std.specs.Prelude.{◌≡◌, ◌≤◌, nat_abs};
-ghost use Rattle.exact.specs.Limits.{largest_offset, largest_side};
-ghost use Rattle.picture.specs.Pixel.{Shaped, Channels};
-ghost use Rattle.band.specs.Band.{sourced, framed};
+ghost use Rattle.std.specs.Prelude.{◌≡◌, ◌≤◌};
+ghost use Rattle.exact.specs.Limits.{largest_side};
+ghost use Rattle.picture.specs.Pixel.{Channels, Limited};
+ghost use Rattle.band.specs.Band.{pictured, framed};
 ghost use Rattle.window.specs.Window as Windows;
+ghost use Rattle.distort.specs.Answer.{answered};
 ghost use Rattle.distort.specs.Call.{answer, left};
-ghost use Rattle.distort.specs.Job.{call_by};
+ghost use Rattle.distort.specs.Job.{call_by, colour_of};
 ghost use Rattle.distort.specs.Placed.{in_window, windowed};
 
-use crate::answer::Answer;
+use crate::answer::Output;
 use crate::job::Job;
 use crate::refusal::unfit;
 use crate::tray::{bad_rows, bad_tray, widest};
 use band::look::Look;
 use band::rows::Rows;
 use fit::build::build;
-use inverse::frame::{Frame, frame_of};
+use inverse::frame::Frame;
 use mappings::mapping::Mapping;
-use picture::pixel::pixel_at;
+use picture::colour::Rgba;
+use picture::picture::Picture;
 use picture::shape::Shape;
+use policies::policy::Policy;
+use refusals::Refusal;
 use rows::rows::store_rows;
+use taps::interpolation::Interpolation;
 use window::view::View;
-use window::window::{Placed, window};
+use window::window::window;
 
 // In a window of the output's shape.
 fn in_window(
-    picture: &[u8],
-    shape: Shape,
+    picture: Picture,
     look: Look,
     frame: Frame,
-    coef: &[f64; 256],
     out: Shape,
     rows: Rows,
     band: &mut [u8],
-) -> Answer
-    requires shaped { Shaped picture.now shape }
+) -> Result<Output, Refusal>
     requires channels { Channels out.channels }
     requires width_le_largest_side { (out.width ≤ largest_side) × (out.height ≤ largest_side) }
-    requires x_bound { (nat_abs frame.x ≤ largest_offset) × (nat_abs frame.y ≤ largest_offset) }
-    ensures { (result, band.new) ≡ in_window (sourced picture.now shape look)
-        (framed coef.now frame) out rows band.old }
+    ensures { (answered result, band.new) ≡ in_window (pictured picture.entry look) (framed frame.entry) out
+        rows band.old }
 {
     if bad_rows(out.height, rows.first, rows.count) {
-        return Answer::Refused(10);
+        return Err(Refusal::Rows);
     }
     if bad_tray(band.len(), rows.count, out.width, out.channels) {
-        return Answer::Refused(11);
+        return Err(Refusal::Tray);
     }
-    let matte_pixels = store_rows(picture, shape, look, frame, coef, out, rows, band);
-    Answer::Accepted {
+    let matte_pixels = store_rows(picture, look, frame, out, rows, band);
+    Ok(Output {
         width: out.width,
         height: out.height,
         x: frame.x,
         y: frame.y,
         channels: out.channels,
         matte_pixels,
-    }
+    })
 }
 
 // With a mapping: the window comes next.
 fn windowed(
-    picture: &[u8],
-    shape: Shape,
+    picture: Picture,
     look: Look,
-    mapping: Mapping,
+    mapping: &Mapping,
     view: View,
     out_channels: u64,
     rows: Rows,
     band: &mut [u8],
-) -> Answer
-    requires shaped { Shaped picture.now shape }
+) -> Result<Output, Refusal>
     requires channels { Channels out_channels }
-    ensures { (result, band.new) ≡ windowed
-        (Windows.window mapping.kind mapping.coef shape.width shape.height view)
-        (sourced picture.now shape look) mapping out_channels rows band.old }
+    ensures { (answered result, band.new) ≡ windowed
+        (Windows.window mapping.now.kind mapping.now.coef picture.entry.width picture.entry.height view)
+        (pictured picture.entry look) mapping.now out_channels rows band.old }
 {
-    let coef = mapping.coef;
-    let placed = window(mapping.kind, &coef, shape.width, shape.height, view);
-    match placed {
-        Placed::Window {
-            width,
-            height,
-            x,
-            y,
-        } => {
-            let frame = frame_of(mapping, x, y);
-            let out = Shape {
-                width,
-                height,
-                channels: out_channels,
-            };
-            in_window(picture, shape, look, frame, &coef, out, rows, band)
-        }
-        Placed::Refused => Answer::Refused(9),
-    }
+    let w = window(mapping, picture.width, picture.height, view)?;
+    let frame = Frame {
+        mapping,
+        x: w.x,
+        y: w.y,
+    };
+    let out = Shape {
+        width: w.width,
+        height: w.height,
+        channels: out_channels,
+    };
+    in_window(picture, look, frame, out, rows, band)
+}
+
+// A colour out of its four samples, which are numbers.
+fn colour(bytes: &[u8; 16]) -> Rgba
+    requires { Limited bytes.now }
+    ensures { result ≡ colour_of bytes.now }
+{
+    let pixel = Shape {
+        width: 1,
+        height: 1,
+        channels: 4,
+    };
+    Picture::new(bytes, pixel).pixel_at(0, 0)
 }
 
 pub fn distort(
@@ -104,42 +109,30 @@ pub fn distort(
     matte: &[u8; 16],
     job: Job,
     band: &mut [u8],
-) -> Answer
-    ensures { (result ≡ answer (call_by picture.now arguments.now background.now
+) -> Result<Output, Refusal>
+    ensures { (answered result ≡ answer (call_by picture.now arguments.now background.now
         matte.now job band.old))
         × (band.new ≡ left (call_by picture.now arguments.now background.now
         matte.now job band.old)) }
 {
-    let number = unfit(picture, arguments, background, matte, job);
-    if number != 0 {
-        return Answer::Refused(number);
-    }
+    unfit(picture, arguments, background, matte, job)?;
     let shape = job.shape;
-    let fitted = build(job.method, arguments, shape.width, shape.height);
-    let refusal = fitted.refusal;
-    if refusal != 0 {
-        return Answer::Refused(refusal);
-    }
-    let mapping = fitted.mapping;
-    let ground = pixel_at(background, 1, 4, 0, 0);
-    let blank = pixel_at(matte, 1, 4, 0, 0);
+    let mapping = build(job.method, arguments, shape.width, shape.height)?;
     let look = Look {
-        policy: job.policy,
-        interpolation: job.interpolation,
-        background: ground,
-        matte: blank,
+        policy: Policy::try_from(job.policy)?,
+        interpolation: Interpolation::try_from(job.interpolation)?,
+        background: colour(background),
+        matte: colour(matte),
     };
-    let out_channels = widest(shape.channels, job.policy, ground);
-    let view = job.view;
-    let rows = job.rows;
+    let out_channels = widest(shape.channels, job.policy, look.background);
+    let source = Picture::new(picture, shape);
     windowed(
-        picture,
-        shape,
+        source,
         look,
-        mapping,
-        view,
+        &mapping,
+        job.view,
         out_channels,
-        rows,
+        job.rows,
         band,
     )
 }

@@ -1,27 +1,31 @@
-// Refusals 1 to 7 (specification 2): the first number that applies; 1 and 2 are tests of `picture`, 4, 6 and 7 of
+// Refusals 1 to 7 (specification 2): the first that applies; 1 and 2 are tests of `picture`, 4, 6 and 7 of
 // `arguments`. The test that counts the picture's samples assumes that the tests before it failed; the others assume
 // nothing.
 ghost use Rattle.std.specs.Prelude.{◌≡◌, false};
 ghost use Rattle.band.specs.Image.{shaped_image};
 ghost use Rattle.distort.specs.Job.{given_by};
-ghost use Rattle.distort.specs.Refusal as Refusal;
+ghost use Rattle.distort.specs.Refusal as Table;
 ghost use Rattle.distort.specs.Refusal.{bad_code, bad_number};
 ghost use Rattle.picture.specs.Size.{bad_size, bad_stock};
+ghost use Rattle.refusals.specs.Number.{told};
 
 use crate::job::Job;
 use arguments::code::is_present;
 use arguments::refusal::{bad_count, bad_order, few_pairs};
 use picture::shape::Shape;
 use picture::size::{bad_size, bad_stock};
-use policies::policy::RANDOM;
+use policies::policy::Policy;
+use refusals::Refusal;
 use sample_limit::large::large;
-use taps::interpolation::BACKGROUND;
+use taps::interpolation::Interpolation;
 
 // 3, code: `Random` is the last policy, `Background` the last interpolation.
+#[tactic(auto, unfolding(crate::specs::Refusal::bad_code))]
 pub fn bad_code(method: u64, policy: u64, interpolation: u64) -> bool
     ensures { result ≡ bad_code method policy interpolation }
 {
-    !is_present(method) | ((RANDOM < policy) | (BACKGROUND < interpolation))
+    !is_present(method)
+        | ((Policy::Random.code() < policy) | (Interpolation::Background.code() < interpolation))
 }
 
 // 5, number.
@@ -52,7 +56,7 @@ pub fn bad_number(
     large(matte, 4)
 }
 
-// The first number from 1 to 7 that applies, 0 where none does.
+// The first of 1 to 7 that applies, if one does.
 #[tactic(auto, unfolding(crate::specs::Refusal::unfit, exact::specs::Table::first_of))]
 pub fn unfit(
     picture: &[u8],
@@ -60,32 +64,31 @@ pub fn unfit(
     background: &[u8; 16],
     matte: &[u8; 16],
     job: Job,
-) -> u64
-    ensures { result ≡ Refusal.unfit (shaped_image picture.now job.shape)
+) -> Result<(), Refusal>
+    ensures { told result ≡ Table.unfit (shaped_image picture.now job.shape)
         (given_by arguments.now background.now matte.now job) }
 {
     let shape = job.shape;
     if bad_size(shape.width, shape.height, shape.channels) {
-        return 1;
+        return Err(Refusal::Size);
     }
     if bad_stock(picture, shape) {
-        return 2;
+        return Err(Refusal::Stock);
     }
     if bad_code(job.method, job.policy, job.interpolation) {
-        return 3;
+        return Err(Refusal::Code);
     }
     if bad_count(job.method, arguments) {
-        return 4;
+        return Err(Refusal::Count);
     }
     if bad_number(picture, shape, arguments, background, matte) {
-        return 5;
+        return Err(Refusal::Number);
     }
     if bad_order(job.method, arguments) {
-        return 6;
+        return Err(Refusal::Order);
     }
     if few_pairs(job.method, arguments) {
-        7
-    } else {
-        0
+        return Err(Refusal::Few);
     }
+    Ok(())
 }

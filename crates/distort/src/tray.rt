@@ -5,20 +5,19 @@ ghost use Rattle.exact.specs.Limits.{largest_side};
 ghost use Rattle.distort.specs.Refusal as Refusal;
 
 use picture::colour::Rgba;
-use policies::policy::TRANSPARENT;
+use policies::policy::Policy;
 
 // Four if the picture has four, the policy is `Transparent`, or the background's alpha is below 1; otherwise the
 // picture's own.
+#[tactic(auto, unfolding(crate::specs::Refusal::widest))]
 pub fn widest(channels: u64, policy: u64, background: Rgba) -> u64
     ensures { result ≡ Refusal.widest channels policy background }
 {
-    if channels == 4 {
-        return 4;
+    if channels == 4 || policy == Policy::Transparent.code() || background.a < 1.0 {
+        4
+    } else {
+        channels
     }
-    if policy == TRANSPARENT {
-        return 4;
-    }
-    if background.a < 1.0 { 4 } else { channels }
 }
 
 // 10, rows. The sum of both could wrap, so it is not made.

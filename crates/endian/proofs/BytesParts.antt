@@ -82,12 +82,17 @@ store_low (suc k) s at n =
 -- ---- four bytes, as straight-line code reads and stores them
 
 pub number_four : (s : List ℕ) (at : ℕ)
-    → get_or s at 0 + 256 * (get_or s (at + 1) 0 + 256 * (get_or s (at + 2) 0 + 256 * get_or s (at + 3) 0)) ≡ number_at 4 s at
+    → get_or s at 0 + get_or s (at + 1) 0 * 256 + get_or s (at + 2) 0 * 65536 + get_or s (at + 3) 0 * 16777216
+    ≡ number_at 4 s at
 unfolding number_at
 number_four s at =
-    λ i.
+    nested (get_or s at 0) (get_or s (at + 1) 0) (get_or s (at + 2) 0) (get_or s (at + 3) 0)
+    ∙ λ i.
     get_or s at 0 + 256 * (get_or s (at + 1) 0 + 256 * (get_or s (two at i) 0 + 256 * last (get_or s (three at i) 0) i))
   where
+    nested : (a b c d : ℕ) → a + b * 256 + c * 65536 + d * 16777216 ≡ a + 256 * (b + 256 * (c + 256 * d))
+    nested a b c d = omega arith
+
     two : (at : ℕ) → at + 2 ≡ at + 1 + 1
     two at = omega arith
 
@@ -97,14 +102,15 @@ number_four s at =
     last : (n : ℕ) → n ≡ n + 256 * 0
     last n = omega arith
 
-pub store_four : (s : List ℕ) (at n : ℕ) → n < 2 ^ 32
-    → set (set (set (set s at (n % 256)) (at + 1) (n / 256 % 256)) (at + 2) (n / 65536 % 256)) (at + 3) (n / 16777216)
+pub store_four : (s : List ℕ) (at n : ℕ)
+    → set (set (set (set s at (n % 256)) (at + 1) (n / 256 % 256)) (at + 2) (n / 65536 % 256)) (at + 3)
+    (n / 16777216 % 256)
     ≡ store_number 4 s at n
 unfolding store_number
-store_four s at n h =
+store_four s at n =
     λ i.
     set (set (set (set s at (n % 256)) (at + 1) (n / 256 % 256)) (two at i) (third n i % 256)) (three at i)
-    (fourth n h i)
+    (fourth n i % 256)
   where
     two : (at : ℕ) → at + 2 ≡ at + 1 + 1
     two at = omega arith
@@ -115,8 +121,8 @@ store_four s at n h =
     third : (n : ℕ) → n / 65536 ≡ n / 256 / 256
     third n = omega arith
 
-    fourth : (n : ℕ) → n < 2 ^ 32 → n / 16777216 ≡ n / 256 / 256 / 256 % 256
-    fourth n h = omega arith
+    fourth : (n : ℕ) → n / 16777216 ≡ n / 256 / 256 / 256
+    fourth n = omega arith
 
 -- ---- eight bytes by halves
 

@@ -2,3 +2,4 @@
 pub mod BytesLaws
 pub mod BytesParts
 pub mod FloatBytes
+pub mod Patterns

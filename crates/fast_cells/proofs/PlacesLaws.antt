@@ -18,15 +18,8 @@ use Rattle.exact.specs.Warp.{half}
 use Rattle.exact.proofs.Booleans.{both}
 use Rattle.number.specs.Floor.{floorℤ}
 use Rattle.number.proofs.FloorLaws.{floor_integer}
-use Rattle.taps.specs.Interpolation.{
-  Interpolation,
-  Integer,
-  Nearest,
-  interpolation,
-  integer_code,
-  nearest_code,
-  Single,
-}
+use Rattle.taps.specs.declared.interpolation.Interpolation.{Interpolation}
+use Rattle.taps.specs.declared.interpolation.Interpolation.TheVariants.{Integer, Nearest}
 use Rattle.taps.proofs.CellFloor.{usable_reached}
 use Rattle.fast_cells.specs.Cells.{Place, Places}
 use Rattle.fast_cells.specs.Inner.{nought, has_cell, has_place}
@@ -90,15 +83,3 @@ module _ (i : Interpolation) (reach : ℕ) where
   pub place_last : (k n : ℕ) (good : Bool) {us : List Float} {cs : List ℕ} → n ≤ k → Placing i reach k good us cs
       → good ≡ true → Places i reach n us cs
   place_last k n good a s h = record { place = λ j g. (s.done h).place j (omega arith) }
-
--- ---- by the code
-pub is_integer : {code : ℕ} → code ≡ integer_code → interpolation code ≡ Integer
-unfolding interpolation
-is_integer e = rw e
-
-pub is_nearest : (code : ℕ) → Single code → code ≢ integer_code → interpolation code ≡ Nearest
-unfolding interpolation
-is_nearest code l z = rw (only code l z)
-  where
-    only : (code : ℕ) → Single code → code ≢ integer_code → code ≡ nearest_code
-    only code l z = omega arith

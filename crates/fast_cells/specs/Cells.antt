@@ -8,7 +8,7 @@ use Rattle.exact.specs.Warp.{half}
 use Rattle.number.specs.Floor.{floor_i64}
 use Rattle.number.specs.Magnitude.{within}
 use Rattle.taps.specs.Cell as Taps
-use Rattle.taps.specs.Interpolation.{Interpolation}
+use Rattle.taps.specs.declared.interpolation.Interpolation.{Interpolation}
 
 -- the coordinate u can be used, the whole number below u - 0.5 is c, which is less than `index_limit`, and t is the
 -- fraction

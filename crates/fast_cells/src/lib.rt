@@ -6,3 +6,4 @@ pub mod cells;
 mod inner;
 mod of_point;
 pub mod reach;
+pub mod rule;

@@ -1,8 +1,8 @@
 -- A span inside: the mean in a point's own cell is what `interpolate` shows there. Provides: `are_sized`, `put`,
 -- `Weighing`, `weigh_none`, `weigh_more`, `weigh_last` (the loop over weights); `marked` (a point that can be used);
--- `blend_all`, `mixable` (the colours of cells); `cells_inside`, `cells_units`, `cells_shown`, `places_within`,
--- `places_shown` (from cells and places to the band's definition). Assumes nothing.
-use mathlib.Core.Path.{◌≡◌, refl, sym, ◌∙◌}
+-- `blend_all`, `mixable` (the colours of cells); `cells_units`, `cells_shown`, `places_shown` (from cells and places to
+-- the band's definition). Assumes nothing.
+use mathlib.Core.Path.{◌≡◌, refl, sym, ◌∙◌, subst}
 use mathlib.Core.Logic.{◌≢◌}
 use mathlib.Core.Bool.{Bool, true, false, ◌&&◌}
 use mathlib.Core.List.{List, [], ◌∷◌}
@@ -25,7 +25,9 @@ use Rattle.number.specs.Magnitude.{within}
 use Rattle.picture.specs.Pixel.{Picture, pixel_at}
 use Rattle.picture.specs.declared.colour.Rgba.{Rgba}
 use Rattle.point.specs.Point.{usable}
-use Rattle.taps.specs.Interpolation.{interpolation, bilinear_code, Single}
+use Rattle.taps.specs.Interpolation.{interpolation, code_of, bilinear_code, Single}
+use Rattle.taps.specs.declared.interpolation.Interpolation.{Interpolation}
+use Rattle.taps.proofs.InterpolationCode.{interpolation_code}
 use Rattle.taps.proofs.CellFloor.{cell_law}
 use Rattle.fast_cells.specs.Cells.{CellOf, Cells, Place, Places}
 use Rattle.sampler.specs.Interpolate.{interpolate}
@@ -34,16 +36,7 @@ use Rattle.sampler.proofs.MixedLaws.{mixed_blend}
 use Rattle.sampler.proofs.InsideLaws.{bilinear_inside, single_inside}
 use Rattle.band.specs.Band.{put_pixels}
 use Rattle.band.specs.Image.{image_of}
-use Rattle.fast_colours.specs.InsideSpan.{
-  PixelsInside,
-  CellsInside,
-  Fractions,
-  Sized,
-  Weights,
-  mixed_at,
-  blend_at,
-  Mixable,
-}
+use Rattle.fast_colours.specs.InsideSpan.{CellsInside, Fractions, Sized, Weights, mixed_at, blend_at, Mixable}
 use Rattle.band.proofs.InnerLaws.{Shows, put_same}
 use Rattle.fast_colours.proofs.NumberLaws.{blend_numbers}
 
@@ -178,9 +171,6 @@ cells_units {reach} {n} {us} {cs} {ts} C =
 
 module _ (w h : ℕ) {n : ℕ} {us vs : List Float} {columns rows : List ℕ} {xs ys : List Float}
     (C : Cells (w - 1) n us columns xs) (D : Cells (h - 1) n vs rows ys) where
-  pub cells_inside : CellsInside w h n columns rows
-  cells_inside = record { column = λ k l. next _ w (C.cell k l).below; row = λ k l. next _ h (D.cell k l).below }
-
   pub cells_shown : (bytes : List ℕ) (channels : ℕ)
       → Shows (image_of bytes w h channels) bilinear_code n us vs (blend_at bytes w channels columns rows xs ys)
   cells_shown bytes channels = record {
@@ -196,16 +186,16 @@ place_colour bytes w h channels policy background code small {u} {v} {i} {j} C D
     single_inside bytes w h channels policy background (u ⊖ half) (v ⊖ half) code small i j C.below D.below
     (sym C.first) (sym D.first) refl
 
-module _ (code : ℕ) {w h n : ℕ} {us vs : List Float} {columns rows : List ℕ}
-    (C : Places (interpolation code) w n us columns) (D : Places (interpolation code) h n vs rows) where
-  pub places_within : PixelsInside w h n columns rows
-  places_within = record { column = λ k l. (C.place k l).below; row = λ k l. (D.place k l).below }
+module _ (i : Interpolation) {w h n : ℕ} {us vs : List Float} {columns rows : List ℕ}
+    (C : Places i w n us columns) (D : Places i h n vs rows) where
+  by_code : {reach : ℕ} {u : Float} {c : ℕ} → Place i reach u c → Place (interpolation (code_of i)) reach u c
+  by_code {reach} {u} {c} = subst (λ (j : Interpolation). Place j reach u c) (sym (interpolation_code i))
 
-  pub places_shown : (bytes : List ℕ) (channels : ℕ) → Single code
-      → Shows (image_of bytes w h channels) code n us vs
+  pub places_shown : (bytes : List ℕ) (channels : ℕ) → Single (code_of i)
+      → Shows (image_of bytes w h channels) (code_of i) n us vs
       (λ (k : ℕ). pixel_at bytes w channels (get_or columns k 0) (get_or rows k 0))
   places_shown bytes channels small = record {
     marked = λ k l. marked (at us k) (at vs k) (C.place k l).usable (D.place k l).usable;
     same = λ k l policy background.
-        place_colour bytes w h channels policy background code small (C.place k l) (D.place k l);
+        place_colour bytes w h channels policy background (code_of i) small (by_code (C.place k l)) (by_code (D.place k l));
   }

@@ -6,7 +6,14 @@ use Rattle.exact.specs.Weighted.{Unit32}
 use Rattle.exact.specs.Vector.{at}
 use Rattle.picture.specs.Store.{Numbers}
 use Rattle.picture.specs.declared.colour.Rgba.{Rgba}
+use Rattle.picture.specs.declared.picture.Picture.{Picture}
+use Rattle.band.specs.Image.{Image, image_of}
+use Rattle.taps.specs.declared.weights.BilinearWeights.{BilinearWeights}
 use Rattle.sampler.specs.TwoByTwo.{Weighed, mixed, cell_colour}
+
+-- a picture by its bytes and sizes
+abbrev pub image_in : Picture → Image
+image_in p = image_of p.bytes.now p.width p.height p.channels
 
 -- the first n places lie inside: their columns and rows
 pub record PixelsInside (width height n : ℕ) (columns rows : List ℕ) : Type 0 where
@@ -36,6 +43,11 @@ pub record Sized (m : ℕ) (w : List (List Float)) : Type 0 where
 -- the k-th of the list numbered i
 abbrev pub weight : List (List Float) → ℕ → ℕ → Float
 weight w i k = at (get_or w i []) k
+
+-- the k-th of each of five lists
+abbrev pub weights_of : List (List Float) → ℕ → BilinearWeights
+weights_of w k =
+    record { w00 = weight w 0 k; w10 = weight w 1 k; w01 = weight w 2 k; w11 = weight w 3 k; sum = weight w 4 k }
 
 -- the weights of the first n fractions: a list for each of a cell's four taps, row by row, and one of their sums
 pub record Weights (n : ℕ) (xs ys : List Float) (w : List (List Float)) : Type 0 where

@@ -1,15 +1,10 @@
 -- A span by `Catrom` or `Spline` inside: the square one before the point's cell is the one that `interpolate` takes.
--- Provides: `past_none`, `past_more`, `past_last` (the loop); `standing` (two answers); `cubic_squares`, `cubic_shown`
--- (from cells to the band's definition). Assumes nothing.
+-- Provides: `cubic_shown` (from cells to the band's definition). Assumes nothing.
 use mathlib.Core.Path.{◌≡◌, refl, sym, ap, ◌∙◌}
-use mathlib.Core.Bool.{Bool, true, ◌&&◌}
 use mathlib.Core.List.{List}
-use Prim.Native.Nat.{ℕ, zero, suc, ◌+◌, ◌-◌, ◌≤◌, ◌<◌}
+use Prim.Native.Nat.{ℕ, zero, suc, ◌+◌, ◌-◌, ◌<◌}
 use native.Mathlib.Nat.{not-suc-le-zero}
 use native.Mathlib.Omega.{arith}
-use borrow.Author.Count.{below_more}
-use borrow.Author.Tests.{ltb-true}
-use lib.Dec.{ltb}
 use lib.IntN.{ℤ, pos, ◌-ℤ◌, -ℤ_one}
 use lib.ListN.{get_or}
 use lib.Ieee.{Float}
@@ -18,29 +13,15 @@ use Rattle.exact.specs.Warp.{half}
 use Rattle.exact.specs.Vector.{at}
 use Rattle.picture.specs.declared.colour.Rgba.{Rgba}
 use Rattle.taps.specs.Interpolation.{Cubic}
-use Rattle.fast_cells.specs.Cells.{CellOf, Cells}
+use Rattle.fast_cells.specs.Cells.{CellOf}
 use Rattle.sampler.specs.Interpolate.{interpolate}
 use Rattle.sampler.specs.Sixteen.{kernel_of}
 use Rattle.sampler.proofs.SixteenCode.{cubic_inside}
 use Rattle.band.specs.Image.{image_of}
 use Rattle.fast_cubic.specs.Kernels.{Kernels, of_four}
-use Rattle.exact.proofs.Booleans.{both}
-use Rattle.fast_cubic.specs.FourByFours.{FourByFours, Past, Standing, four_by_four}
+use Rattle.fast_cubic.specs.FourByFours.{Standing, four_by_four}
 use Rattle.band.proofs.InnerLaws.{Shows}
 use Rattle.fast_colours.proofs.InsideSpanLaws.{marked}
-
--- ---- the loop over columns or rows
-pub past_none : (cs : List ℕ) → Past 0 cs
-past_none cs = record { past = λ k h. absurd (not-suc-le-zero h) }
-
-pub past_more : {cs : List ℕ} (k : ℕ) (good : Bool) → (good ≡ true → Past k cs) → good && ltb 0 (get_or cs k 0) ≡ true
-    → Past (k + 1) cs
-past_more {cs} k good old e =
-    let l = both good (ltb 0 (get_or cs k 0)) e in
-    record { past = below_more (λ (i : ℕ). 0 < get_or cs i 0) k (old l.0).past (ltb-true 0 (get_or cs k 0) l.1) }
-
-pub past_last : {cs : List ℕ} (k n : ℕ) → n ≤ k → Past k cs → Past n cs
-past_last k n a P = record { past = λ i h. P.past i (omega arith) }
 
 -- ---- a point's own square
 one_back : (c : ℕ) → 0 < c → pos c -ℤ pos 1 ≡ pos (c - 1)
@@ -67,17 +48,6 @@ square_colour bytes w h n policy background code cubic {u} {v} {tx} {ty} {i} {j}
 -- ---- a span of them
 module _ {w h n : ℕ} {us vs : List Float} {columns rows : List ℕ} {xs ys : List Float}
     (S : Standing w h n us vs columns rows xs ys) where
-  pub cubic_squares : FourByFours w h n columns rows
-  cubic_squares = record {
-    left = S.left.past;
-    right = λ k l. on _ w (S.across.cell k l).below;
-    above = S.above.past;
-    under = λ k l. on _ h (S.down.cell k l).below;
-  }
-    where
-      on : (c n : ℕ) → c < n - 2 → c + 2 < n
-      on c n l = omega arith
-
   pub cubic_shown : {wx wy : List (List Float)} (code : ℕ) → Kernels code n xs wx → Kernels code n ys wy
       → (bytes : List ℕ) (channels : ℕ) → Cubic code
       → Shows (image_of bytes w h channels) code n us vs
@@ -88,11 +58,3 @@ module _ {w h n : ℕ} {us vs : List Float} {columns rows : List ℕ} {xs ys : L
         square_colour bytes w h channels policy background code cubic (S.across.cell k l) (S.down.cell k l)
         (S.left.past k l) (S.above.past k l) (X.weights k l) (Y.weights k l);
   }
-
--- both answers
-pub standing : {w h p q n : ℕ} {us vs : List Float} {columns rows : List ℕ} {xs ys : List Float} {a b : Bool}
-    → p ≡ w - 2 → q ≡ h - 2 → Cells p n us columns xs → Cells q n vs rows ys
-    → (a ≡ true → Past n columns) → (b ≡ true → Past n rows) → a && b ≡ true → Standing w h n us vs columns rows xs ys
-standing {w} {h} {p} {q} {n} {us} {vs} {columns} {rows} {xs} {ys} {a} {b} e f C D P Q t =
-    let l = both a b t in
-    record { across = rw e at C; down = rw f at D; left = P l.0; above = Q l.1 }

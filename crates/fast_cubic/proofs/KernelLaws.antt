@@ -1,7 +1,7 @@
 -- The weights of a span: between a cell's ends the four weights are those of known pieces, and a turn more weighs a
 -- fraction more. Provides: `Weighing4`, `weigh4_none`, `weigh4_more`, `weigh4_last` (the loop); `kernel_catrom`,
--- `kernel_spline` (by the code); `both_true` (two answers). Assumes nothing.
-use mathlib.Core.Path.{◌≡◌, ap, ◌∙◌}
+-- `kernel_spline` (by the code). Assumes nothing.
+use mathlib.Core.Path.{◌≡◌, sym, ◌∙◌}
 use mathlib.Core.Logic.{◌≢◌}
 use mathlib.Core.Bool.{Bool, true, ◌&&◌}
 use mathlib.Core.List.{List, [], ◌∷◌}
@@ -9,7 +9,6 @@ use Prim.Native.Nat.{ℕ, ◌+◌, ◌≤◌, ◌<◌}
 use native.Mathlib.Nat.{not-suc-le-zero}
 use native.Mathlib.Omega.{arith}
 use borrow.Author.Count.{below_more}
-use borrow.Author.Tests.{ne_eqb}
 use lib.Dec.{lit≤}
 use lib.ListN.{length, set, length-set}
 use lib.Seq.{get_or-set_same, get_or-set_other}
@@ -18,8 +17,11 @@ use Rattle.exact.specs.Vector.{at}
 use Rattle.exact.proofs.Booleans.{both}
 use Rattle.cubic.specs.declared.cubic.CubicRow.{CubicRow}
 use Rattle.cubic.specs.Cubic.{catrom_row, spline_row, cubic_weights}
-use Rattle.taps.specs.Interpolation.{catrom_code}
+use Rattle.taps.specs.Interpolation.{code_of, catrom_code}
+use Rattle.taps.specs.declared.interpolation.Interpolation.{Interpolation}
+use Rattle.taps.specs.declared.interpolation.Interpolation.TheVariants.{Catrom}
 use Rattle.sampler.specs.Sixteen.{kernel_of}
+use Rattle.sampler.proofs.SixteenCode as Code
 use Rattle.fast_colours.specs.InsideSpan.{Sized}
 use Rattle.fast_colours.proofs.InsideSpanLaws.{put}
 use Rattle.fast_cubic.specs.Kernels.{Weighed4, Kernels}
@@ -94,17 +96,10 @@ module _ {row : CubicRow} {ts : List Float} where
   weigh4_last k n a s e = record { weights = λ i h. (s.done e).weights i (omega arith) }
 
 -- ---- by the code
-module _ {code n : ℕ} {ts : List Float} {w : List (List Float)} {row : CubicRow} where
-  pub kernel_catrom : code ≡ catrom_code → row ≡ catrom_row → Weighed4 row n ts w → Kernels code n ts w
+module _ {n : ℕ} {ts : List Float} {w : List (List Float)} where
+  pub kernel_catrom : Weighed4 catrom_row n ts w → Kernels catrom_code n ts w
   unfolding kernel_of
-  kernel_catrom e r W = record { weights = λ k l. W.weights k l ∙ ap (cubic_weights (at ts k)) r ∙ rw e }
+  kernel_catrom W = record { weights = W.weights }
 
-  pub kernel_spline : (code ≡ catrom_code → ⊥) → row ≡ spline_row → Weighed4 row n ts w → Kernels code n ts w
-  unfolding kernel_of
-  kernel_spline e r W = record {
-    weights = λ k l. W.weights k l ∙ ap (cubic_weights (at ts k)) r ∙ rw (ne_eqb code catrom_code e);
-  }
-
--- ---- both answers
-pub both_true : {A B : Type 0} (a b : Bool) → (a ≡ true → A) → (b ≡ true → B) → a && b ≡ true → A × B
-both_true a b f g t = let l = both a b t in (f l.0, g l.1)
+  pub kernel_spline : (i : Interpolation) → i ≢ Catrom → Weighed4 spline_row n ts w → Kernels (code_of i) n ts w
+  kernel_spline i e W = record { weights = λ k l. W.weights k l ∙ sym (Code.kernel_spline i (at ts k) e) }

@@ -1,11 +1,11 @@
 // Spans by `Catrom` and `Spline`: cells, fractions and weights are worked out first, several pixels at a time, where
-// every square of taps lies inside. Assumes that the bytes are a picture's and that the band has room for the span.
-ghost use Rattle.std.specs.Prelude.{◌≡◌, true, [], ◌∷◌, ℕ, ◌+◌, ◌*◌, ◌≤◌, ◌<◌, length, get_or};
-ghost use Rattle.exact.specs.Limits.{largest_side, longest_span};
-ghost use Rattle.picture.specs.Pixel.{Picture, Shaped, Channels};
-ghost use Rattle.taps.specs.Interpolation.{Cubic};
+// every square of taps lies inside. Assumes that the band has room for the span.
+ghost use Rattle.std.specs.Prelude.{◌≡◌, true, ℕ, ◌+◌, ◌*◌, ◌≤◌, ◌<◌, length, get_or};
+ghost use Rattle.exact.specs.Limits.{longest_span};
+ghost use Rattle.picture.specs.Pixel.{Channels};
+ghost use Rattle.taps.specs.Interpolation.{Cubic, code_of};
 ghost use Rattle.band.specs.Band.{put_pixels, InnerOrUntouched};
-ghost use Rattle.band.specs.Image.{shaped_image};
+ghost use Rattle.fast_colours.specs.InsideSpan.{image_in};
 ghost use Rattle.fast_cubic.specs.Kernels.{of_four};
 ghost use Rattle.fast_cubic.specs.FourByFours.{FourByFours, Past, Standing, four_by_four};
 
@@ -15,11 +15,14 @@ use fast_cells::cells::cells;
 use fast_cells::reach::Reach;
 use fast_colours::one_by_one::wide;
 use picture::colour::Rgba;
-use picture::shape::{Shape, side_less};
+use picture::picture::Picture;
+use picture::shape::side_less;
 use picture::store::store_pixel;
 use sampler::fast_four_by_four::four_by_four;
+use taps::interpolation::Interpolation;
 
-// Whether the first n are all above 0.
+// Whether the first n are all above 0. An `all` would stop at the first that is not, and the compiler would not take
+// several at a time.
 fn past(cs: &[u32; 64], n: usize) -> bool
     requires { n ≤ longest_span }
     ensures { result ≡ true → Past n cs.now }
@@ -31,36 +34,26 @@ fn past(cs: &[u32; 64], n: usize) -> bool
     good
 }
 
-// The colour of the square around the cell at column i and row j.
-fn colour_of(
-    picture: &[u8],
-    width: u64,
-    height: u64,
-    channels: u64,
-    i: u64,
-    j: u64,
-    a0: f32,
-    a1: f32,
-    a2: f32,
-    a3: f32,
-    b0: f32,
-    b1: f32,
-    b2: f32,
-    b3: f32,
-) -> Rgba
-    requires picture { Picture picture.now width height channels }
-    requires i_nonzero { (0 < i) × ((i + 2 < width) × ((0 < j) × (j + 2 < height))) }
-    ensures { result ≡ four_by_four picture.now width channels i j (a0 ∷ a1 ∷ a2 ∷ a3 ∷ []) (b0 ∷ b1 ∷ b2 ∷ b3 ∷ []) }
+// The weights of the k-th point along a row or a column.
+fn four_of(w: &[[f32; 64]; 4], k: usize) -> [f32; 4]
+    requires { k < longest_span }
+    ensures { result ≡ of_four w.now k }
 {
-    let wx = [a0, a1, a2, a3];
-    let wy = [b0, b1, b2, b3];
-    four_by_four(picture, width, height, channels, i - 1, j - 1, &wx, &wy)
+    [w[0][k], w[1][k], w[2][k], w[3][k]]
+}
+
+// The colour of the square around the cell at column i and row j, by the weights along its rows and its columns.
+#[tactic(auto, unfolding(crate::specs::FourByFours::four_by_four))]
+fn colour_of(picture: Picture, i: u64, j: u64, wx: [f32; 4], wy: [f32; 4]) -> Rgba
+    requires { (0 < i) × ((i + 2 < picture.width) × ((0 < j) × (j + 2 < picture.height))) }
+    ensures { result ≡ four_by_four picture.entry.bytes.now picture.entry.width picture.entry.channels i j wx wy }
+{
+    four_by_four(picture, i - 1, j - 1, &wx, &wy)
 }
 
 // The colours of a span's squares at their weights, put into the band.
 fn store_four_by_fours(
-    picture: &[u8],
-    shape: Shape,
+    picture: Picture,
     columns: &[u32; 64],
     rows: &[u32; 64],
     wx: &[[f32; 64]; 4],
@@ -68,41 +61,27 @@ fn store_four_by_fours(
     span: Span,
     band: &mut [u8],
 )
-    requires shaped { Shaped picture.now shape }
-    requires channels { Channels shape.channels }
+    requires channels { Channels picture.channels }
     requires n_le_longest_span { span.n ≤ longest_span }
-    requires four_by_fours { FourByFours shape.width shape.height span.n columns.now rows.now }
-    requires channels_in_bounds { (span.pixel + span.n) * shape.channels * 4 ≤ length band.old }
-    ensures { band.new ≡ put_pixels shape.channels
-        (λ (k : ℕ). four_by_four picture.now shape.width shape.channels
+    requires four_by_fours { FourByFours picture.width picture.height span.n columns.now rows.now }
+    requires channels_in_bounds { (span.pixel + span.n) * picture.channels * 4 ≤ length band.old }
+    ensures { band.new ≡ put_pixels picture.entry.channels
+        (λ (k : ℕ). four_by_four picture.entry.bytes.now picture.entry.width picture.entry.channels
         (get_or columns.now k 0) (get_or rows.now k 0) (of_four wx.now k)
         (of_four wy.now k)) span.n span.pixel band.old }
 {
-    let width = shape.width;
-    let height = shape.height;
-    let channels = shape.channels;
-    let pixel = span.pixel;
     let n = span.n;
     for k in 0..n {
         store_pixel(
             band,
-            channels,
-            pixel + k as u64,
+            picture.channels,
+            span.pixel + k as u64,
             colour_of(
                 picture,
-                width,
-                height,
-                channels,
                 wide(columns[k]),
                 wide(rows[k]),
-                wx[0][k],
-                wx[1][k],
-                wx[2][k],
-                wx[3][k],
-                wy[0][k],
-                wy[1][k],
-                wy[2][k],
-                wy[3][k],
+                four_of(wx, k),
+                four_of(wy, k),
             ),
         );
     }
@@ -114,20 +93,19 @@ fn cells_within(
     us: &[f64; 64],
     vs: &[f64; 64],
     n: usize,
-    shape: Shape,
+    picture: Picture,
     columns: &mut [u32; 64],
     rows: &mut [u32; 64],
     xs: &mut [f32; 64],
     ys: &mut [f32; 64],
 ) -> bool
     requires n_le_longest_span { n ≤ longest_span }
-    requires width_le_largest_side { (shape.width ≤ largest_side) × (shape.height ≤ largest_side) }
-    ensures { result ≡ true → Standing shape.width shape.height n us.now vs.now
+    ensures { result ≡ true → Standing picture.entry.width picture.entry.height n us.now vs.now
         columns.new rows.new xs.new ys.new }
 {
     let reach = Reach {
-        wide: side_less(shape.width, 2),
-        high: side_less(shape.height, 2),
+        wide: side_less(picture.width, 2),
+        high: side_less(picture.height, 2),
     };
     if cells(us, vs, n, reach, columns, rows, xs, ys) {
         return past(columns, n) & past(rows, n);
@@ -138,20 +116,18 @@ fn cells_within(
 // The colours of a span's pixels by `Catrom` or `Spline`, put into the band where all their squares lie inside: then
 // none is matte, and no policy is asked. False: nothing was put.
 pub fn store_cubic(
-    picture: &[u8],
-    shape: Shape,
-    code: u64,
+    picture: Picture,
+    interpolation: Interpolation,
     us: &[f64; 64],
     vs: &[f64; 64],
     span: Span,
     band: &mut [u8],
 ) -> bool
-    requires shaped { Shaped picture.now shape }
-    requires channels { Channels shape.channels }
-    requires cubic { Cubic code }
+    requires channels { Channels picture.channels }
+    requires cubic { Cubic (code_of interpolation) }
     requires n_le_longest_span { span.n ≤ longest_span }
-    requires channels_in_bounds { (span.pixel + span.n) * shape.channels * 4 ≤ length band.old }
-    ensures { InnerOrUntouched result (shaped_image picture.now shape) code shape.channels us.now
+    requires channels_in_bounds { (span.pixel + span.n) * picture.channels * 4 ≤ length band.old }
+    ensures { InnerOrUntouched result (image_in picture.entry) (code_of interpolation) picture.entry.channels us.now
         vs.now span.n span.pixel band.old band.new }
 {
     let mut columns = [0; 64];
@@ -162,7 +138,7 @@ pub fn store_cubic(
         us,
         vs,
         span.n,
-        shape,
+        picture,
         &mut columns,
         &mut rows,
         &mut xs,
@@ -170,8 +146,8 @@ pub fn store_cubic(
     ) {
         let mut wx = [[0.0; 64]; 4];
         let mut wy = [[0.0; 64]; 4];
-        if both_kernels(code, &xs, &ys, span.n, &mut wx, &mut wy) {
-            store_four_by_fours(picture, shape, &columns, &rows, &wx, &wy, span, band);
+        if both_kernels(interpolation, &xs, &ys, span.n, &mut wx, &mut wy) {
+            store_four_by_fours(picture, &columns, &rows, &wx, &wy, span, band);
             return true;
         }
     }

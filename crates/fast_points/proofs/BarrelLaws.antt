@@ -1,21 +1,19 @@
 -- The laws of the barrels' lists: a store more makes each longer by one, and the three steps together are the points.
 -- Assumes nothing.
 use mathlib.Core.Path.{◌≡◌, ap, ◌∙◌}
-use mathlib.Core.Logic.{◌≢◌}
 use mathlib.Core.List.{List}
 use Prim.Native.Nat.{ℕ, ◌+◌, ◌≤◌, ◌<◌}
 use native.Mathlib.Nat.{not-suc-le-zero}
 use native.Mathlib.Omega.{arith}
-use borrow.Author.Tests.{eq-eqb, ne_eqb}
 use lib.ListN.{length, set, length-set}
 use lib.Ieee.{Float}
 use Rattle.number.specs.Root.{root}
 use Rattle.exact.specs.Vector.{Vector, at}
-use Rattle.mappings.specs.Mapping.{barrel_kind}
-use Rattle.inverse.specs.Barrel.{across, down, radius_squared, barrel_from, barrel_inverse_from}
-use Rattle.fast_points.specs.Points.{pixel_middle, PointsOf}
+use Rattle.point.specs.declared.point.Point.{Point}
+use Rattle.inverse.specs.Barrel.{across, down, radius_squared}
+use Rattle.fast_points.specs.Points.{pixel_middle, Kept, KeptRow}
 use Rattle.fast_points.proofs.FillLaws.{both_more}
-use Rattle.fast_points.specs.Barrels.{barrel_by, RadiiSquared, EachBy, Moved}
+use Rattle.fast_points.specs.Barrels.{ByRadiusAt, RadiiSquared, EachBy}
 
 -- ---- the offsets and the squares
 pub record Squaring (c : Vector) (x dy : Float) (first k : ℕ) (ds ss : List Float) : Type 0 where
@@ -76,19 +74,20 @@ radius : (c : Vector) (x dy : Float) (first n : ℕ) {ds ss rs : List Float} →
     → (k : ℕ) → k < n → at rs k ≡ root (radius_squared (across c (pixel_middle (first + k) x)) dy)
 radius c x dy first n S R k h = R.each k h ∙ ap root (S.each k h).1
 
-module _ (c : Vector) (x y : Float) (first n : ℕ) {kind : ℕ} {dy : Float} {ds ss rs us vs : List Float} where
-  pub barrel_span : kind ≡ barrel_kind → dy ≡ down c y → RadiiSquared c x dy first n ds ss → EachBy root n ss rs
-      → Moved (barrel_from c dy) n ds rs us vs
-      → PointsOf (λ (a : Float). barrel_by kind c a y) x first n us vs
-  barrel_span q e S R m = record {
-    kept = λ k h. rw (eq-eqb _ _ q, ← e, ← radius c x dy first n S R k h, ← (S.each k h).0)
-        (m.kept k h);
-  }
-
-  pub barrel_inverse_span : kind ≢ barrel_kind → dy ≡ down c y → RadiiSquared c x dy first n ds ss → EachBy root n ss rs
-      → Moved (barrel_inverse_from c dy) n ds rs us vs
-      → PointsOf (λ (a : Float). barrel_by kind c a y) x first n us vs
-  barrel_inverse_span q e S R m = record {
-    kept = λ k h. rw (ne_eqb _ _ q, ← e, ← radius c x dy first n S R k h, ← (S.each k h).0)
-        (m.kept k h);
-  }
+-- what a rule gives by the offsets and the radii, it gives at the pixels
+pub barrel_span : (rule : Float → Float → Float → Point → Type 0) (c : Vector) (x y : Float) (first n : ℕ)
+    {dy : Float} {ds ss rs us vs : List Float} {post : ℕ → Point → Type 0}
+    → dy ≡ down c y → RadiiSquared c x dy first n ds ss → EachBy root n ss rs
+    → ((k : ℕ) → k < n → (p : Point) → post k p → rule dy (at ds k) (at rs k) p)
+    → Kept post n us vs → KeptRow (ByRadiusAt rule c y) x first n us vs
+barrel_span rule c x y first n e S R given s = record {
+  row = record {
+    kept = λ k h.
+        let q = s.kept k h in (
+          q.0,
+          rw (← e, ← radius c x _ first n S R k h, ← (S.each k h).0) (given k h q.0 q.1),
+          q.2,
+          q.3,
+        );
+  };
+}

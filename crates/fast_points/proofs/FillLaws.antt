@@ -1,6 +1,6 @@
 -- Lists that a loop fills: a store more makes the part that is done longer by one; and so a span of source points
 -- grows by the coordinates of one more. Assumes nothing.
-use mathlib.Core.Path.{◌≡◌, ap, ◌∙◌}
+use mathlib.Core.Path.{◌≡◌, refl, ap, ◌∙◌}
 use mathlib.Core.Logic.{◌≢◌}
 use mathlib.Core.List.{List}
 use Prim.Native.Nat.{ℕ, ◌+◌, ◌≤◌, ◌<◌}
@@ -13,7 +13,7 @@ use lib.Ieee.{Float, nan}
 use Rattle.exact.specs.Vector.{at}
 use Rattle.point.specs.declared.point.Point.{Point}
 use Rattle.point.specs.Point.{point, Whole}
-use Rattle.fast_points.specs.Points.{pixel_middle, KeptPoints}
+use Rattle.fast_points.specs.Points.{pixel_middle, Kept, KeptPoints}
 
 others : {i k : ℕ} → i < k → i ≢ k
 others h e = omega arith
@@ -32,7 +32,44 @@ pub read_back : {p q : Point} → p ≡ q → Whole q → q ≡ point p.u p.v
 read_back e w = rw e w.whole
 
 -- ---- points
--- what a loop knows after k turns: k points are there, in lists of 64 places
+-- what a loop knows after k turns: k points of a rule are there, in lists of 64 places
+pub record Keeping (post : ℕ → Point → Type 0) (k : ℕ) (us vs : List Float) : Type 0 where
+  pub done : Kept post k us vs
+  pub long_u : length us ≡ 64
+  pub long_v : length vs ≡ 64
+
+module _ (post : ℕ → Point → Type 0) where
+  pub keep_none : {us vs : List Float} → length us ≡ 64 → length vs ≡ 64 → Keeping post 0 us vs
+  keep_none a b = record { done = record { kept = λ k h. absurd (not-suc-le-zero h) }; long_u = a; long_v = b }
+
+  pub keep_more : (k : ℕ) {us vs : List Float} {p : Point} → post k p → k < 64
+      → Keeping post k us vs → Keeping post (k + 1) (set us k p.u) (set vs k p.v)
+  keep_more k {us} {vs} {p} e l old =
+      record {
+        done = record {
+          kept =
+              both_more (λ (i : ℕ) (u v : Float). (q : Point) × post i q × (q.u ≡ u) × (q.v ≡ v)) k us vs old.long_u
+              old.long_v l (p, e, refl, refl) old.done.kept;
+        };
+        long_u = length-set us k _ ∙ old.long_u;
+        long_v = length-set vs k _ ∙ old.long_v;
+      }
+
+  pub keep_last : (k n : ℕ) {us vs : List Float} → n ≤ k → Keeping post k us vs → Kept post n us vs
+  keep_last k n a s = record { kept = λ i h. s.done.kept i (omega arith) }
+
+  -- what the rule gives, it gives whole
+  pub kept_points : (g : ℕ → Point) (n : ℕ) {us vs : List Float}
+      → ((k : ℕ) → k < n → (p : Point) → post k p → p ≡ g k) → ((k : ℕ) → Whole (g k))
+      → Kept post n us vs → KeptPoints g n us vs
+  kept_points g n same whole s = record {
+    kept = λ k h.
+        let q = s.kept k h in
+        read_back (same k h q.0 q.1) (whole k) ∙ ap (λ (u : Float). point u q.0.v) q.2 ∙ ap (point _) q.3;
+  }
+
+-- ---- the same of points that a function numbers
+-- what a loop knows after k turns
 pub record Filling (g : ℕ → Point) (k : ℕ) (us vs : List Float) : Type 0 where
   pub done : KeptPoints g k us vs
   pub long_u : length us ≡ 64

@@ -1,19 +1,19 @@
 // Barrel and BarrelInverse for a span: the offsets and the squared radii, guesses at the roots, the roots, and
 // then the points, in loops of their own, so that the compiler takes several pixels at a time in all but the third.
 // The last step is that of the mapping for one point. The squares and the guesses stand where the coordinates will.
-// Assumes that the pixels lie within the limits of a window, and that the arrays are as long as their types say.
-ghost use Rattle.std.specs.Prelude.{◌≡◌, ◌+◌, ◌≤◌, length, Float};
+// Assumes that the pixels lie within the limits of a window.
+ghost use Rattle.std.specs.Prelude.{◌≡◌, ◌+◌, ◌≤◌, ◌<◌};
 ghost use Rattle.exact.specs.Limits.{largest_side, longest_span};
+ghost use Rattle.exact.specs.Vector.{at};
 ghost use Rattle.number.specs.Root.{root, guess};
-ghost use Rattle.inverse.specs.Barrel.{barrel_from, barrel_inverse_from};
-ghost use Rattle.fast_points.specs.Points.{PointsOf};
-ghost use Rattle.fast_points.specs.Barrels.{barrel_by, RadiiSquared, EachBy, Moved};
+ghost use Rattle.fast_points.specs.Points.{KeptRow};
+ghost use Rattle.fast_points.specs.Barrels.{ByRadiusAt, RadiiSquared, EachBy};
 
+use crate::keep::keep;
 use crate::pixel::pixel_middle;
-use crate::sized::sized;
-use inverse::barrel::{across, barrel_from, barrel_inverse_from, down, radius_squared};
-use mappings::mapping::BARREL;
+use inverse::barrel::{from_centre, radius_squared};
 use number::root::{guess, root_by};
+use point::point::Point;
 
 // The offsets across and the squared radii, dy being the offset down.
 fn radii_squared(
@@ -27,11 +27,10 @@ fn radii_squared(
 )
     requires n_le_longest_span { n ≤ longest_span }
     requires n_bound { first + n ≤ largest_side }
-    requires ds_len { (length ds.old ≡ longest_span) × (length ss.old ≡ longest_span) }
     ensures { RadiiSquared coef.now x dy first n ds.new ss.new }
 {
     for k in 0..n {
-        let dx = across(coef, pixel_middle(first + (k as u32), x));
+        let dx = from_centre(pixel_middle(first + (k as u32), x), coef[4], coef[6]);
         ds[k] = dx;
         ss[k] = radius_squared(dx, dy);
     }
@@ -39,7 +38,7 @@ fn radii_squared(
 
 // What the roots start from, several at a time.
 fn guesses(ss: &[f64; 64], n: usize, gs: &mut [f64; 64])
-    requires { (n ≤ longest_span) × (length gs.old ≡ longest_span) }
+    requires { n ≤ longest_span }
     ensures { EachBy guess n ss.now gs.new }
 {
     for k in 0..n {
@@ -49,7 +48,7 @@ fn guesses(ss: &[f64; 64], n: usize, gs: &mut [f64; 64])
 
 // The roots, whatever the guesses.
 fn roots(ss: &[f64; 64], gs: &[f64; 64], n: usize, rs: &mut [f64; 64])
-    requires { (n ≤ longest_span) × (length rs.old ≡ longest_span) }
+    requires { n ≤ longest_span }
     ensures { EachBy root n ss.now rs.new }
 {
     for k in 0..n {
@@ -57,53 +56,9 @@ fn roots(ss: &[f64; 64], gs: &[f64; 64], n: usize, rs: &mut [f64; 64])
     }
 }
 
-// The points of Barrel, by the offsets across and the radii.
-fn barrel_moved(
-    coef: &[f64; 256],
-    dy: f64,
-    n: usize,
-    ds: &[f64; 64],
-    rs: &[f64; 64],
-    us: &mut [f64; 64],
-    vs: &mut [f64; 64],
-)
-    requires n_le_longest_span { n ≤ longest_span }
-    requires us_len { (length us.old ≡ longest_span) × (length vs.old ≡ longest_span) }
-    ensures { Moved (barrel_from coef.now dy) n ds.now rs.now us.new
-        vs.new }
-{
-    for k in 0..n {
-        let p = barrel_from(coef, dy, ds[k], rs[k]);
-        us[k] = p.u;
-        vs[k] = p.v;
-    }
-}
-
-// The points of BarrelInverse.
-fn barrel_inverse_moved(
-    coef: &[f64; 256],
-    dy: f64,
-    n: usize,
-    ds: &[f64; 64],
-    rs: &[f64; 64],
-    us: &mut [f64; 64],
-    vs: &mut [f64; 64],
-)
-    requires n_le_longest_span { n ≤ longest_span }
-    requires us_len { (length us.old ≡ longest_span) × (length vs.old ≡ longest_span) }
-    ensures { Moved (barrel_inverse_from coef.now dy) n ds.now rs.now us.new
-        vs.new }
-{
-    for k in 0..n {
-        let p = barrel_inverse_from(coef, dy, ds[k], rs[k]);
-        us[k] = p.u;
-        vs[k] = p.v;
-    }
-}
-
-// The points of Barrel, or of BarrelInverse where the kind is another.
-pub fn barrel_points(
-    kind: u64,
+// The points that `from` gives by the offset down, the offset across and the radius.
+pub fn barrel_points<F: Fn(f64, f64, f64) -> Point>(
+    from: F,
     coef: &[f64; 256],
     x: f64,
     y: f64,
@@ -114,21 +69,19 @@ pub fn barrel_points(
 )
     requires n_le_longest_span { n ≤ longest_span }
     requires n_bound { first + n ≤ largest_side }
-    requires us_len { (length us.old ≡ longest_span) × (length vs.old ≡ longest_span) }
-    ensures { PointsOf (λ (a : Float). barrel_by kind coef.now a y) x first n us.new
-        vs.new }
+    requires callable { F.IsAlwaysCallable from }
+    ensures { KeptRow (ByRadiusAt (F.post from) coef.now y) x first n us.new vs.new }
 {
-    let dy = down(coef, y);
+    let dy = from_centre(y, coef[5], coef[6]);
     let mut ds = [0.0; 64];
     let mut rs = [0.0; 64];
     radii_squared(coef, x, dy, first, n, &mut ds, us);
     guesses(us, n, vs);
     roots(us, vs, n, &mut rs);
-    sized(*us);
-    sized(*vs);
-    if kind == BARREL {
-        barrel_moved(coef, dy, n, &ds, &rs, us, vs);
-        return;
-    }
-    barrel_inverse_moved(coef, dy, n, &ds, &rs, us, vs);
+    let moved = |k: usize| -> Point
+        requires inside { k < longest_span }
+        requires callable { F.IsAlwaysCallable from }
+        ensures { F.post from dy (at ds k) (at rs k) result }
+    { from(dy, ds[k], rs[k]) };
+    keep(moved, n, us, vs)
 }

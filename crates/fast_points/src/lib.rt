@@ -3,6 +3,6 @@
 #![tactic(auto)]
 
 pub mod barrels;
+pub mod keep;
 pub mod pixel;
 pub mod points;
-pub mod sized;

@@ -8,10 +8,38 @@ use Rattle.arguments.specs.Refusal.{pairs_in, pairs_of, arguments_refusal}
 use Rattle.arguments.specs.Store.{count_of, held_of, values_of, order_of}
 use Rattle.arguments.proofs.AcceptedLaws.{Accepted, accepted}
 use Rattle.arguments.proofs.StoreLaws.{held_all, order_value}
-use Rattle.mappings.specs.declared.mapping.Fitted.{Fitted}
+use Rattle.refusals.specs.declared.Refusal.{Refusal}
+use Rattle.refusals.specs.declared.Refusal.TheVariants.{
+  Size,
+  Stock,
+  Code,
+  Count,
+  Number,
+  Order,
+  Few,
+  Degenerate,
+  Window,
+  Rows,
+  Tray,
+}
+use Rattle.refusals.specs.Number.{number}
 use Rattle.fit.specs.Build.{made, build}
-use Rattle.mappings.specs.Mapping.{refused}
+use Rattle.mappings.specs.Mapping.{Fitted, refused}
 use Rattle.exact.specs.Vector.{Vector, at}
+
+-- a refusal's number is not 0
+pub number_some : (r : Refusal) → number r ≡ 0 → ⊥
+number_some Size e = omega arith
+number_some Stock e = omega arith
+number_some Code e = omega arith
+number_some Count e = omega arith
+number_some Number e = omega arith
+number_some Order e = omega arith
+number_some Few e = omega arith
+number_some Degenerate e = omega arith
+number_some Window e = omega arith
+number_some Rows e = omega arith
+number_some Tray e = omega arith
 
 module _ (m : ℕ) (bytes : List ℕ) {number : ℕ} (told : number ≡ arguments_refusal m bytes) where
   none : number ≡ 0 → Accepted m bytes

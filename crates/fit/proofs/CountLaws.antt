@@ -7,13 +7,14 @@ use Rattle.arguments.specs.Method.{affine_terms}
 use Rattle.arguments.specs.Order.{terms_of}
 use Rattle.arguments.specs.Refusal.{pairs_of, arguments_refusal}
 use Rattle.arguments.specs.Store.{count_of, values_of, order_of}
-use Rattle.mappings.specs.declared.mapping.Fitted.{Fitted}
-use Rattle.linear.specs.declared.solve.Solution.{Solution}
+use Rattle.std.specs.Prelude.{Option, Some, None, option_map}
+use Rattle.mappings.specs.declared.mapping.Kind.{Kind}
 use Rattle.fit.specs.Affine.{affine_forward, fit_affine_projection, shift, similarity, fit_affine}
 use Rattle.fit.specs.Barrel.{fit_barrel}
 use Rattle.fit.specs.Build.{made, build}
 use Rattle.fit.specs.Fit.{both}
 use Rattle.mappings.specs.Mapping.{
+  Fitted,
   poly_kind,
   barrel_kind,
   barrel_inverse_kind,
@@ -30,7 +31,7 @@ use Rattle.fit.specs.Shepards.{fit_shepards}
 use Rattle.fit.proofs.BuildLaws.{few_pairs_law}
 use Rattle.fit.proofs.FitLaws.{affine_terms_law, polynomial_terms}
 use Rattle.fit.proofs.OrientLaws.{orient_length}
-use Rattle.linear.proofs.InvertLaws.{affine_length, inverse_length}
+use Rattle.linear.proofs.InvertLaws.{Sized, affine_length, inverse_length}
 
 pub record Room (f : Fitted) : Type 0 where
   pub all : f.mapping.count ≤ 256
@@ -42,21 +43,24 @@ unfolding refused mapping
 refused_room number = record { all = lit≤ tt; poly = λ e. lit≤ tt }
 
 -- up to 42, whatever the kind
-short : (kind order : ℕ) (xs : Vector) → length xs ≤ 42 → Room (fitted (mapping kind order xs))
+short : (kind : Kind) (order : ℕ) (xs : Vector) → length xs ≤ 42 → Room (fitted (mapping kind order xs))
 unfolding mapping
 short kind order xs h = record { all = omega arith; poly = λ e. h }
 
-short_8 : (found : Bool) (kind order : ℕ) (xs : Vector) → length xs ≤ 42
-    → Room (solved_or8 found (mapping kind order xs))
+short_8 : (o : Option Vector) (kind : Kind) (make : Vector → Vector)
+    → ((x : Vector) → Some x ≡ o → length (make x) ≤ 42) → Room (solved_or8 (option_map (λ x. mapping kind 0 (make x)) o))
 unfolding solved_or8
-short_8 found kind order xs h = either Room found (short kind order xs h) (refused_room 8)
+short_8 (Some x) kind make h = short kind 0 (make x) (h x refl)
+short_8 None kind make h = refused_room 8
 
 -- twice n
-both_room : (s t : Solution) (n kind order : ℕ) → n ≤ 21 → Room (both s t n kind order)
+both_room : (s t : Option Vector) (n : ℕ) (kind : Kind) (order : ℕ) → n ≤ 21 → Room (both s t n kind order)
 unfolding both
-both_room s t n kind order h =
-    short_8 _ kind order (take n s.x ++ take n t.x)
-    (omega (arith, length-append (take n s.x) (take n t.x), length-take n s.x, length-take n t.x))
+both_room None t n kind order h = refused_room 8
+both_room (Some x) None n kind order h = refused_room 8
+both_room (Some x) (Some y) n kind order h =
+    short kind order (take n x ++ take n y)
+    (omega (arith, length-append (take n x) (take n y), length-take n x, length-take n y))
 
 -- ---- the makers
 
@@ -67,23 +71,25 @@ affine_room : (args : Vector) (pairs : ℕ) → Room (fit_affine args pairs)
 unfolding fit_affine shift similarity
 affine_room args pairs =
     either Room (eqb pairs 1) (short _ _ _ (lit≤ tt))
-    (either Room (eqb pairs 2) (short_8 _ _ _ _ (lit≤ tt))
+    (either Room (eqb pairs 2) (short_8 _ _ _ (λ x e. lit≤ tt))
     (both_room _ _ (affine_terms pairs) _ _ (affine_terms_law pairs refl)))
 
 affine_projection_room : (args : Vector) → Room (fit_affine_projection args)
 unfolding fit_affine_projection
-affine_projection_room args = short_8 _ _ _ _ (few _ 6 (affine_length (affine_forward args)) (lit≤ tt))
+affine_projection_room args =
+    short_8 _ _ _ (λ x e. few _ 6 (subst⁻¹ (Sized 6) e (affine_length (affine_forward args))) (lit≤ tt))
 
 perspective_room : (args : Vector) (pairs : ℕ) → Room (fit_perspective args pairs)
 unfolding fit_perspective
-perspective_room args pairs = short_8 _ _ _ _ (few _ 9 (orient_length _ _ _ refl) (lit≤ tt))
+perspective_room args pairs = short_8 _ _ _ (λ x e. few _ 9 (orient_length _ _ _ refl) (lit≤ tt))
 
 perspective_projection_room : (args : Vector) (w h : Float) → Room (fit_perspective_projection args w h)
 unfolding fit_perspective_projection
 perspective_projection_room args w h =
-    short_8 _ _ _ _ (few _ 9 (orient_length _ _ _ (inverse_length (forward args))) (lit≤ tt))
+    short_8 _ _ _
+    (λ x e. few _ 9 (orient_length _ _ _ (subst⁻¹ (Sized 9) e (inverse_length (forward args)))) (lit≤ tt))
 
-barrel_room : (args : Vector) (count : ℕ) (w h : Float) (kind : ℕ) → Room (fit_barrel args count w h kind)
+barrel_room : (args : Vector) (count : ℕ) (w h : Float) (kind : Kind) → Room (fit_barrel args count w h kind)
 unfolding fit_barrel
 barrel_room args count w h kind = short _ _ _ (lit≤ tt)
 
@@ -92,7 +98,7 @@ unfolding fit_shepards mapping
 shepards_room args pairs h = record { all = omega (arith, length-take (4 * pairs) args); poly = λ e. absurd (seven e) }
   where
     seven : shepards_kind ≡ poly_kind → ⊥
-    seven e = omega arith
+    seven e = cc
 
 -- ---- all of them
 

@@ -1,18 +1,18 @@
 -- Where no refusal from 3 to 7 applies, the fit's own is 0 or 8: each maker gives a mapping, or 8 where there is no
 -- solution or no inverse. By the cases of `made`. Assumes nothing.
-use Rattle.std.proofs.Common.{◌≡◌, ℕ, Bool, true, false, eqb, ◌⊎◌, List, pos, refl, inl, inr, eq-eqb}
+use Rattle.std.proofs.Common.{◌≡◌, ℕ, eqb, ◌⊎◌, List, pos, refl, inl, inr, eq-eqb}
 use lib.Ieee.{Float, binary64, of_int}
 use Rattle.exact.proofs.Booleans.{either}
 use Rattle.arguments.specs.Refusal.{pairs_of, arguments_refusal}
 use Rattle.arguments.specs.Store.{count_of, values_of, order_of}
-use Rattle.mappings.specs.declared.mapping.Fitted.{Fitted}
+use Rattle.std.specs.Prelude.{Option, Some, None}
+use Rattle.mappings.specs.declared.mapping.Kind.{Kind}
 use Rattle.mappings.specs.declared.mapping.Mapping.{Mapping}
-use Rattle.linear.specs.declared.solve.Solution.{Solution}
 use Rattle.fit.specs.Affine.{fit_affine_projection, shift, similarity, fit_affine}
 use Rattle.fit.specs.Barrel.{fit_barrel}
 use Rattle.fit.specs.Build.{made, build}
 use Rattle.fit.specs.Fit.{both}
-use Rattle.mappings.specs.Mapping.{fitted, refused, solved_or8}
+use Rattle.mappings.specs.Mapping.{Fitted, fitted, refused, solved_or8}
 use Rattle.exact.specs.Vector.{Vector}
 use Rattle.fit.specs.Perspective.{fit_perspective_projection, fit_perspective}
 use Rattle.fit.specs.Shepards.{fit_shepards}
@@ -24,34 +24,40 @@ pub record NoneOr8 (f : Fitted) : Type 0 where
 none : (m : Mapping) → NoneOr8 (fitted m)
 none m = record { number = inl refl }
 
-solved : (found : Bool) (m : Mapping) → NoneOr8 (solved_or8 found m)
-unfolding solved_or8 refused
-solved true m = none m
-solved false m = record { number = inr refl }
+degenerate : NoneOr8 (refused 8)
+unfolding refused
+degenerate = record { number = inr refl }
+
+solved : (o : Option Mapping) → NoneOr8 (solved_or8 o)
+unfolding solved_or8
+solved (Some m) = none m
+solved None = degenerate
 
 -- ---- the makers
-both_8 : (s t : Solution) (n kind order : ℕ) → NoneOr8 (both s t n kind order)
+both_8 : (s t : Option Vector) (n : ℕ) (kind : Kind) (order : ℕ) → NoneOr8 (both s t n kind order)
 unfolding both
-both_8 s t n kind order = solved _ _
+both_8 None t n kind order = degenerate
+both_8 (Some x) None n kind order = degenerate
+both_8 (Some x) (Some y) n kind order = none _
 
 affine_8 : (args : Vector) (pairs : ℕ) → NoneOr8 (fit_affine args pairs)
 unfolding fit_affine shift similarity
 affine_8 args pairs = either NoneOr8 (eqb pairs 1) (none _)
-    (either NoneOr8 (eqb pairs 2) (solved _ _) (both_8 _ _ _ _ _))
+    (either NoneOr8 (eqb pairs 2) (solved _) (both_8 _ _ _ _ _))
 
 affine_projection_8 : (args : Vector) → NoneOr8 (fit_affine_projection args)
 unfolding fit_affine_projection
-affine_projection_8 args = solved _ _
+affine_projection_8 args = solved _
 
 perspective_8 : (args : Vector) (pairs : ℕ) → NoneOr8 (fit_perspective args pairs)
 unfolding fit_perspective
-perspective_8 args pairs = solved _ _
+perspective_8 args pairs = solved _
 
 perspective_projection_8 : (args : Vector) (w h : Float) → NoneOr8 (fit_perspective_projection args w h)
 unfolding fit_perspective_projection
-perspective_projection_8 args w h = solved _ _
+perspective_projection_8 args w h = solved _
 
-barrel_8 : (args : Vector) (count : ℕ) (w h : Float) (kind : ℕ) → NoneOr8 (fit_barrel args count w h kind)
+barrel_8 : (args : Vector) (count : ℕ) (w h : Float) (kind : Kind) → NoneOr8 (fit_barrel args count w h kind)
 unfolding fit_barrel
 barrel_8 args count w h kind = none _
 

@@ -1,15 +1,18 @@
 -- A row added by the code is the definition's next row, where its numbers and its right-hand side are the definition's:
 -- for one row a pair and for two. Then the cases of what has a solution or none, and how many terms there can be.
 -- Assumes nothing.
-use Rattle.std.proofs.Common.{◌≡◌, ℕ, ◌+◌, ◌*◌, ◌≤◌, Bool, true, false, cond, ◌&&◌, eqb, ◌++◌, take, sym, ap, ◌∙◌, lit≤}
+use Rattle.std.proofs.Common.{◌≡◌, ℕ, ◌+◌, ◌*◌, ◌≤◌, Bool, true, false, cond, eqb, ◌++◌, take, ap, ◌∙◌, lit≤}
 use mathlib.Core.Path.{subst⁻¹}
 use Rattle.arguments.specs.Method.{affine_terms}
 use Rattle.arguments.specs.Order.{terms_of}
 use Rattle.arguments.proofs.OrderLaws.{terms_range}
 use lib.Ieee.{Float}
 use Rattle.mappings.specs.declared.mapping.Mapping.{Mapping}
-use Rattle.mappings.specs.declared.mapping.Fitted.{Fitted}
-use Rattle.linear.specs.declared.solve.Solution.{Solution}
+use Rattle.std.specs.Prelude.{Option, Some, None, Ok, Err, option_map, ok_or}
+use Rattle.refusals.specs.declared.Refusal.{Refusal}
+use Rattle.refusals.specs.declared.Refusal.TheVariants.{Degenerate}
+use Rattle.refusals.specs.Number.{number}
+use Rattle.mappings.specs.declared.mapping.Kind.{Kind}
 use Rattle.mappings.specs.Mapping.{mapping, fitted, refused, solved_or8}
 use Rattle.fit.specs.Fit.{both}
 use Rattle.exact.specs.Vector.{Vector}
@@ -31,30 +34,43 @@ pub two_added : (f g : ℕ → Vector) (y z : ℕ → Float) (n j : ℕ) {row ne
 two_added f g y z n j {s = s} e p e' q h u w = w ∙ same_row n e' q (u ∙ same_row n e p (λ i. s))
     ∙ normal_next_two f g y z n j h
 
--- ---- a solution or refusal 8
+-- ---- a solution or refusal 8, from what `ok_or` answers
 
-module _ (found : Bool) (m : Mapping) {r : Fitted} where
-  pub none_8 : r ≡ refused 8 → found ≡ false → r ≡ solved_or8 found m
-  unfolding solved_or8
-  none_8 e h = e ∙ ap (λ (b : Bool). solved_or8 b m) (sym h)
+pub some_8 : (o : Option Vector) (make : Vector → Mapping) (x : Vector) {m : Mapping} → Ok x ≡ ok_or o Degenerate
+    → m ≡ make x → fitted m ≡ solved_or8 (option_map make o)
+unfolding solved_or8
+some_8 (Some y) make x e f = let h : x ≡ y = cc in ap fitted (f ∙ ap make h)
+some_8 None make x e f = absurd (cc)
 
-  pub some_8 : r ≡ fitted m → found ≡ true → r ≡ solved_or8 found m
-  unfolding solved_or8
-  some_8 e h = e ∙ ap (λ (b : Bool). solved_or8 b m) (sym h)
+pub none_8 : (o : Option Vector) (make : Vector → Mapping) (r : Refusal) → Err r ≡ ok_or o Degenerate
+    → refused (number r) ≡ solved_or8 (option_map make o)
+unfolding solved_or8
+none_8 (Some y) make r e = absurd (cc)
+none_8 None make r e = let h : r ≡ Degenerate = cc in ap (λ (z : Refusal). refused (number z)) h
 
-module _ (s t : Solution) (n kind order : ℕ) {r : Fitted} where
-  pub both_first : r ≡ refused 8 → s.found ≡ false → r ≡ both s t n kind order
+module _ (n : ℕ) (kind : Kind) (order : ℕ) where
+  pub both_first : (o p : Option Vector) (r : Refusal) → Err r ≡ ok_or o Degenerate
+      → refused (number r) ≡ both o p n kind order
   unfolding both
-  both_first e h = none_8 (s.found && t.found) _ e (ap (λ (b : Bool). b && t.found) h)
+  both_first (Some y) p r e = absurd (cc)
+  both_first None p r e = let h : r ≡ Degenerate = cc in ap (λ (z : Refusal). refused (number z)) h
 
-  pub both_second : r ≡ refused 8 → s.found ≡ true → t.found ≡ false → r ≡ both s t n kind order
+  pub both_second : (o p : Option Vector) (x : Vector) (r : Refusal) → Ok x ≡ ok_or o Degenerate
+      → Err r ≡ ok_or p Degenerate → refused (number r) ≡ both o p n kind order
   unfolding both
-  both_second e h g = none_8 (s.found && t.found) _ e (ap (λ (b : Bool). b && t.found) h ∙ g)
+  both_second None p x r e f = absurd (cc)
+  both_second (Some y) (Some z) x r e f = absurd (cc)
+  both_second (Some y) None x r e f = let h : r ≡ Degenerate = cc in ap (λ (z : Refusal). refused (number z)) h
 
-  pub both_found : r ≡ fitted (mapping kind order (take n s.x ++ take n t.x)) → s.found ≡ true → t.found ≡ true
-      → r ≡ both s t n kind order
+  pub both_found : (o p : Option Vector) (x y : Vector) {m : Mapping} → Ok x ≡ ok_or o Degenerate
+      → Ok y ≡ ok_or p Degenerate → m ≡ mapping kind order (take n x ++ take n y) → fitted m ≡ both o p n kind order
   unfolding both
-  both_found e h g = some_8 (s.found && t.found) _ e (ap (λ (b : Bool). b && t.found) h ∙ g)
+  both_found None p x y e f g = absurd (cc)
+  both_found (Some a) None x y e f g = absurd (cc)
+  both_found (Some a) (Some b) x y e f g =
+      let h : x ≡ a = cc in
+      let k : y ≡ b = cc in
+      ap fitted (g ∙ (λ i. mapping kind order (take n (h i) ++ take n (k i))))
 
 -- ---- there is room for an affine method's terms
 

@@ -2,8 +2,8 @@
 use Rattle.std.specs.Prelude.{ℕ, cond, [], ◌∷◌, nat_lt, Float}
 use Rattle.exact.specs.Double.{◌⊕◌, ◌⊖◌, ◌⊘◌, two, one}
 use Rattle.number.specs.Magnitude.{fmin}
-use Rattle.mappings.specs.declared.mapping.Fitted.{Fitted}
-use Rattle.mappings.specs.Mapping.{mapping, fitted}
+use Rattle.mappings.specs.declared.mapping.Kind.{Kind}
+use Rattle.mappings.specs.Mapping.{Fitted, mapping, fitted}
 use Rattle.exact.specs.Vector.{Vector, at}
 
 -- args.get(k).copied().unwrap_or(other)
@@ -21,5 +21,5 @@ distorted values count w h =
     ∷ (fmin w h ⊘ two)
     ∷ []
 
-unfoldable pub fit_barrel : Vector → ℕ → Float → Float → ℕ → Fitted
+unfoldable pub fit_barrel : Vector → ℕ → Float → Float → Kind → Fitted
 fit_barrel values count w h kind = fitted (mapping kind 0 (distorted values count w h))

@@ -6,10 +6,9 @@ use Rattle.std.specs.Float.Ieee.{of_int}
 use Rattle.arguments.specs.Method as Method
 use Rattle.arguments.specs.Refusal.{pairs_of, arguments_refusal}
 use Rattle.arguments.specs.Store.{count_of, values_of, order_of}
-use Rattle.mappings.specs.declared.mapping.Fitted.{Fitted}
 use Rattle.fit.specs.Affine.{fit_affine, fit_affine_projection}
 use Rattle.fit.specs.Barrel.{fit_barrel}
-use Rattle.mappings.specs.Mapping.{barrel_kind, barrel_inverse_kind, refused}
+use Rattle.mappings.specs.Mapping.{Fitted, barrel_kind, barrel_inverse_kind, refused}
 use Rattle.exact.specs.Vector.{Vector}
 use Rattle.fit.specs.Perspective.{fit_perspective, fit_perspective_projection}
 use Rattle.fit.specs.Polynomial.{fit_polynomial, fit_bilinear_reverse, fit_bilinear_forward}

@@ -1,13 +1,12 @@
 -- `lstsq` over the pairs of the store: one row a pair, two rows a pair, and the same terms fitted to two sides.
 -- Specification 5.1. Assumes nothing.
-use Rattle.std.specs.Prelude.{ℕ, ◌*◌, ◌&&◌, ◌++◌, take, Float}
-use Rattle.mappings.specs.declared.mapping.Fitted.{Fitted}
+use Rattle.std.specs.Prelude.{ℕ, ◌*◌, ◌++◌, take, Option, Some, None, Float}
+use Rattle.mappings.specs.declared.mapping.Kind.{Kind}
 use Rattle.mappings.specs.declared.rows.Side.{Side}
 use Rattle.mappings.specs.declared.rows.Side.TheVariants.{OfU, OfV, OfX, OfY}
 use Rattle.mappings.specs.declared.rows.Terms.{Terms}
 use Rattle.mappings.specs.declared.rows.Twin.{Twin}
-use Rattle.linear.specs.declared.solve.Solution.{Solution}
-use Rattle.mappings.specs.Mapping.{mapping, solved_or8}
+use Rattle.mappings.specs.Mapping.{Fitted, mapping, fitted, refused}
 use Rattle.exact.specs.Vector.{Vector}
 use Rattle.linear.specs.Normal.{lstsq, in_turn}
 use Rattle.mappings.specs.Pairs.{pair_at}
@@ -22,7 +21,7 @@ row_of_pair values skip terms j = row_of terms (pair_at values skip j)
 abbrev pub sides_of : Vector → ℕ → Side → ℕ → Float
 sides_of values skip side j = side_of side (pair_at values skip j)
 
-abbrev pub fit_one : Vector → ℕ → ℕ → Terms → Side → ℕ → Solution
+abbrev pub fit_one : Vector → ℕ → ℕ → Terms → Side → ℕ → Option Vector
 fit_one values skip pairs terms side n = lstsq (row_of_pair values skip terms) (sides_of values skip side) n pairs
 
 -- ---- two rows a pair: first, second, first, second, .. with the right-hand sides u, v, u, v, ..
@@ -39,16 +38,19 @@ all_u values j = (pair_at values 0 j).u
 abbrev pub all_v : Vector → ℕ → Float
 all_v values j = (pair_at values 0 j).v
 
-abbrev pub fit_twin : Vector → ℕ → Twin → ℕ → Solution
+abbrev pub fit_twin : Vector → ℕ → Twin → ℕ → Option Vector
 fit_twin values pairs twin n =
     lstsq (in_turn (first_rows values twin) (second_rows values twin)) (in_turn (all_u values) (all_v values)) n (2 * pairs)
 
--- ---- the same terms fitted to two sides: n coefficients of the one and then n of the other
+-- ---- the same terms fitted to two sides: n coefficients of the one and then n of the other; 8, degenerate, where one
+-- has no solution
 
-unfoldable pub both : Solution → Solution → ℕ → ℕ → ℕ → Fitted
-both s t n kind order = solved_or8 (s.found && t.found) (mapping kind order (take n s.x ++ take n t.x))
+unfoldable pub both : Option Vector → Option Vector → ℕ → Kind → ℕ → Fitted
+both None t n kind order = refused 8
+both (Some x) None n kind order = refused 8
+both (Some x) (Some y) n kind order = fitted (mapping kind order (take n x ++ take n y))
 
-abbrev pub fit_both : Vector → ℕ → ℕ → Terms → Sides → ℕ → ℕ → ℕ → Fitted
+abbrev pub fit_both : Vector → ℕ → ℕ → Terms → Sides → ℕ → Kind → ℕ → Fitted
 fit_both values skip pairs terms s n kind order =
     both (fit_one values skip pairs terms s.first n) (fit_one values skip pairs terms s.second n) n kind order
 

@@ -2,10 +2,9 @@
 -- from the terms 1, u, v, uv. Specification 5.2. Assumes nothing.
 use Rattle.std.specs.Prelude.{ℕ, Float}
 use Rattle.arguments.specs.Order.{degree, terms_of}
-use Rattle.mappings.specs.declared.mapping.Fitted.{Fitted}
 use Rattle.mappings.specs.declared.rows.Terms.TheVariants.{Polynomial, Forward}
 use Rattle.fit.specs.Fit.{fit_both, u_and_v, x_and_y}
-use Rattle.mappings.specs.Mapping.{poly_kind, bilinear_forward_kind}
+use Rattle.mappings.specs.Mapping.{Fitted, poly_kind, bilinear_forward_kind}
 use Rattle.exact.specs.Vector.{Vector}
 
 -- the pairs come after the order; the mapping has its degree, 0 for the terms 1, x, y, xy

@@ -1,88 +1,78 @@
-// Least squares over the pairs of the store: one row a pair, or two. Assumes that the pairs are in the store and that
-// there are at most 21 unknowns.
-ghost use Rattle.std.specs.Prelude.{◌≡◌, ◌+◌, ◌*◌, ◌≤◌};
-ghost use Rattle.exact.specs.Limits.{most_arguments};
+// Least squares over the pairs of the store: one row a pair, or two. Assumes that there are at most 21 unknowns.
+ghost use Rattle.std.specs.Prelude.{◌≡◌, ◌≤◌, Some, None};
 ghost use Rattle.fit.specs.Fit.{fit_one, fit_twin};
 ghost use Rattle.fit.specs.Fit as Fit;
+ghost use Rattle.mappings.specs.Mapping.{fitted_by};
 
-use linear::normal::add_row;
-use linear::solve::{Solution, solve};
-use mappings::mapping::Fitted;
-use mappings::pairs::pair_at;
+use linear::equations::Equations;
+use mappings::mapping::{Kind, Mapping};
+use mappings::pairs::Pairs;
+use mappings::rows;
 use mappings::rows::{Side, Terms, Twin};
-use mappings::{mapping, rows};
+use refusals::Refusal;
 
-pub fn fit_one(
-    values: &[f64; 257],
-    skip: usize,
-    pairs: usize,
-    terms: Terms,
-    side: Side,
-    n: usize,
-) -> Solution
-    requires { (skip + 4 * pairs ≤ most_arguments) × (n ≤ 21) }
-    ensures { result ≡ fit_one values.now skip pairs terms side n }
+// One row a pair.
+pub fn fit_one(pairs: &Pairs, terms: Terms, side: Side, n: usize) -> Option<[f64; 21]>
+    requires { n ≤ 21 }
+    ensures { result ≡ fit_one pairs.now.values.now pairs.now.skip pairs.now.count terms side n }
 {
-    let mut a = [[0.0; 21]; 21];
-    let mut b = [0.0; 21];
-    for j in 0..pairs {
-        let p = pair_at(values, skip, j);
-        let row = rows::row(terms, p);
-        let y = rows::side_of(side, p);
-        add_row(&mut a, &mut b, &row, y, n);
+    let mut equations = Equations::new(n);
+    for j in 0..pairs.count {
+        let p = pairs.at(j);
+        equations.add_row(&rows::row(terms, p), rows::side_of(side, p));
     }
-    solve(a, b, n)
+    equations.solve()
 }
 
 // Two rows a pair: u and v share the unknowns.
-pub fn fit_twin(values: &[f64; 257], pairs: usize, twin: Twin, n: usize) -> Solution
-    requires { (4 * pairs ≤ most_arguments) × (n ≤ 21) }
-    ensures { result ≡ fit_twin values.now pairs twin n }
+pub fn fit_twin(pairs: &Pairs, twin: Twin, n: usize) -> Option<[f64; 21]>
+    requires { (pairs.now.skip ≡ 0) × (n ≤ 21) }
+    ensures { result ≡ fit_twin pairs.now.values.now pairs.now.count twin n }
 {
-    let mut a = [[0.0; 21]; 21];
-    let mut b = [0.0; 21];
-    for j in 0..pairs {
-        let p = pair_at(values, 0, j);
-        let first = rows::first_row(twin, p);
-        add_row(&mut a, &mut b, &first, p.u, n);
-        let second = rows::second_row(twin, p);
-        add_row(&mut a, &mut b, &second, p.v, n);
+    let mut equations = Equations::new(n);
+    for j in 0..pairs.count {
+        let p = pairs.at(j);
+        equations.add_row(&rows::first_row(twin, p), p.u);
+        equations.add_row(&rows::second_row(twin, p), p.v);
     }
-    solve(a, b, n)
+    equations.solve()
 }
 
 // The two sides of a pair that the same terms are fitted to.
-#[derive(Drop)]
+#[derive(Clone, Copy)]
 pub struct Sides {
     pub first: Side,
     pub second: Side,
 }
 
+impl Sides {
+    // For a mapping that goes back to the picture.
+    pub const U_AND_V: Sides = Sides {
+        first: Side::OfU,
+        second: Side::OfV,
+    };
+
+    // For one that goes forward.
+    pub const X_AND_Y: Sides = Sides {
+        first: Side::OfX,
+        second: Side::OfY,
+    };
+}
+
 // The same terms fitted to two sides: the coefficients of the one, then those of the other.
 pub fn fit_both(
-    values: &[f64; 257],
-    skip: usize,
-    pairs: usize,
+    pairs: &Pairs,
     terms: Terms,
     sides: Sides,
     n: usize,
-    kind: u64,
+    kind: Kind,
     order: u64,
-) -> Fitted
-    requires { (skip + 4 * pairs ≤ most_arguments) × (n ≤ 21) }
-    ensures { result ≡ Fit.fit_both values.now skip pairs terms sides n kind order }
+) -> Result<Mapping, Refusal>
+    requires { n ≤ 21 }
+    ensures { fitted_by result
+        ≡ Fit.fit_both pairs.now.values.now pairs.now.skip pairs.now.count terms sides n kind order }
 {
-    let first = sides.first;
-    let s = fit_one(values, skip, pairs, terms, first, n);
-    if !s.found {
-        return mapping::refused(8);
-    }
-    let second = sides.second;
-    let t = fit_one(values, skip, pairs, terms, second, n);
-    if !t.found {
-        return mapping::refused(8);
-    }
-    let xs = s.x;
-    let ys = t.x;
-    mapping::accepted(mapping::mapping_of_two(kind, order, &xs, &ys, n))
+    let xs = fit_one(pairs, terms, sides.first, n).ok_or(Refusal::Degenerate)?;
+    let ys = fit_one(pairs, terms, sides.second, n).ok_or(Refusal::Degenerate)?;
+    Ok(Mapping::of_two(kind, order, &xs[..n], &ys[..n]))
 }

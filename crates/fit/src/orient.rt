@@ -3,6 +3,7 @@ ghost use Rattle.std.specs.Prelude.{◌≡◌};
 ghost use Rattle.fit.specs.Orient as Orient;
 
 // An overall sign is free: all nine change it where the denominator at (x, y) is negative.
+#[tactic(auto, unfolding(crate::specs::Orient::orient))]
 pub fn orient(m: [f64; 9], x: f64, y: f64) -> [f64; 9]
     ensures { result ≡ Orient.orient m x y }
 {

@@ -1,70 +1,27 @@
-// The makers of the methods whose terms are monomials. Assumes that the pairs are in the store.
-ghost use Rattle.std.specs.Prelude.{◌≡◌, ◌+◌, ◌*◌, ◌≤◌};
-ghost use Rattle.exact.specs.Limits.{most_arguments};
-ghost use Rattle.fit.specs.Polynomial.{fit_bilinear_reverse, fit_bilinear_forward};
+// The maker of the polynomial, whose terms are monomials. Assumes nothing.
+ghost use Rattle.std.specs.Prelude.{◌≡◌};
 ghost use Rattle.fit.specs.Polynomial as Maker;
+ghost use Rattle.mappings.specs.Mapping.{fitted_by};
 
 use crate::lstsq::{Sides, fit_both};
-use arguments::method::{BilinearForward, BilinearReverse, Polynomial};
-use mappings::mapping;
-use mappings::mapping::Fitted;
-use mappings::rows::{Side, Terms};
+use arguments::method::Polynomial;
+use mappings::mapping::{Kind, Mapping};
+use mappings::pairs::Pairs;
+use mappings::rows::Terms;
+use refusals::Refusal;
 
 // The pairs come after the order; the mapping has its degree, 0 for the terms 1, x, y, xy.
-pub fn fit_polynomial(values: &[f64; 257], pairs: usize, order: f64) -> Fitted
-    requires { 1 + 4 * pairs ≤ most_arguments }
-    ensures { result ≡ Maker.fit_polynomial values.now pairs order }
+pub fn fit_polynomial(pairs: &Pairs, order: f64) -> Result<Mapping, Refusal>
+    requires { pairs.now.skip ≡ 1 }
+    ensures { fitted_by result ≡ Maker.fit_polynomial pairs.now.values.now pairs.now.count order }
 {
     let degree = Polynomial::degree(order);
     fit_both(
-        values,
-        Polynomial::SKIP as usize,
         pairs,
         Terms::Polynomial(degree),
-        Sides {
-            first: Side::OfU,
-            second: Side::OfV,
-        },
+        Sides::U_AND_V,
         Polynomial::terms(order) as usize,
-        mapping::POLY,
+        Kind::Poly,
         degree,
-    )
-}
-
-pub fn fit_bilinear_reverse(values: &[f64; 257], pairs: usize) -> Fitted
-    requires { 4 * pairs ≤ most_arguments }
-    ensures { result ≡ fit_bilinear_reverse values.now pairs }
-{
-    fit_both(
-        values,
-        0,
-        pairs,
-        Terms::Polynomial(0),
-        Sides {
-            first: Side::OfU,
-            second: Side::OfV,
-        },
-        BilinearReverse::TERMS as usize,
-        mapping::POLY,
-        0,
-    )
-}
-
-pub fn fit_bilinear_forward(values: &[f64; 257], pairs: usize) -> Fitted
-    requires { 4 * pairs ≤ most_arguments }
-    ensures { result ≡ fit_bilinear_forward values.now pairs }
-{
-    fit_both(
-        values,
-        0,
-        pairs,
-        Terms::Forward,
-        Sides {
-            first: Side::OfX,
-            second: Side::OfY,
-        },
-        BilinearForward::TERMS as usize,
-        mapping::BILINEAR_FORWARD,
-        0,
     )
 }

@@ -1,14 +1,16 @@
-// The maker of Shepard's method, whose pairs are its coefficients. Assumes that there are at most 64.
-ghost use Rattle.std.specs.Prelude.{◌≡◌, ◌≤◌};
-ghost use Rattle.exact.specs.Limits.{most_pairs};
+// The maker of Shepard's method, whose pairs are its coefficients. Assumes that no argument stands before them.
+ghost use Rattle.std.specs.Prelude.{◌≡◌};
 ghost use Rattle.fit.specs.Shepards as Maker;
+ghost use Rattle.mappings.specs.Mapping.{fitted};
 
-use mappings::mapping;
-use mappings::mapping::Fitted;
+use mappings::mapping::{Kind, Mapping};
+use mappings::pairs::Pairs;
 
-pub fn fit_shepards(values: &[f64; 257], pairs: usize) -> Fitted
-    requires { pairs ≤ most_pairs }
-    ensures { result ≡ Maker.fit_shepards values.now pairs }
+#[tactic(auto, unfolding(crate::specs::Shepards::fit_shepards))]
+pub fn fit_shepards(pairs: &Pairs) -> Mapping
+    requires { pairs.now.skip ≡ 0 }
+    ensures { fitted result ≡ Maker.fit_shepards pairs.now.values.now pairs.now.count }
 {
-    mapping::accepted(mapping::mapping_of_first(mapping::SHEPARDS, 0, values, 4 * pairs))
+    let values = pairs.values;
+    Mapping::new(Kind::Shepards, 0, &values[..4 * pairs.count])
 }

@@ -8,43 +8,31 @@ use listing::{answer, reader, text};
 use std::io;
 use std::io::{Read, Stdin};
 
-// What a read leaves: the reader, and whether to read on.
-#[derive(Drop)]
-struct Turn {
-    reader: Reader,
-    more: bool,
-}
+const READS: u64 = 1 << 40;
 
-// One read. What cannot be read, and what comes after the last read, is no line of any form.
-fn read_some(input: &mut Stdin, s: Reader, arguments: &mut [u8; 2048]) -> Turn {
+// The reader after one more read, or none at the end of the input.
+fn read_some(
+    input: &mut Stdin,
+    s: Reader,
+    arguments: &mut [u8; 2048],
+) -> io::Result<Option<Reader>> {
     let mut chunk = [0u8; 65536];
-    let Ok(n) = input.read(&mut chunk) else {
-        let reader = reader::fault(s);
-        return Turn {
-            reader,
-            more: false,
-        };
-    };
+    let n = input.read(&mut chunk)?;
     if n == 0 {
-        return Turn {
-            reader: s,
-            more: false,
-        };
+        return Ok(None);
     }
-    let reader = text::feed(s, &chunk[..n], arguments);
-    Turn { reader, more: true }
+    Ok(Some(text::feed(s, &chunk[..n], arguments)))
 }
 
+// The reader after the input. What cannot be read, and what comes after the last read, is no line of any form.
 fn read_all(input: &mut Stdin, arguments: &mut [u8; 2048]) -> Reader {
     let mut s = reader::start_reader();
-    let mut left: u64 = 1099511627776;
-    while left > 0 {
-        let turn = read_some(input, s, arguments);
-        s = turn.reader;
-        if !turn.more {
-            return s;
+    for _ in 0..READS {
+        match read_some(input, s, arguments) {
+            Ok(Some(more)) => s = more,
+            Ok(None) => return s,
+            Err(_) => break,
         }
-        left -= 1;
     }
     reader::fault(s)
 }

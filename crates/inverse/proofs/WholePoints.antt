@@ -1,21 +1,22 @@
 -- Every mapping's point is `point` of its own coordinates: each mapping ends in `point` or in `none`, and so does a
 -- loop that is left in the middle. Assumes nothing.
 use Prim.Native.Nat.{ℕ, ◌+◌, ◌*◌, zero-le}
-use lib.Dec.{eqb}
 use lib.Ieee.{Float, le, lt}
 use Rattle.exact.specs.Double.{◌⊕◌, ◌⊖◌, ◌⊘◌, least_divisor}
 use Rattle.exact.specs.Sums.{linear}
 use Rattle.exact.proofs.Loop.{up_to_keep}
 use Rattle.number.specs.Magnitude.{abs}
 use Rattle.exact.specs.Vector.{Vector, at}
-use Rattle.mappings.specs.Mapping.{
-  affine_kind,
-  perspective_kind,
-  poly_kind,
-  bilinear_forward_kind,
-  barrel_kind,
-  barrel_inverse_kind,
-  shepards_kind,
+use Rattle.mappings.specs.declared.mapping.Kind.{Kind}
+use Rattle.mappings.specs.declared.mapping.Kind.TheVariants.{
+  Nothing,
+  Affine,
+  Perspective,
+  Poly,
+  BilinearForward,
+  Barrel,
+  BarrelInverse,
+  Shepards,
 }
 use Rattle.point.specs.Point.{point, Whole}
 use Rattle.point.specs.Course.{on}
@@ -32,7 +33,7 @@ use Rattle.point.proofs.WholeLaws.{
 }
 use Rattle.inverse.specs.Perspective.{wq, perspective}
 use Rattle.inverse.specs.Forward.{last_step, det, du, dv, newton, newton_turn, bilinear_forward}
-use Rattle.inverse.specs.Shepards.{PairSums, d2, add_pair, pair_turn, zero_sums, moved_by, of_pairs, pairs_kept}
+use Rattle.inverse.specs.Shepards.{shepards, PairSums, d2, add_pair, pair_turn, zero_sums, moved_by, of_pairs, pairs_kept}
 use Rattle.inverse.specs.Affine.{affine}
 use Rattle.inverse.specs.Polynomial.{polynomial}
 use Rattle.inverse.specs.Barrel.{across, down, radius_squared, factor, barrel_from, barrel_inverse_from}
@@ -93,19 +94,22 @@ pub barrel_inverse_whole : (c : Vector) (dy dx r : Float) → Whole (barrel_inve
 unfolding barrel_inverse_from
 barrel_inverse_whole c dy dx r = unless_whole (lt (abs (factor c r)) least_divisor) _ _
 
+pub shepards_whole : (count : ℕ) (c : Vector) (x y : Float) → Whole (shepards count c x y)
+shepards_whole count c x y = pairs_whole c x y (pairs_kept count)
+
 -- ---- by the kind
-pub inverse_whole : (kind order count : ℕ) (coef : Vector) (x y : Float) → Whole (inverse kind order count coef x y)
+abbrev radius : Vector → Float → Float → Float
+radius c x y = root (radius_squared (across c x) (down c y))
+
+pub inverse_whole : (kind : Kind) (order count : ℕ) (coef : Vector) (x y : Float)
+    → Whole (inverse kind order count coef x y)
 unfolding inverse
-inverse_whole kind order count coef x y =
-    either Whole (eqb kind affine_kind) (affine_whole coef x y)
-    (either Whole (eqb kind perspective_kind) (perspective_whole coef x y)
-    (either Whole (eqb kind poly_kind) (polynomial_whole order coef x y)
-    (either Whole (eqb kind bilinear_forward_kind) (forward_whole coef x y)
-    (either Whole (eqb kind barrel_kind) (barrel_whole coef (down coef y) (across coef x) (radius coef x y))
-    (either Whole (eqb kind barrel_inverse_kind)
-    (barrel_inverse_whole coef (down coef y) (across coef x) (radius coef x y))
-    (either Whole (eqb kind shepards_kind) (pairs_whole coef x y (pairs_kept count))
-    none_whole))))))
-  where
-    radius : Vector → Float → Float → Float
-    radius c x y = root (radius_squared (across c x) (down c y))
+inverse_whole Nothing order count coef x y = none_whole
+inverse_whole Affine order count coef x y = affine_whole coef x y
+inverse_whole Perspective order count coef x y = perspective_whole coef x y
+inverse_whole Poly order count coef x y = polynomial_whole order coef x y
+inverse_whole BilinearForward order count coef x y = forward_whole coef x y
+inverse_whole Barrel order count coef x y = barrel_whole coef (down coef y) (across coef x) (radius coef x y)
+inverse_whole BarrelInverse order count coef x y =
+    barrel_inverse_whole coef (down coef y) (across coef x) (radius coef x y)
+inverse_whole Shepards order count coef x y = shepards_whole count coef x y

@@ -10,11 +10,14 @@ use Rattle.point.specs.declared.point.Point.{Point}
 use Rattle.point.specs.Point.{point, none}
 
 -- dx = (x - cx) / norm, dy = (y - cy) / norm
+abbrev pub from_centre : Float → Float → Float → Float
+from_centre at centre norm = (at ⊖ centre) ⊘ norm
+
 abbrev pub across : Vector → Float → Float
-across c x = (x ⊖ at c 4) ⊘ at c 6
+across c x = from_centre x (at c 4) (at c 6)
 
 abbrev pub down : Vector → Float → Float
-down c y = (y ⊖ at c 5) ⊘ at c 6
+down c y = from_centre y (at c 5) (at c 6)
 
 -- the squared radius
 abbrev pub radius_squared : Float → Float → Float
@@ -40,6 +43,11 @@ barrel_inverse_from c dy dx r =
     (scaled c dx dy (one ⊘ factor c r))
 
 -- ---- from the output point on
+
+-- the point that a rule gives from the offset and the radius
+abbrev pub ByRadius : (Float → Float → Float → Point → Type 0) → Vector → Float → Float → Point → Type 0
+ByRadius rule c x y p = rule (down c y) (across c x) (root (radius_squared (across c x) (down c y))) p
+
 abbrev pub barrel : Vector → Float → Float → Point
 barrel c x y = barrel_from c (down c y) (across c x) (root (radius_squared (across c x) (down c y)))
 

@@ -8,17 +8,11 @@ use number::root::root;
 use point::point::Point;
 use point::usable::{point, point_unless};
 
-// The offset from the centre, across and down.
-pub fn across(c: &[f64; 256], x: f64) -> f64
-    ensures { result ≡ Barrel.across c.now x }
+// The offset from the centre, across or down; the radius `norm` counts as 1.
+pub fn from_centre(at: f64, centre: f64, norm: f64) -> f64
+    ensures { result ≡ Barrel.from_centre at centre norm }
 {
-    (x - c[4]) / c[6]
-}
-
-pub fn down(c: &[f64; 256], y: f64) -> f64
-    ensures { result ≡ Barrel.down c.now y }
-{
-    (y - c[5]) / c[6]
+    (at - centre) / norm
 }
 
 // The squared radius.
@@ -35,6 +29,7 @@ fn factor(c: &[f64; 256], r: f64) -> f64
 }
 
 // The point of Barrel, from the offset and the radius.
+#[tactic(auto, unfolding(crate::specs::Barrel::barrel_from))]
 pub fn barrel_from(c: &[f64; 256], dy: f64, dx: f64, r: f64) -> Point
     ensures { result ≡ Barrel.barrel_from c.now dy dx r }
 {
@@ -43,6 +38,7 @@ pub fn barrel_from(c: &[f64; 256], dy: f64, dx: f64, r: f64) -> Point
 }
 
 // The point of BarrelInverse; none where the factor is too small.
+#[tactic(auto, unfolding(crate::specs::Barrel::barrel_inverse_from))]
 pub fn barrel_inverse_from(c: &[f64; 256], dy: f64, dx: f64, r: f64) -> Point
     ensures { result ≡ Barrel.barrel_inverse_from c.now dy dx r }
 {
@@ -55,18 +51,24 @@ pub fn barrel_inverse_from(c: &[f64; 256], dy: f64, dx: f64, r: f64) -> Point
     )
 }
 
+// The point from the offset and the radius of (x, y).
+fn by_radius<F: Fn(f64, f64, f64) -> Point>(c: &[f64; 256], x: f64, y: f64, from: F) -> Point
+    requires { F.IsAlwaysCallable from }
+    ensures { Barrel.ByRadius (F.post from) c.now x y result }
+{
+    let dx = from_centre(x, c[4], c[6]);
+    let dy = from_centre(y, c[5], c[6]);
+    from(dy, dx, root(radius_squared(dx, dy)))
+}
+
 pub fn barrel(c: &[f64; 256], x: f64, y: f64) -> Point
     ensures { result ≡ Barrel.barrel c.now x y }
 {
-    let dx = across(c, x);
-    let dy = down(c, y);
-    barrel_from(c, dy, dx, root(radius_squared(dx, dy)))
+    by_radius(c, x, y, |dy, dx, r| barrel_from(c, dy, dx, r))
 }
 
 pub fn barrel_inverse(c: &[f64; 256], x: f64, y: f64) -> Point
     ensures { result ≡ Barrel.barrel_inverse c.now x y }
 {
-    let dx = across(c, x);
-    let dy = down(c, y);
-    barrel_inverse_from(c, dy, dx, root(radius_squared(dx, dy)))
+    by_radius(c, x, y, |dy, dx, r| barrel_inverse_from(c, dy, dx, r))
 }

@@ -1,27 +1,14 @@
-// A mapping without its coefficients, and the offset of the output's window. Assumes nothing.
-ghost use Rattle.std.specs.Prelude.{◌≡◌};
-ghost use Rattle.inverse.specs.Frame.{frame_of};
+// A mapping in the output's window. Assumes nothing.
+ghost use Rattle.std.specs.Prelude.{◌≤◌, nat_abs};
+ghost use Rattle.exact.specs.Limits.{largest_offset};
 
 use mappings::mapping::Mapping;
 
+// The window starts at x, y, which lie within its limits.
 #[derive(Clone, Copy)]
-pub struct Frame {
-    pub kind: u64,
-    pub order: u64,
-    pub count: u64,
+pub struct Frame<'a> {
+    pub mapping: &'a Mapping,
     pub x: i64,
     pub y: i64,
-}
-
-// That of a mapping in a window at x, y.
-pub fn frame_of(mapping: Mapping, x: i64, y: i64) -> Frame
-    ensures { result ≡ frame_of mapping x y }
-{
-    Frame {
-        kind: mapping.kind,
-        order: mapping.order,
-        count: mapping.count,
-        x,
-        y,
-    }
+    pub ghost near: { (nat_abs x ≤ largest_offset) × (nat_abs y ≤ largest_offset) },
 }

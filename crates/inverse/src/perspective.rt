@@ -6,6 +6,7 @@ use number::magnitude::LEAST_DIVISOR;
 use point::point::Point;
 use point::usable::point_unless;
 
+#[tactic(auto, unfolding(crate::specs::Perspective::perspective))]
 pub fn perspective(m: &[f64; 256], x: f64, y: f64) -> Point
     ensures { result ≡ Perspective.perspective m.now x y }
 {

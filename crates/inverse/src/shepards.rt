@@ -8,7 +8,8 @@ use number::magnitude::LEAST_DIVISOR;
 use point::point::Point;
 use point::usable::point;
 
-// Over the first n pairs; one that lies at (x, y) is the answer.
+// Over the first n pairs; one that lies at (x, y) is the answer. A pair is four coefficients, which chunks of the array
+// would give by an index too.
 fn of_pairs(c: &[f64; 256], x: f64, y: f64, n: usize) -> Point
     requires { n ≤ most_pairs }
     ensures { result ≡ of_pairs c.now x y n }
@@ -39,11 +40,7 @@ const MOST_PAIRS: u64 = 64;
 fn pairs_kept(count: u64) -> usize
     ensures { result ≡ pairs_kept count }
 {
-    if count / 4 < MOST_PAIRS {
-        (count / 4) as usize
-    } else {
-        MOST_PAIRS as usize
-    }
+    (count / 4).min(MOST_PAIRS) as usize
 }
 
 pub fn shepards(count: u64, c: &[f64; 256], x: f64, y: f64) -> Point

@@ -1,4 +1,4 @@
-// The source point, by the mapping's kind. Assumes nothing.
+// The source point, by the mapping's kind; Nothing has none. Assumes nothing.
 ghost use Rattle.std.specs.Prelude.{◌≡◌};
 ghost use Rattle.inverse.specs.Inverse as Inverse;
 
@@ -8,35 +8,23 @@ use crate::forward::bilinear_forward;
 use crate::perspective::perspective;
 use crate::polynomial::polynomial;
 use crate::shepards::shepards;
-use mappings::mapping::{
-    AFFINE, BARREL, BARREL_INVERSE, BILINEAR_FORWARD, PERSPECTIVE, POLY, SHEPARDS,
-};
+use mappings::mapping::{Kind, Mapping};
 use point::point::Point;
 use point::usable::none;
 
-pub fn inverse(kind: u64, order: u64, count: u64, coef: &[f64; 256], x: f64, y: f64) -> Point
-    ensures { result ≡ Inverse.inverse kind order count coef.now x y }
+#[tactic(auto, unfolding(crate::specs::Inverse::inverse))]
+pub fn inverse(mapping: &Mapping, x: f64, y: f64) -> Point
+    ensures { result ≡ Inverse.inverse mapping.now.kind mapping.now.order mapping.now.count mapping.now.coef x y }
 {
-    if kind == AFFINE {
-        return affine(coef, x, y);
+    let coef = &mapping.coef;
+    match mapping.kind {
+        Kind::Nothing => none(),
+        Kind::Affine => affine(coef, x, y),
+        Kind::Perspective => perspective(coef, x, y),
+        Kind::Poly => polynomial(mapping.order, coef, x, y),
+        Kind::BilinearForward => bilinear_forward(coef, x, y),
+        Kind::Barrel => barrel(coef, x, y),
+        Kind::BarrelInverse => barrel_inverse(coef, x, y),
+        Kind::Shepards => shepards(mapping.count, coef, x, y),
     }
-    if kind == PERSPECTIVE {
-        return perspective(coef, x, y);
-    }
-    if kind == POLY {
-        return polynomial(order, coef, x, y);
-    }
-    if kind == BILINEAR_FORWARD {
-        return bilinear_forward(coef, x, y);
-    }
-    if kind == BARREL {
-        return barrel(coef, x, y);
-    }
-    if kind == BARREL_INVERSE {
-        return barrel_inverse(coef, x, y);
-    }
-    if kind == SHEPARDS {
-        return shepards(count, coef, x, y);
-    }
-    none()
 }

@@ -1,8 +1,8 @@
 -- The laws of elimination's definitions: a pivot is a row among the n, by the two cases of each test; and from what the
 -- code answers at a column to the definition's step. Assumes nothing.
-use mathlib.Core.Path.{◌≡◌, refl, sym, ap, ◌∙◌, subst}
+use mathlib.Core.Path.{◌≡◌, refl, sym, subst}
 use mathlib.Core.Bool.{Bool, true, false, cond}
-use mathlib.Core.Option.{some}
+use Rattle.std.specs.Prelude.{Some, None, ⊤}
 use Prim.Native.Nat.{ℕ, ◌+◌, ◌<◌}
 use native.Mathlib.Omega.{arith}
 use Rattle.exact.proofs.Loop.{up_to_keep}
@@ -28,16 +28,16 @@ pivot_row {n} a col e h = subst (λ (k : ℕ). k < n) (sym e) (pivot_below a col
 
 -- ---- from what the code answers to the definitions
 
-pub step_stopped : (n col : ℕ) (r : Bool) (s t : System) → r ≡ false → outcome r t ≡ column n col s
-    → outcome false t ≡ column_or n col (some s)
+module _ (n col : ℕ) (s t : System) where
+  -- a column that gives no equations, and each after it
+  pub step_stopped : outcome None t ≡ column n col s → None ≡ column_or n col (Some s)
+  unfolding outcome column_or
+  step_stopped e = e
+
+  pub step_done : {u : ⊤} → outcome (Some u) t ≡ column n col s → Some t ≡ column_or n col (Some s)
+  unfolding outcome column_or
+  step_done e = e
+
+pub stopped_stays : (n j : ℕ) → column_or n j None ≡ None
 unfolding column_or
-step_stopped n col r s t h e = ap (λ (b : Bool). outcome b t) (sym h) ∙ e
-
-pub stopped_stays : (n j : ℕ) (t : System) → column_or n j (outcome false t) ≡ outcome false t
-unfolding outcome column_or
-stopped_stays n j t = refl
-
-pub step_done : (n col : ℕ) (r : Bool) (s t : System) → r ≡ true → outcome r t ≡ column n col s
-    → some t ≡ column_or n col (some s)
-unfolding outcome column_or
-step_done n col r s t h e = ap (λ (b : Bool). outcome b t) (sym h) ∙ e
+stopped_stays n j = refl

@@ -1,13 +1,12 @@
--- How long the inversions' answers are, whichever case of the definition holds. Assumes nothing.
+-- How long the inversions' answers are, where there is one. Assumes nothing.
 use mathlib.Core.Path.{◌≡◌, refl}
 use mathlib.Core.Bool.{Bool, true, false, cond}
 use Prim.Native.Nat.{ℕ}
 use lib.ListN.{length}
 use lib.Ieee.{lt}
+use Rattle.std.specs.Prelude.{Option, Some, None, ⊤}
 use Rattle.exact.specs.Double.{least_divisor}
 use Rattle.number.specs.Magnitude.{abs}
-use Rattle.linear.specs.declared.invert.AffineInverse.{AffineInverse}
-use Rattle.linear.specs.declared.invert.Inverse.{Inverse}
 use Rattle.exact.specs.Vector.{Vector}
 use Rattle.linear.specs.Invert.{det2, invert_affine, det3, least_det3, invert3}
 
@@ -15,12 +14,19 @@ pub either : {A : Type 0} (size : A → ℕ) (n : ℕ) (b : Bool) (x y : A) → 
 either size n true x y e f = e
 either size n false x y e f = f
 
-pub affine_length : (m : Vector) → length (invert_affine m).m ≡ 6
-unfolding invert_affine
-affine_length m = either (λ (r : AffineInverse). length r.m) 6
-    (lt (abs (det2 m)) least_divisor) _ _ refl refl
+-- the length of the answer, if there is one
+abbrev pub Sized : ℕ → Option Vector → Type 0
+Sized n None = ⊤
+Sized n (Some x) = length x ≡ n
 
-pub inverse_length : (m : Vector) → length (invert3 m).m ≡ 9
+unless : (n : ℕ) (b : Bool) (x : Vector) → length x ≡ n → Sized n (cond b None (Some x))
+unless n true x e = tt
+unless n false x e = e
+
+pub affine_length : (m : Vector) → Sized 6 (invert_affine m)
+unfolding invert_affine
+affine_length m = unless 6 (lt (abs (det2 m)) least_divisor) _ refl
+
+pub inverse_length : (m : Vector) → Sized 9 (invert3 m)
 unfolding invert3
-inverse_length m = either (λ (r : Inverse). length r.m) 9
-    (lt (abs (det3 m)) least_det3) _ _ refl refl
+inverse_length m = unless 9 (lt (abs (det3 m)) least_det3) _ refl

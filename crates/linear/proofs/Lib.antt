@@ -2,4 +2,3 @@
 pub mod EliminateLaws
 pub mod InvertLaws
 pub mod NormalLaws
-pub mod SolveLaws

@@ -8,7 +8,7 @@ use native.Mathlib.Omega.{arith}
 use lib.Dec.{eqb}
 use lib.Ieee.{Float}
 use Rattle.exact.proofs.Loop.{up_to_none, up_to_next}
-use Rattle.linear.specs.declared.solve.Solution.{Solution}
+use Rattle.std.specs.Prelude.{Option}
 use Rattle.exact.specs.Vector.{Vector}
 use Rattle.linear.specs.Matrix.{System, zeros, zero_matrix}
 use Rattle.linear.specs.Solve.{solved}
@@ -29,7 +29,7 @@ module _ (row_of : ℕ → Vector) (y_of : ℕ → Float) (n : ℕ) where
       → s ≡ normal row_of y_of n rows
   normal_last j rows a b e = e ∙ ap (normal row_of y_of n) (le_antisymm a b)
 
-  pub normal_solved : (rows : ℕ) {s : System} {r : Solution} → s ≡ normal row_of y_of n rows → r ≡ solved n s
+  pub normal_solved : (rows : ℕ) {s : System} {r : Option Vector} → s ≡ normal row_of y_of n rows → r ≡ solved n s
       → r ≡ lstsq row_of y_of n rows
   unfolding lstsq
   normal_solved rows e h = h ∙ ap (solved n) e

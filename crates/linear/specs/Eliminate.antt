@@ -1,6 +1,5 @@
 -- The elimination of `solve`, with the largest pivot of each column. Specification 5.1. Assumes nothing.
-use Rattle.std.specs.Prelude.{ℕ, ◌+◌, Bool, true, false, cond, List, [], get_or, set, Float}
-use Rattle.std.proofs.Math.Option.{Option, none, some}
+use Rattle.std.specs.Prelude.{ℕ, ◌+◌, cond, List, [], get_or, set, Option, Some, None, ⊤, Float}
 use Rattle.std.specs.Float.{nan}
 use Rattle.std.specs.Float.Ieee.{lt}
 use Rattle.exact.specs.Double.{◌⊖◌, ◌⊗◌, ◌⊘◌, least_divisor}
@@ -48,17 +47,17 @@ clear_below n col s = up_to (clear_row n col) (col + 1) n s
 unfoldable pub column : ℕ → ℕ → System → Option System
 column n col s =
     cond (lt (abs (entry s.0 (pivot s.0 col n) col)) least_divisor)
-    none
-    (some (clear_below n col (swap col (pivot s.0 col n) s)))
+    None
+    (Some (clear_below n col (swap col (pivot s.0 col n) s)))
 
 unfoldable pub column_or : ℕ → ℕ → Option System → Option System
-column_or n col none = none
-column_or n col (some s) = column n col s
+column_or n col None = None
+column_or n col (Some s) = column n col s
 
 abbrev pub eliminated : ℕ → System → Option System
-eliminated n s = up_to (column_or n) 0 n (some s)
+eliminated n s = up_to (column_or n) 0 n (Some s)
 
 -- what the code answers, with the equations as it leaves them
-unfoldable pub outcome : Bool → System → Option System
-outcome true s = some s
-outcome false s = none
+unfoldable pub outcome : Option ⊤ → System → Option System
+outcome (Some _) s = Some s
+outcome None s = None

@@ -1,14 +1,11 @@
--- `invert_affine` and `invert3`: none, with zeros, where the determinant's magnitude is too small. One that is a NaN
--- passes. Specification 5.3. Assumes nothing.
-use Rattle.std.specs.Prelude.{true, false, cond, [], ◌∷◌, replicate, Float}
+-- `invert_affine` and `invert3`: none where the determinant's magnitude is too small. One that is a NaN passes.
+-- Specification 5.3. Assumes nothing.
+use Rattle.std.specs.Prelude.{cond, [], ◌∷◌, Option, Some, None, Float}
 use Rattle.std.specs.Float.{binary64}
 use Rattle.std.specs.Float.Ieee.{of_bits, lt, neg}
 use Rattle.exact.specs.Double.{◌⊕◌, ◌⊖◌, ◌⊗◌, ◌⊘◌, least_divisor, one}
 use Rattle.number.specs.Magnitude.{abs}
-use Rattle.linear.specs.declared.invert.AffineInverse.{AffineInverse}
-use Rattle.linear.specs.declared.invert.Inverse.{Inverse}
 use Rattle.exact.specs.Vector.{Vector, at}
-use Rattle.linear.specs.Matrix.{nought}
 
 -- ---- u = m0 x + m1 y + m2, v = m3 x + m4 y + m5
 
@@ -19,15 +16,11 @@ det2 m = at m 0 ⊗ at m 4 ⊖ at m 1 ⊗ at m 3
 abbrev pub affine_rows : Vector → Float → Float → Float → Float → Vector
 affine_rows m a b c d = a ∷ b ∷ neg (a ⊗ at m 2 ⊕ b ⊗ at m 5) ∷ c ∷ d ∷ neg (c ⊗ at m 2 ⊕ d ⊗ at m 5) ∷ []
 
-unfoldable pub invert_affine : Vector → AffineInverse
+unfoldable pub invert_affine : Vector → Option Vector
 invert_affine m =
     cond (lt (abs (det2 m)) least_divisor)
-    (record { found = false; m = replicate 6 nought })
-    (record {
-      found = true;
-      m = affine_rows m (at m 4 ⊘ det2 m) (neg (at m 1) ⊘ det2 m) (neg (at m 3) ⊘ det2 m)
-          (at m 0 ⊘ det2 m);
-    })
+    None
+    (Some (affine_rows m (at m 4 ⊘ det2 m) (neg (at m 1) ⊘ det2 m) (neg (at m 3) ⊘ det2 m) (at m 0 ⊘ det2 m)))
 
 -- ---- a homography
 
@@ -55,8 +48,5 @@ adjugate m i =
 abbrev pub least_det3 : Float
 least_det3 = of_bits binary64 0x3cd2_03af_9ee7_5616  -- 1e-15
 
-unfoldable pub invert3 : Vector → Inverse
-invert3 m =
-    cond (lt (abs (det3 m)) least_det3)
-    (record { found = false; m = replicate 9 nought })
-    (record { found = true; m = adjugate m (one ⊘ det3 m) })
+unfoldable pub invert3 : Vector → Option Vector
+invert3 m = cond (lt (abs (det3 m)) least_det3) None (Some (adjugate m (one ⊘ det3 m)))

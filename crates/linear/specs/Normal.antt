@@ -1,9 +1,8 @@
 -- Normal equations, row by row from zeros, and `lstsq`: their solution. A caller gives a row of numbers and a
 -- right-hand side for each number below `rows`. Specification 5.1. Assumes nothing.
-use Rattle.std.specs.Prelude.{ℕ, ◌/◌, ◌%◌, cond, eqb, set, Float}
+use Rattle.std.specs.Prelude.{ℕ, ◌/◌, ◌%◌, cond, eqb, set, Option, Float}
 use Rattle.exact.specs.Double.{◌⊕◌, ◌⊗◌}
 use Rattle.exact.specs.Loop.{up_to}
-use Rattle.linear.specs.declared.solve.Solution.{Solution}
 use Rattle.exact.specs.Vector.{Vector, at}
 use Rattle.linear.specs.Matrix.{Matrix, System, entry, put, zeros, zero_matrix}
 use Rattle.linear.specs.Solve.{solved}
@@ -29,7 +28,7 @@ unfoldable pub normal : (ℕ → Vector) → (ℕ → Float) → ℕ → ℕ →
 normal row_of y_of n rows = up_to (λ (j : ℕ). add_row (row_of j) (y_of j) n) 0 rows (zero_matrix, zeros)
 
 -- n unknowns from so many rows
-unfoldable pub lstsq : (ℕ → Vector) → (ℕ → Float) → ℕ → ℕ → Solution
+unfoldable pub lstsq : (ℕ → Vector) → (ℕ → Float) → ℕ → ℕ → Option Vector
 unfolding normal
 lstsq row_of y_of n rows = solved n (normal row_of y_of n rows)
 

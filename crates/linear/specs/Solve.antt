@@ -1,9 +1,7 @@
 -- `solve`: elimination, then substitution from the last row up. Specification 5.1. Assumes nothing.
-use Rattle.std.specs.Prelude.{ℕ, ◌+◌, true, false, set, Float}
-use Rattle.std.proofs.Math.Option.{Option, none, some}
+use Rattle.std.specs.Prelude.{ℕ, ◌+◌, set, Option, option_map, Float}
 use Rattle.exact.specs.Double.{◌⊕◌, ◌⊖◌, ◌⊗◌, ◌⊘◌}
 use Rattle.exact.specs.Loop.{up_to, down_to}
-use Rattle.linear.specs.declared.solve.Solution.{Solution}
 use Rattle.exact.specs.Vector.{Vector, at}
 use Rattle.linear.specs.Matrix.{Matrix, System, entry, nought, zeros}
 use Rattle.linear.specs.Eliminate.{eliminated}
@@ -22,12 +20,7 @@ substitute n s i x = set x i ((at s.1 i ⊖ known n s.0 x i) ⊘ entry s.0 i i)
 abbrev pub substituted : ℕ → System → Vector
 substituted n s = down_to (substitute n s) 0 n zeros
 
--- ---- the whole: n unknowns, zeros past them and where there is no solution
+-- ---- the whole: n unknowns, and zeros past them; none where there is no solution
 
-unfoldable pub solution_of : ℕ → Option System → Solution
-solution_of n none = record { found = false; x = zeros }
-solution_of n (some s) = record { found = true; x = substituted n s }
-
-unfoldable pub solved : ℕ → System → Solution
-unfolding solution_of
-solved n s = solution_of n (eliminated n s)
+unfoldable pub solved : ℕ → System → Option Vector
+solved n s = option_map (substituted n) (eliminated n s)

@@ -1,23 +1,13 @@
-// Inversions of the forward maps: of an affine one and of a homography (row-major 3 by 3). Assumes nothing.
+// Inversions of the forward maps: of an affine one and of a homography (row-major 3 by 3); none where there is no
+// inverse. Assumes nothing.
 ghost use Rattle.std.specs.Prelude.{◌≡◌};
 ghost use Rattle.linear.specs.Invert.{invert_affine};
 ghost use Rattle.linear.specs.Invert as Invert;
 
 use number::magnitude::{LEAST_DIVISOR, abs};
 
-#[derive(Drop)]
-pub struct AffineInverse {
-    pub found: bool,
-    pub m: [f64; 6],
-}
-
-#[derive(Drop)]
-pub struct Inverse {
-    pub found: bool,
-    pub m: [f64; 9],
-}
-
-pub fn invert_affine(m: [f64; 6]) -> AffineInverse
+#[tactic(auto, unfolding(crate::specs::Invert::invert_affine))]
+pub fn invert_affine(m: [f64; 6]) -> Option<[f64; 6]>
     ensures { result ≡ invert_affine m }
 {
     let p = m[0];
@@ -28,19 +18,13 @@ pub fn invert_affine(m: [f64; 6]) -> AffineInverse
     let u = m[5];
     let det = p * t - q * s;
     if abs(det) < LEAST_DIVISOR {
-        return AffineInverse {
-            found: false,
-            m: [0.0; 6],
-        };
+        return None;
     }
     let a = t / det;
     let b = -q / det;
     let c = -s / det;
     let d = p / det;
-    AffineInverse {
-        found: true,
-        m: [a, b, -(a * r + b * u), c, d, -(c * r + d * u)],
-    }
+    Some([a, b, -(a * r + b * u), c, d, -(c * r + d * u)])
 }
 
 // The adjugate over the determinant: each entry times 1 / det.
@@ -84,19 +68,13 @@ fn det3(m: &[f64; 9]) -> f64
     a * (e * j - f * h) - b * (d * j - f * g) + c * (d * h - e * g)
 }
 
-pub fn invert3(m: [f64; 9]) -> Inverse
+#[tactic(auto, unfolding(crate::specs::Invert::invert3))]
+pub fn invert3(m: [f64; 9]) -> Option<[f64; 9]>
     ensures { result ≡ Invert.invert3 m }
 {
     let det = det3(&m);
     if abs(det) < 1e-15 {
-        return Inverse {
-            found: false,
-            m: [0.0; 9],
-        };
+        return None;
     }
-    let inverse = adjugate(&m, 1.0 / det);
-    Inverse {
-        found: true,
-        m: inverse,
-    }
+    Some(adjugate(&m, 1.0 / det))
 }

@@ -4,6 +4,7 @@
 #![tactic(auto)]
 
 pub mod eliminate;
+pub mod equations;
 pub mod invert;
 pub mod normal;
 pub mod solve;

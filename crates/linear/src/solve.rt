@@ -1,53 +1,38 @@
-// Linear equations with up to 21 unknowns: elimination, then substitution. Assumes that n is at most 21.
-ghost use Rattle.std.specs.Prelude.{◌≡◌, ◌<◌, ◌≤◌};
+// The solution of linear equations: elimination, then substitution. Assumes nothing.
+ghost use Rattle.std.specs.Prelude.{◌≡◌, ◌<◌};
 ghost use Rattle.linear.specs.Solve.{known, substituted, solved};
 
-use crate::eliminate::eliminate;
+use crate::equations::Equations;
 
-#[derive(Drop)]
-pub struct Solution {
-    pub found: bool,
-    pub x: [f64; 21],
-}
-
-// The sum of row i's terms in the unknowns after the i-th.
-fn known_terms(a: &[[f64; 21]; 21], x: &[f64; 21], i: usize, n: usize) -> f64
-    requires { (i < n) × (n ≤ 21) }
-    ensures { result ≡ known n a.now x.now i }
-{
-    let mut sum = 0.0;
-    for k in i + 1..n {
-        sum = sum + a[i][k] * x[k];
+impl Equations {
+    // The sum of row i's terms in the unknowns after the i-th. By index: a row and the unknowns go in step.
+    fn known_terms(&self, x: &[f64; 21], i: usize) -> f64
+        requires { i < self.now.n }
+        ensures { result ≡ known self.now.n self.now.a x.now i }
+    {
+        let mut sum = 0.0;
+        for k in i + 1..self.n {
+            sum = sum + self.a[i][k] * x[k];
+        }
+        sum
     }
-    sum
-}
 
-// From the last row up.
-fn substitute(a: &[[f64; 21]; 21], b: &[f64; 21], n: usize) -> [f64; 21]
-    requires { n ≤ 21 }
-    ensures { result ≡ substituted n (a.now, b.now) }
-{
-    let mut x = [0.0; 21];
-    let mut i = n;
-    while i > 0 {
-        i = i - 1;
-        x[i] = (b[i] - known_terms(a, &x, i, n)) / a[i][i];
+    // From the last row up.
+    fn substitute(&self) -> [f64; 21]
+        ensures { result ≡ substituted self.now.n (self.now.a, self.now.b) }
+    {
+        let mut x = [0.0; 21];
+        for i in (0..self.n).rev() {
+            x[i] = (self.b[i] - self.known_terms(&x, i)) / self.a[i][i];
+        }
+        x
     }
-    x
-}
 
-pub fn solve(m: [[f64; 21]; 21], y: [f64; 21], n: usize) -> Solution
-    requires { n ≤ 21 }
-    ensures { result ≡ solved n (m, y) }
-{
-    let mut a = m;
-    let mut b = y;
-    if !eliminate(&mut a, &mut b, n) {
-        return Solution {
-            found: false,
-            x: [0.0; 21],
-        };
+    // The unknowns, and zeros after them; none where there is no solution.
+    pub fn solve(mut self) -> Option<[f64; 21]>
+        ensures { result ≡ solved self.n (self.a, self.b) }
+    {
+        self.eliminate()?;
+        Some(self.substitute())
     }
-    let x = substitute(&a, &b, n);
-    Solution { found: true, x }
 }

@@ -1,9 +1,10 @@
 -- The other way for a text: whatever the bytes, the reader's state says what they were, or there is a fault of form for
 -- good. One byte keeps that: it goes to the word, or ends one. Assumes nothing.
 use mathlib.Core.Path.{◌≡◌, refl, sym, subst, ◌∙◌}
-use mathlib.Core.Logic.{inl, inr}
+use mathlib.Core.Logic.{◌⊎◌, inl, inr}
 use mathlib.Core.Bool.{Bool, true, false, cond}
 use mathlib.Core.List.{List, [], ◌∷◌, ◌++◌, append_assoc, append-nil}
+use Rattle.std.specs.Prelude.{Option, Some, None}
 use Prim.Native.Nat.{ℕ, ◌+◌, ◌≤◌, ◌<◌}
 use native.Mathlib.Omega.{arith}
 use borrow.Author.Tests.{eq-eqb, ne_eqb, lt-ltb, le-ltb}
@@ -42,6 +43,7 @@ use Rattle.listing.specs.Text.{
   letter,
   text,
 }
+use Rattle.listing.proofs.NamesLaws.{named}
 use Rattle.listing.proofs.OrderLaws.{names_of}
 use Rattle.listing.proofs.PairLaws.{between}
 use Rattle.listing.proofs.WordForm.{WordText, empty, minus, name, number, wrong, same_or_not, grow}
@@ -82,9 +84,9 @@ in_word _ _ b (form names w column lines large t u h s) =
 -- ---- the end of a word: what it was, before the column or the line is counted
 data Taken : Reader → List ℕ → Type 0 where
   gone : (names : Names) (column lines : ℕ) (large : Bool) (t : List ℕ) → Taken (faulty names column lines large) t
-  a_name : (ks : List ℕ) → Free no_names 0 ks → (k : ℕ) → k < 4 → column_of (placed_all no_names 0 ks) k ≡ 4
+  a_name : (ks : List ℕ) → Free no_names 0 ks → (k : ℕ) → k < 4 → column_of (placed_all no_names 0 ks) (named k) ≡ None
       → (large : Bool)
-      → Taken (between (with_name (placed_all no_names 0 ks) k (length ks)) (length ks) 0 large)
+      → Taken (between (with_name (placed_all no_names 0 ks) (named k) (length ks)) (length ks) 0 large)
       (name_cells ks ++ letter k ∷ [])
   a_number : (o : Order) → T (is_order o) → (ps : List NumeralPair) → AllProper ps → length ps ≤ 64 → (ns : List Numeral)
       → AllCells ns → (n : Numeral) → AllDigits (digits n) → (large : Bool)
@@ -92,13 +94,17 @@ data Taken : Reader → List ℕ → Type 0 where
   one_of_many : (names : Names) (column lines : ℕ) (large : Bool) (t : List ℕ) → 65 < lines
       → Taken (between names column lines large) t
 
+none_or_some : (o : Option ℕ) → (o ≡ None) ⊎ ((k : ℕ) × (o ≡ Some k))
+none_or_some None = inl refl
+none_or_some (Some k) = inr (k, refl)
+
 name_taken : (names : Names) (column lines : ℕ) (large : Bool) (t : List ℕ) (k : ℕ) → k < 4 → Seen names column lines t
-    → Taken (take_name (record { names = names; word = Name k; column = column; lines = lines; large = large }) k) (t
+    → Taken (take_name (record { names = names; word = Name (named k); column = column; lines = lines; large = large }) (named k)) (t
     ++ letter k ∷ [])
 unfolding take_name
-name_taken _ _ _ large _ k l (in_names ks f) = elim (same_or_not (column_of (placed_all no_names 0 ks) k) 4) [
-  | inl e ↦ rw (eq-eqb (column_of (placed_all no_names 0 ks) k) 4 e) (a_name ks f k l e large)
-  | inr n ↦ rw (ne_eqb (column_of (placed_all no_names 0 ks) k) 4 n) (gone _ _ _ _ _)
+name_taken _ _ _ large _ k l (in_names ks f) = elim (none_or_some (column_of (placed_all no_names 0 ks) (named k))) [
+  | inl e ↦ rw e (a_name ks f k l e large)
+  | inr n ↦ rw n.1 (gone _ _ _ _ _)
 ]
 name_taken _ _ _ large _ k l (in_pairs o is ps proper room ns h) =
     rw (ne_eqb (1 + length ps) 0 (λ e. omega arith)) (gone _ _ _ _ _)

@@ -4,6 +4,7 @@ use mathlib.Core.Path.{◌≡◌, refl, sym, ap, subst, ◌∙◌}
 use mathlib.Core.Logic.{inl, inr}
 use mathlib.Core.Bool.{Bool, true, false, cond}
 use mathlib.Core.List.{List, [], ◌∷◌, ◌++◌, append_assoc, append-nil}
+use Rattle.std.specs.Prelude.{None}
 use Prim.Native.Nat.{ℕ, ◌+◌, ◌≤◌, ◌<◌}
 use native.Mathlib.Omega.{arith}
 use borrow.Author.Tests.{lt-ltb}
@@ -29,6 +30,7 @@ use Rattle.listing.specs.Text.{
   order_text,
   text,
 }
+use Rattle.listing.proofs.NamesLaws.{named}
 use Rattle.listing.proofs.OrderLaws.{names_of}
 use Rattle.listing.proofs.OrderTests.{free_order}
 
@@ -36,30 +38,30 @@ use Rattle.listing.proofs.OrderTests.{free_order}
 
 unfoldable pub placed_all : Names → ℕ → List ℕ → Names
 placed_all names column [] = names
-placed_all names column (k ∷ ks) = placed_all (with_name names k column) (column + 1) ks
+placed_all names column (k ∷ ks) = placed_all (with_name names (named k) column) (column + 1) ks
 
 unfoldable pub Free : Names → ℕ → List ℕ → Type 0
 Free names column [] = Unit {0}
-Free names column (k ∷ ks) = (k < 4) × ((column_of names k ≡ 4) × Free (with_name names k column) (column + 1) ks)
+Free names column (k ∷ ks) = (k < 4) × ((column_of names (named k) ≡ None) × Free (with_name names (named k) column) (column + 1) ks)
 
 unfoldable pub name_cells : List ℕ → List ℕ
 name_cells [] = []
 name_cells (k ∷ ks) = letter k ∷ (32 ∷ name_cells ks)
 
 placed_more : (names : Names) (column : ℕ) (ks : List ℕ) (k : ℕ)
-    → with_name (placed_all names column ks) k (column + length ks) ≡ placed_all names column (ks ++ k ∷ [])
+    → with_name (placed_all names column ks) (named k) (column + length ks) ≡ placed_all names column (ks ++ k ∷ [])
 unfolding placed_all
-placed_more names column [] k = ap (with_name names k) (omega arith)
-placed_more names column (j ∷ ks) k = ap (with_name (placed_all (with_name names j column) (column + 1) ks) k)
+placed_more names column [] k = ap (with_name names (named k)) (omega arith)
+placed_more names column (j ∷ ks) k = ap (with_name (placed_all (with_name names (named j) column) (column + 1) ks) (named k))
     (omega arith)
-    ∙ placed_more (with_name names j column) (column + 1) ks k
+    ∙ placed_more (with_name names (named j) column) (column + 1) ks k
 
 free_more : (names : Names) (column : ℕ) (ks : List ℕ) (k : ℕ) → Free names column ks → k < 4
-    → column_of (placed_all names column ks) k ≡ 4 → Free names column (ks ++ k ∷ [])
+    → column_of (placed_all names column ks) (named k) ≡ None → Free names column (ks ++ k ∷ [])
 unfolding Free placed_all
 free_more names column [] k f l e = (l, (e, tt))
 free_more names column (j ∷ ks) k f l e =
-    (f.0, (f.1.0, free_more (with_name names j column) (column + 1) ks k f.1.1 l e))
+    (f.0, (f.1.0, free_more (with_name names (named j) column) (column + 1) ks k f.1.1 l e))
 
 cells_more : (ks : List ℕ) (k : ℕ) → name_cells ks ++ letter k ∷ (32 ∷ []) ≡ name_cells (ks ++ k ∷ [])
 unfolding name_cells
@@ -122,17 +124,17 @@ one_longer : {A : Type 0} (xs : List A) (x : A) → length (xs ++ x ∷ []) ≡ 
 one_longer xs x = length-append xs (x ∷ [])
 
 -- a name is taken, and a space or the line feed follows
-pub names_space : (ks : List ℕ) (k : ℕ) → Free no_names 0 ks → k < 4 → column_of (placed_all no_names 0 ks) k ≡ 4
-    → Seen (with_name (placed_all no_names 0 ks) k (length ks)) (length ks + 1) 0 (name_cells ks ++ letter k ∷ (32 ∷ []))
+pub names_space : (ks : List ℕ) (k : ℕ) → Free no_names 0 ks → k < 4 → column_of (placed_all no_names 0 ks) (named k) ≡ None
+    → Seen (with_name (placed_all no_names 0 ks) (named k) (length ks)) (length ks + 1) 0 (name_cells ks ++ letter k ∷ (32 ∷ []))
 names_space ks k f l e =
-    seen_same (sym (placed_more no_names 0 ks k) ∙ ap (with_name (placed_all no_names 0 ks) k) (omega arith))
+    seen_same (sym (placed_more no_names 0 ks k) ∙ ap (with_name (placed_all no_names 0 ks) (named k)) (omega arith))
     (one_longer ks k)
     (sym (cells_more ks k))
     (in_names (ks ++ k ∷ []) (free_more no_names 0 ks k f l e))
 
-pub names_end : (ks : List ℕ) (k : ℕ) → Free no_names 0 ks → k < 4 → column_of (placed_all no_names 0 ks) k ≡ 4
+pub names_end : (ks : List ℕ) (k : ℕ) → Free no_names 0 ks → k < 4 → column_of (placed_all no_names 0 ks) (named k) ≡ None
     → length ks ≡ 3
-    → Seen (with_name (placed_all no_names 0 ks) k (length ks)) 0 1 (name_cells ks ++ letter k ∷ (10 ∷ []))
+    → Seen (with_name (placed_all no_names 0 ks) (named k) (length ks)) 0 1 (name_cells ks ++ letter k ∷ (10 ∷ []))
 unfolding placed_all Free name_cells number_cells text order_text pairs_text
 names_end [] k f l e h = absurd (omega (arith, h))
 names_end (a ∷ []) k f l e h = absurd (omega (arith, h))

@@ -4,6 +4,7 @@ use mathlib.Core.Path.{◌≡◌, refl, ap, ◌∙◌}
 use mathlib.Core.Logic.{inl, inr}
 use mathlib.Core.Bool.{Bool, true, false}
 use mathlib.Core.List.{List, [], ◌∷◌}
+use Rattle.std.specs.Prelude.{None}
 use Prim.Native.Nat.{ℕ, ◌+◌, ◌-◌, ◌*◌, ◌≤◌, ◌<◌}
 use native.Mathlib.Omega.{arith}
 use borrow.Author.Tests.{ne_eqb, lt-ltb, le-ltb}
@@ -69,7 +70,7 @@ digit_next negative size d h =
     let e : 48 + d - 48 ≡ d = omega arith in
     rw (le-ltb (48 + d) 48 (omega arith), le-ltb 57 (48 + d) (omega arith), e)
 
-not_name : (d : ℕ) → d < 10 → name_of (48 + d) ≡ 4
+not_name : (d : ℕ) → d < 10 → name_of (48 + d) ≡ None
 unfolding name_of
 not_name d h =
     rw (

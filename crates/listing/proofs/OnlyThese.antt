@@ -8,8 +8,9 @@ use native.Mathlib.Omega.{arith}
 use borrow.Author.Tests.{ltb-false, eqb-true, not-false}
 use lib.Dec.{eqb, ltb}
 use Rattle.listing.specs.declared.reader.Reader.{Reader}
-use Rattle.listing.specs.declared.reader.Outcome.{Outcome}
-use Rattle.listing.specs.declared.reader.Outcome.TheVariants.{Refused}
+use Rattle.std.specs.Prelude.{Result, Err}
+use Rattle.refusals.specs.declared.Refusal.{Refusal}
+use Rattle.refusals.specs.declared.Refusal.TheVariants as Refused
 use Rattle.listing.specs.declared.names.Names.{Names}
 use Rattle.listing.specs.Reader.{start_reader, fed, is_empty, bad_form, finish}
 use Rattle.listing.specs.Text.{text, Described}
@@ -73,10 +74,10 @@ described input bytes e = good _ input e (all_form input bytes)
 
 -- every other text
 pub others_refused : (input bytes : List ℕ) → (Described input → ⊥)
-    → finish (fed (start_reader, bytes) input).0 ≡ Refused 4
+    → finish (fed (start_reader, bytes) input).0 ≡ Err Refused.Count
 unfolding finish
 others_refused input bytes n = go (bad_form (fed (start_reader, bytes) input).0) (λ e. n (described input bytes e)) _
   where
-    go : (bad : Bool) → (bad ≡ false → ⊥) → (o : Outcome) → cond bad (Refused 4) o ≡ Refused 4
+    go : (bad : Bool) → (bad ≡ false → ⊥) → (o : Result ℕ Refusal) → cond bad (Err Refused.Count) o ≡ Err Refused.Count
     go true k o = refl
     go false k o = absurd (k refl)

@@ -7,19 +7,41 @@ use native.Mathlib.Nat.{add_assoc, add-zero}
 use native.Mathlib.Numerals.{add-one}
 use native.Mathlib.Omega.{arith}
 use lib.ListN.{length, get_or, set, drop, length-set, length-append, drop_of_length-le}
-use lib.Seq.{drop-cons}
+use borrow.Rule.Slice.PartMut.{put_mid}
+use Rattle.std.proofs.lemmas.List.Edits.{paste_none, paste_more}
+use Rattle.std.proofs.lemmas.Slice.{put_mid-paste}
+use lib.Seq.{drop-cons, paste}
 use lib.Ieee.{Float, nan, binary64, to_bits}
 use Rattle.listing.specs.Print.{put_text, hex_digit, hex_text, line_text, lines_text, listing_text, refused_text}
 
 -- ---- a text, byte by byte
-pub store_next_law : (s : List ℕ) (at : ℕ) (text : List ℕ) (k : ℕ) → k < length text
+store_next_law : (s : List ℕ) (at : ℕ) (text : List ℕ) (k : ℕ) → k < length text
     → put_text s (at + k) (drop k text) ≡ put_text (set s (at + k) (get_or text k 0)) (at + (k + 1)) (drop (k + 1) text)
 unfolding put_text
 store_next_law s at text k h = rw (← add_assoc at k 1, add-one k, drop-cons text k 0 h)
 
-pub store_end : (s : List ℕ) (at : ℕ) (text : List ℕ) (k : ℕ) → length text ≤ k → put_text s at (drop k text) ≡ s
+store_end : (s : List ℕ) (at : ℕ) (text : List ℕ) (k : ℕ) → length text ≤ k → put_text s at (drop k text) ≡ s
 unfolding put_text
 store_end s at text k h = rw (drop_of_length-le text h)
+
+-- a whole text that is copied
+module _ (s : List ℕ) (at : ℕ) (text : List ℕ) (room : at + length text ≤ length s) where
+  pasted : (k : ℕ) → k ≤ length text → put_text (paste s at text k) (at + k) (drop k text) ≡ put_text s at text
+  pasted zero h = rw (← paste_none s at text, add-zero at)
+  pasted (suc k) h =
+      let more : set (paste s at text k) (at + k) (get_or text k 0) ≡ paste s at text (k + 1) =
+      paste_more s at text k 0 (omega arith) (omega arith) in
+      rw (← add-one k)
+      (ap (λ (t : List ℕ). put_text t (at + (k + 1)) (drop (k + 1) text)) (sym more)
+      ∙ sym (store_next_law (paste s at text k) at text k (omega arith))
+      ∙ pasted k (omega arith))
+
+  pub copied : (n : ℕ) (here : List ℕ) → n ≡ length text → here ≡ text → put_mid at n s here ≡ put_text s at text
+  copied n here e g =
+      put_mid-paste at n s here text n g refl e
+      ∙ ap (paste s at text) e
+      ∙ sym (store_end (paste s at text (length text)) (at + length text) text (length text) (omega arith))
+      ∙ pasted (length text) (omega arith)
 
 pub store_append : (s : List ℕ) (at : ℕ) (a b : List ℕ)
     → put_text s at (a ++ b) ≡ put_text (put_text s at a) (at + length a) b

@@ -13,7 +13,8 @@ use lib.ListN.{length, length-append}
 use lib.Ieee.{Float}
 use lib.Ieee.Fits.{and_l, and_r}
 use Rattle.endian.specs.Bytes.{f64_at, argument_at}
-use Rattle.listing.specs.declared.reader.Outcome.TheVariants.{Arguments, Refused}
+use Rattle.std.specs.Prelude.{Ok, Err}
+use Rattle.refusals.specs.declared.Refusal.TheVariants as Refused
 use Rattle.listing.specs.declared.names.Names.{Names}
 use Rattle.listing.specs.Word.{largest_number, pixels}
 use Rattle.listing.specs.Names.{slot_of}
@@ -61,19 +62,19 @@ module _ (o : Order) (h : T (is_order o)) (ps : List NumeralPair) (proper : AllP
   lines : 1 + length ps - 1 ≡ length ps
   lines = omega arith
 
-  finished : finish ended.0 ≡ cond (large_all false ps) (Refused 5) (Arguments (32 * length ps))
+  finished : finish ended.0 ≡ cond (large_all false ps) (Err Refused.Number) (Ok (32 * length ps))
   unfolding finish bad_form is_empty
   finished = rw (ended_is, le-ltb (1 + length ps) 2 (omega arith), le-ltb 65 (1 + length ps) (omega arith), lines)
 
   -- all within the limit
-  pub accepted : AllWithin ps → finish ended.0 ≡ Arguments (32 * length ps)
+  pub accepted : AllWithin ps → finish ended.0 ≡ Ok (32 * length ps)
   accepted w = finished ∙ rw (all_small false ps proper w)
 
   -- one of them beyond it
-  pub refused : (AllWithin ps → ⊥) → finish ended.0 ≡ Refused 5
+  pub refused : (AllWithin ps → ⊥) → finish ended.0 ≡ Err Refused.Number
   refused n = finished ∙ beyond (large_all false ps) (λ e. n (all_within false ps proper e).1)
     where
-      beyond : (large : Bool) → (large ≡ false → ⊥) → cond large (Refused 5) (Arguments (32 * length ps)) ≡ Refused 5
+      beyond : (large : Bool) → (large ≡ false → ⊥) → cond large (Err Refused.Number) (Ok (32 * length ps)) ≡ Err Refused.Number
       beyond true k = refl
       beyond false k = absurd (k refl)
 

@@ -6,18 +6,19 @@ use mathlib.Core.Bool.{Bool, true, false, cond}
 use mathlib.Core.List.{List, [], ◌∷◌, ◌++◌}
 use Prim.Native.Nat.{ℕ, ◌+◌, ◌-◌, ◌<◌}
 use native.Mathlib.Omega.{arith}
-use borrow.Author.Tests.{ne_eqb, lt-ltb, le-ltb, eqb-true, eqb-false}
-use lib.Dec.{eqb, ltb}
+use borrow.Author.Tests.{eq-eqb, ne_eqb, lt-ltb, le-ltb, eqb-true, eqb-false}
+use lib.Dec.{eqb, lit<}
 use Rattle.exact.proofs.Naturals.{lt_or_le}
 use Rattle.listing.specs.declared.word.Word.{Word}
 use Rattle.listing.specs.declared.word.Word.TheVariants.{Empty, Minus, Name, Number, Wrong}
-use Rattle.listing.specs.Word.{name_of, with_digit, digit, first_byte, next}
+use Rattle.listing.specs.Word.{name_of, with_digit, digit, first_byte, next, named_or}
 use Rattle.listing.specs.Text.{Numeral, digits, AllDigits, digits_text, numeral_text, letter}
+use Rattle.listing.proofs.NamesLaws.{named}
 
 pub data WordText : Word → List ℕ → Type 0 where
   empty : WordText Empty []
   minus : WordText Minus (45 ∷ [])
-  name : (k : ℕ) → k < 4 → WordText (Name k) (letter k ∷ [])
+  name : (k : ℕ) → k < 4 → WordText (Name (named k)) (letter k ∷ [])
   number : (n : Numeral) (size : ℕ) → AllDigits (digits n) → WordText (Number n.negative size) (numeral_text n)
   wrong : (t : List ℕ) → WordText Wrong t
 
@@ -40,33 +41,31 @@ digit_form negative size b t k = elim (lt_or_le b 48) [
   ]
 ]
 
--- a byte with a name is that name's letter
-letter_name : (b : ℕ) → name_of b < 4 → letter (name_of b) ≡ b
-unfolding name_of letter
-letter_name b = go (eqb b 117) (eqb b 118) (eqb b 120) (eqb b 121) (eqb-true b 117) (eqb-true b 118) (eqb-true b 120)
-    (eqb-true b 121)
-  where
-    go : (u v x y : Bool) → (u ≡ true → b ≡ 117) → (v ≡ true → b ≡ 118) → (x ≡ true → b ≡ 120) → (y ≡ true → b ≡ 121)
-        → cond u 0 (cond v 1 (cond x 2 (cond y 3 4))) < 4 → letter (cond u 0 (cond v 1 (cond x 2 (cond y 3 4)))) ≡ b
-    go true v x y p q r s l = sym (p refl)
-    go false true x y p q r s l = sym (q refl)
-    go false false true y p q r s l = sym (r refl)
-    go false false false true p q r s l = sym (s refl)
-    go false false false false p q r s l = absurd (omega (arith, l))
+-- the first byte of a word
+named_form : (b : ℕ) → WordText (named_or (name_of b) (digit false 0 b)) (b ∷ [])
+unfolding name_of letter numeral_text
+named_form b = elim (same_or_not b 117) [
+  | inl e ↦ rw (eq-eqb b 117 e, e) (name 0 (lit< tt))
+  | inr u ↦ elim (same_or_not b 118) [
+    | inl e ↦ rw (ne_eqb b 117 u, eq-eqb b 118 e, e) (name 1 (lit< tt))
+    | inr v ↦ elim (same_or_not b 120) [
+      | inl e ↦ rw (ne_eqb b 117 u, ne_eqb b 118 v, eq-eqb b 120 e, e) (name 2 (lit< tt))
+      | inr x ↦ elim (same_or_not b 121) [
+        | inl e ↦ rw (ne_eqb b 117 u, ne_eqb b 118 v, ne_eqb b 120 x, eq-eqb b 121 e, e) (name 3 (lit< tt))
+        | inr y ↦ rw (ne_eqb b 117 u, ne_eqb b 118 v, ne_eqb b 120 x, ne_eqb b 121 y)
+            (digit_form false 0 b (b ∷ []) (λ d size l e. subst (λ (c : ℕ). WordText (Number false size) (c ∷ [])) (sym e)
+            (number (record { negative = false; first = d; rest = [] }) size (l, tt))))
+      ]
+    ]
+  ]
+]
 
 first_form : (b : ℕ) → WordText (first_byte b) (b ∷ [])
-unfolding first_byte numeral_text
+unfolding first_byte
 first_form b = elim (same_or_not b 45) [
-  | inl e ↦ subst (λ (c : ℕ).
-      WordText (cond (eqb c 45) Minus (cond (ltb (name_of c) 4) (Name (name_of c)) (digit false 0 c))) (c ∷ [])) (sym e)
+  | inl e ↦ subst (λ (c : ℕ). WordText (cond (eqb c 45) Minus (named_or (name_of c) (digit false 0 c))) (c ∷ [])) (sym e)
       minus
-  | inr n ↦ elim (lt_or_le (name_of b) 4) [
-    | inl l ↦ rw (ne_eqb b 45 n, lt-ltb (name_of b) 4 l)
-        (subst (λ (c : ℕ). WordText (Name (name_of b)) (c ∷ [])) (letter_name b l) (name (name_of b) l))
-    | inr g ↦ rw (ne_eqb b 45 n, le-ltb (name_of b) 4 g)
-        (digit_form false 0 b (b ∷ []) (λ d size l e. subst (λ (c : ℕ). WordText (Number false size) (c ∷ [])) (sym e)
-        (number (record { negative = false; first = d; rest = [] }) size (l, tt))))
-  ]
+  | inr n ↦ rw (ne_eqb b 45 n) (named_form b)
 ]
 
 -- one digit more
@@ -101,6 +100,6 @@ grow Minus _ b minus =
     digit_form true 0 b (45 ∷ (b ∷ []))
     (λ d size l e. subst (λ (c : ℕ). WordText (Number true size) (45 ∷ (c ∷ []))) (sym e)
     (number (record { negative = true; first = d; rest = [] }) size (l, tt)))
-grow (Name k) _ b (name _ l) = wrong _
+grow (Name _) _ b (name _ l) = wrong _
 grow (Number _ size) _ b (number n _ h) = number_form n size b h
 grow Wrong t b (wrong _) = wrong _

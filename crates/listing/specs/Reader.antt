@@ -1,14 +1,15 @@
 -- The text, a byte at a time: a line of names, then a pair a line, four words to a line parted by one space (32) each
 -- and ended by a line feed (10). A state is the reader's record and the bytes of the arguments, f64 by f64 in the order
 -- u, v, x, y for each pair. There is no longest text. Specification 12.1. Assumes nothing.
-use Rattle.std.specs.Prelude.{ℕ, ◌+◌, ◌-◌, ◌*◌, Bool, true, false, not, ◌||◌, cond, List, [], ◌∷◌, eqb, ltb, Float}
+use Rattle.std.specs.Prelude.{ℕ, ◌+◌, ◌-◌, ◌*◌, Bool, true, false, not, ◌||◌, cond, List, [], ◌∷◌, eqb, ltb, Float, Option, Some, None, Result, Ok, Err}
 use Rattle.exact.specs.Limits.{most_pairs}
 use Rattle.endian.specs.Bytes.{store_f64}
 use Rattle.listing.specs.declared.word.Word.{Word}
 use Rattle.listing.specs.declared.word.Word.TheVariants.{Empty, Minus, Name, Number, Wrong}
 use Rattle.listing.specs.declared.reader.Reader.{Reader}
-use Rattle.listing.specs.declared.reader.Outcome.{Outcome}
-use Rattle.listing.specs.declared.reader.Outcome.TheVariants.{Arguments, Refused}
+use Rattle.listing.specs.declared.names.Coordinate.{Coordinate}
+use Rattle.refusals.specs.declared.Refusal.{Refusal}
+use Rattle.refusals.specs.declared.Refusal.TheVariants as Refused
 use Rattle.listing.specs.Word.{largest_number, next, pixels}
 use Rattle.listing.specs.Names.{no_names, column_of, with_name, slot_of}
 
@@ -27,13 +28,18 @@ fault s = with_word s Wrong
 
 -- ---- the end of a word
 
+-- the one where there is no column yet, else the other
+abbrev pub once : Option ℕ → Reader → Reader → Reader
+once None s t = s
+once (Some k) s t = t
+
 -- a name is taken on the first line, once
-unfoldable pub take_name : Reader → ℕ → Reader
-take_name s k =
+unfoldable pub take_name : Reader → Coordinate → Reader
+take_name s c =
     cond (eqb s.lines 0)
-    (cond (eqb (column_of s.names k) 4)
+    (once (column_of s.names c)
     (record {
-      names = with_name s.names k s.column;
+      names = with_name s.names c s.column;
       word = Empty;
       column = s.column;
       lines = s.lines;
@@ -65,7 +71,7 @@ take_number s negative size bytes =
 unfoldable pub taken : Word → Reader → List ℕ → ReaderState
 taken Empty s bytes = (fault s, bytes)
 taken Minus s bytes = (fault s, bytes)
-taken (Name k) s bytes = (take_name s k, bytes)
+taken (Name c) s bytes = (take_name s c, bytes)
 taken (Number negative size) s bytes = take_number s negative size bytes
 taken Wrong s bytes = (s, bytes)
 
@@ -112,7 +118,7 @@ fed s (b ∷ bytes) = fed (read_byte s b) bytes
 unfoldable pub is_empty : Word → Bool
 is_empty Empty = true
 is_empty Minus = false
-is_empty (Name k) = false
+is_empty (Name c) = false
 is_empty (Number negative size) = false
 is_empty Wrong = false
 
@@ -120,5 +126,5 @@ unfoldable pub bad_form : Reader → Bool
 bad_form s = not (is_empty s.word) || not (eqb s.column 0) || ltb s.lines 2 || ltb 65 s.lines
 
 -- the refusals of specification 2: 4 for the form, 5 for a number; else how many bytes of arguments there are
-unfoldable pub finish : Reader → Outcome
-finish s = cond (bad_form s) (Refused 4) (cond s.large (Refused 5) (Arguments (32 * (s.lines - 1))))
+unfoldable pub finish : Reader → Result ℕ Refusal
+finish s = cond (bad_form s) (Err Refused.Count) (cond s.large (Err Refused.Number) (Ok (32 * (s.lines - 1))))

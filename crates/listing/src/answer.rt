@@ -1,38 +1,22 @@
 // From the end of the text to what is printed: a refusal, or the listing of the `Affine` that is fitted to the pairs.
 // For every state of the reader.
-ghost use Rattle.std.specs.Prelude.{◌≡◌, ◌≤◌, length};
+ghost use Rattle.std.specs.Prelude.{◌≡◌, length};
 ghost use Rattle.listing.specs.Print.{put_text};
-ghost use Rattle.listing.specs.Answer.{fit_text, answer_text};
+ghost use Rattle.listing.specs.Answer.{text_by, answer_text};
 
-use crate::reader::{Outcome, Reader};
+use crate::reader::Reader;
 use crate::{print, text};
 use arguments::method::Affine;
+use fit::build::build;
+use mappings::mapping::Mapping;
+use refusals::Refusal;
 
-// The fit of method 0, whatever the picture's size.
-fn fit_pairs(arguments: &[u8], out: &mut [u8; 124]) -> usize
-    ensures { (result ≡ length (fit_text arguments.now))
-        × (out.new ≡ put_text out.old 0 (fit_text arguments.now)) }
+// The fit of method 0 to the pairs of a whole text, whatever the picture's size.
+fn fitted(s: Reader, arguments: &[u8; 2048]) -> Result<Mapping, Refusal>
+    ensures { text_by result ≡ answer_text s arguments.now }
 {
-    let f = fit::build::build(Affine::CODE, arguments, 1, 1);
-    let refusal = f.refusal;
-    if refusal != 0 {
-        return print::refused(out, refusal);
-    }
-    let m = f.mapping;
-    let coef = m.coef;
-    print::listing(out, &coef)
-}
-
-fn answer_from(s: Reader, arguments: &[u8], out: &mut [u8; 124]) -> usize
-    requires { 2048 ≤ length arguments.now }
-    ensures { (result ≡ length (answer_text s arguments.now))
-        × (out.new ≡ put_text out.old 0 (answer_text s arguments.now)) }
-{
-    let end = text::finish(s);
-    match end {
-        Outcome::Refused(n) => print::refused(out, n),
-        Outcome::Arguments(n) => fit_pairs(&arguments[..n as usize], out),
-    }
+    let n = text::finish(s)?;
+    build(Affine::CODE, &arguments[..n], 1, 1)
 }
 
 // The text to print is so many bytes at the start of `out`.
@@ -40,5 +24,8 @@ pub fn answer(s: Reader, arguments: &[u8; 2048], out: &mut [u8; 124]) -> usize
     ensures { (result ≡ length (answer_text s arguments.now))
         × (out.new ≡ put_text out.old 0 (answer_text s arguments.now)) }
 {
-    answer_from(s, arguments, out)
+    match fitted(s, arguments) {
+        Ok(m) => print::listing(out, &m.coef),
+        Err(r) => print::refused(out, r.number()),
+    }
 }

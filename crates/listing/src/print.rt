@@ -2,15 +2,19 @@
 ghost use Rattle.std.specs.Prelude.{◌≡◌, ◌+◌, ◌≤◌, ◌<◌, length};
 ghost use Rattle.listing.specs.Print.{put_text, hex_digit, hex_text, line_text, lines_text, listing_text, refused_text};
 
+use endian::pattern::Pattern;
+
 // 0 to 9, then a to f.
+#[tactic(auto, unfolding(crate::specs::Print::hex_digit))]
 fn hex_digit(n: u64) -> u8
     requires { n < 16 }
     ensures { result ≡ hex_digit n }
 {
     if n < 10 {
-        return 48 + n as u8;
+        b'0' + n as u8
+    } else {
+        b'a' - 10 + n as u8
     }
-    87 + n as u8
 }
 
 fn store_text(out: &mut [u8; 124], at: usize, text: &[u8]) -> usize
@@ -18,10 +22,9 @@ fn store_text(out: &mut [u8; 124], at: usize, text: &[u8]) -> usize
     ensures { (result ≡ at + length text.now)
         × (out.new ≡ put_text out.old at text.now) }
 {
-    for k in 0..text.len() {
-        out[at + k] = text[k];
-    }
-    at + text.len()
+    let end = at + text.len();
+    out[at..end].copy_from_slice(text);
+    end
 }
 
 // Sixteen digits, the highest first.
@@ -42,7 +45,7 @@ fn store_line(out: &mut [u8; 124], at: usize, name: u8, x: f64) -> usize
 {
     out[at] = name;
     out[at + 1] = b' ';
-    store_hex(out, at + 2, endian::pattern::bits_of_f64(x));
+    store_hex(out, at + 2, x.bits());
     out[at + 18] = b'\n';
     at + 19
 }
@@ -68,12 +71,13 @@ pub fn listing(out: &mut [u8; 124], coefficients: &[f64; 256]) -> usize
     store_lines(out, at, coefficients)
 }
 
-// A refusal's number, which has one digit.
+// A refusal's number, of which the last digit is given: those of a fit have one.
+#[tactic(auto, unfolding(crate::specs::Print::put_text, crate::specs::Print::refused_text))]
 pub fn refused(out: &mut [u8; 124], n: u64) -> usize
     ensures { (result ≡ 10) × (out.new ≡ put_text out.old 0 (refused_text n)) }
 {
     let at = store_text(out, 0, b"refused ");
-    out[at] = 48 + (n % 10) as u8;
+    out[at] = b'0' + (n % 10) as u8;
     out[at + 1] = b'\n';
     at + 2
 }

@@ -18,19 +18,11 @@ pub struct Reader {
     pub large: bool,
 }
 
-// How a text ends: so many bytes of arguments, or the number of a refusal.
-#[derive(Drop)]
-pub enum Outcome {
-    Arguments(u64),
-    Refused(u64),
-}
-
 pub fn start_reader() -> Reader
     ensures { result ≡ start_reader }
 {
-    let names = names::no_names();
     Reader {
-        names,
+        names: names::no_names(),
         word: Word::Empty,
         column: 0,
         lines: 0,
@@ -41,14 +33,7 @@ pub fn start_reader() -> Reader
 pub(crate) fn with_word(s: Reader, w: Word) -> Reader
     ensures { result ≡ with_word s w }
 {
-    let names = s.names;
-    Reader {
-        names,
-        word: w,
-        column: s.column,
-        lines: s.lines,
-        large: s.large,
-    }
+    Reader { word: w, ..s }
 }
 
 pub fn fault(s: Reader) -> Reader
@@ -58,18 +43,22 @@ pub fn fault(s: Reader) -> Reader
 }
 
 // After a space: there is one more column.
+#[tactic(auto, unfolding(crate::specs::Reader::next_column))]
 pub(crate) fn next_column(s: Reader) -> Reader
     ensures { result ≡ next_column s }
 {
     if s.column < 3 {
-        let mut t = s;
-        t.column = s.column + 1;
-        return t;
+        Reader {
+            column: s.column + 1,
+            ..s
+        }
+    } else {
+        fault(s)
     }
-    fault(s)
 }
 
 // Lines are counted up to 66, which is one too many.
+#[tactic(auto, unfolding(crate::specs::Reader::counted))]
 fn counted(lines: u64) -> u64
     ensures { result ≡ counted lines }
 {
@@ -77,14 +66,17 @@ fn counted(lines: u64) -> u64
 }
 
 // After a line feed: that was the last column.
+#[tactic(auto, unfolding(crate::specs::Reader::next_line))]
 pub(crate) fn next_line(s: Reader) -> Reader
     ensures { result ≡ next_line s }
 {
     if s.column == 3 {
-        let mut t = s;
-        t.column = 0;
-        t.lines = counted(s.lines);
-        return t;
+        Reader {
+            column: 0,
+            lines: counted(s.lines),
+            ..s
+        }
+    } else {
+        fault(s)
     }
-    fault(s)
 }

@@ -3,59 +3,53 @@
 ghost use Rattle.std.specs.Prelude.{◌≡◌};
 ghost use Rattle.listing.specs.Reader.{take_name, is_large, kept, take_number, take_word};
 
+use crate::names::Coordinate;
 use crate::reader::Reader;
 use crate::word::Word;
 use crate::{names, reader, word};
 use arguments::refusal::MOST_PAIRS;
+use endian::bytes::StoreAt;
 
 // A name is taken on the first line, once.
-fn take_name(s: Reader, k: u64) -> Reader
-    ensures { result ≡ take_name s k }
+#[tactic(auto, unfolding(crate::specs::Reader::take_name))]
+fn take_name(s: Reader, c: Coordinate) -> Reader
+    ensures { result ≡ take_name s c }
 {
     if s.lines != 0 {
         return reader::fault(s);
     }
-    let names = s.names;
-    if names::column_of(names, k) != 4 {
+    if names::column_of(s.names, c).is_some() {
         return reader::fault(s);
     }
-    let placed = names::with_name(names, k, s.column);
     Reader {
-        names: placed,
+        names: names::with_name(s.names, c, s.column),
         word: Word::Empty,
-        column: s.column,
-        lines: s.lines,
-        large: s.large,
+        ..s
     }
 }
 
+#[tactic(auto, unfolding(crate::specs::Reader::is_large))]
 fn is_large(large: bool, size: u32) -> bool
     ensures { result ≡ is_large large size }
 {
-    if word::LARGEST_NUMBER < size {
-        true
-    } else {
-        large
-    }
+    word::LARGEST_NUMBER < size || large
 }
 
 // The argument of the column in which the reader is, where there is room for its pair.
+#[tactic(auto, unfolding(crate::specs::Reader::kept, crate::specs::Names::slot_of))]
 fn keep(s: Reader, x: f64, arguments: &mut [u8; 2048])
     ensures { arguments.new ≡ kept s x arguments.old }
 {
     let lines = s.lines;
-    if lines < 1 {
+    if lines < 1 || MOST_PAIRS < lines {
         return;
     }
-    if MOST_PAIRS < lines {
-        return;
-    }
-    let names = s.names;
-    let at = 32 * (lines - 1) + 8 * names::slot_of(names, s.column);
-    endian::bytes::store_f64(arguments, at as usize, x);
+    let at = 32 * (lines - 1) + 8 * names::name_at(s.names, s.column).place();
+    x.store_at(arguments, at as usize);
 }
 
 // A number is taken on every line but the first.
+#[tactic(auto, unfolding(crate::specs::Reader::take_number))]
 fn take_number(s: Reader, negative: bool, size: u32, arguments: &mut [u8; 2048]) -> Reader
     ensures { (result, arguments.new) ≡ take_number s negative size arguments.old }
 {
@@ -63,25 +57,20 @@ fn take_number(s: Reader, negative: bool, size: u32, arguments: &mut [u8; 2048])
         return reader::fault(s);
     }
     keep(s, word::pixels(negative, size), arguments);
-    let names = s.names;
-    let large = is_large(s.large, size);
     Reader {
-        names,
         word: Word::Empty,
-        column: s.column,
-        lines: s.lines,
-        large,
+        large: is_large(s.large, size),
+        ..s
     }
 }
 
+#[tactic(auto, unfolding(crate::specs::Reader::taken))]
 pub(crate) fn take_word(s: Reader, arguments: &mut [u8; 2048]) -> Reader
     ensures { (result, arguments.new) ≡ take_word s arguments.old }
 {
-    let w = s.word;
-    match w {
-        Word::Empty => reader::fault(s),
-        Word::Minus => reader::fault(s),
-        Word::Name(k) => take_name(s, k),
+    match s.word {
+        Word::Empty | Word::Minus => reader::fault(s),
+        Word::Name(c) => take_name(s, c),
         Word::Number { negative, size } => take_number(s, negative, size, arguments),
         Word::Wrong => s,
     }

@@ -1,22 +1,21 @@
 // The text, a byte at a time, and its end. For every list of bytes, of any length.
 ghost use Rattle.std.specs.Prelude.{◌≡◌};
-ghost use Rattle.listing.specs.Reader.{read_byte, fed, is_empty, finish};
+ghost use Rattle.listing.specs.Reader.{read_byte, fed, finish};
 
-use crate::reader::{Outcome, Reader};
+use crate::reader::Reader;
 use crate::word::Word;
 use crate::{reader, take, word};
+use refusals::Refusal;
 
+#[tactic(auto, unfolding(crate::specs::Reader::read_byte))]
 fn read_byte(s: Reader, b: u8, arguments: &mut [u8; 2048]) -> Reader
     ensures { (result, arguments.new) ≡ read_byte (s, arguments.old) b }
 {
-    if b == b'\n' {
-        return reader::next_line(take::take_word(s, arguments));
+    match b {
+        b'\n' => reader::next_line(take::take_word(s, arguments)),
+        b' ' => reader::next_column(take::take_word(s, arguments)),
+        _ => reader::with_word(s, word::next(s.word, b)),
     }
-    if b == b' ' {
-        return reader::next_column(take::take_word(s, arguments));
-    }
-    let w = s.word;
-    reader::with_word(s, word::next(w, b))
 }
 
 // The next bytes of the text.
@@ -24,47 +23,23 @@ pub fn feed(s: Reader, chunk: &[u8], arguments: &mut [u8; 2048]) -> Reader
     ensures { (result, arguments.new) ≡ fed (s, arguments.old) chunk.now }
 {
     let mut r = s;
-    for k in 0..chunk.len() {
-        r = read_byte(r, chunk[k], arguments);
+    for b in chunk {
+        r = read_byte(r, *b, arguments);
     }
     r
 }
 
-fn is_empty(w: Word) -> bool
-    ensures { result ≡ is_empty w }
-{
-    match w {
-        Word::Empty => true,
-        Word::Minus => false,
-        Word::Name(_) => false,
-        Word::Number {
-            negative: _,
-            size: _,
-        } => false,
-        Word::Wrong => false,
-    }
-}
-
-// The end of the text: after a line feed, with one pair to 64.
-pub fn finish(s: Reader) -> Outcome
+// The end of the text: after a line feed, with one pair to 64. So many bytes of arguments, or the refusal.
+#[tactic(auto, unfolding(crate::specs::Reader::finish, crate::specs::Reader::bad_form, crate::specs::Reader::is_empty))]
+pub fn finish(s: Reader) -> Result<usize, Refusal>
     ensures { result ≡ finish s }
 {
-    let w = s.word;
-    if !is_empty(w) {
-        return Outcome::Refused(4);
-    }
-    if s.column != 0 {
-        return Outcome::Refused(4);
-    }
     let lines = s.lines;
-    if lines < 2 {
-        return Outcome::Refused(4);
-    }
-    if 65 < lines {
-        return Outcome::Refused(4);
+    if !matches!(s.word, Word::Empty) || s.column != 0 || lines < 2 || 65 < lines {
+        return Err(Refusal::Count);
     }
     if s.large {
-        return Outcome::Refused(5);
+        return Err(Refusal::Number);
     }
-    Outcome::Arguments(32 * (lines - 1))
+    Ok(32 * (lines - 1) as usize)
 }

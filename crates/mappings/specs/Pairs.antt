@@ -1,7 +1,7 @@
 -- Pairs: u, v in the picture and x, y in the output, four numbers each, after `skip` others in the store. Specification
 -- 3.1. Assumes nothing.
 use Rattle.std.specs.Prelude.{ℕ, ◌+◌, ◌*◌}
-use Rattle.mappings.specs.declared.pairs.Pair.{Pair}
+use Rattle.mappings.specs.declared.pair.Pair.{Pair}
 use Rattle.exact.specs.Vector.{Vector, at}
 
 abbrev pub pair_at : Vector → ℕ → ℕ → Pair

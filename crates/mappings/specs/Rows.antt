@@ -3,7 +3,7 @@
 use Rattle.std.specs.Prelude.{[], ◌∷◌, Float}
 use Rattle.std.specs.Float.Ieee.{neg}
 use Rattle.exact.specs.Double.{◌⊗◌, one}
-use Rattle.mappings.specs.declared.pairs.Pair.{Pair}
+use Rattle.mappings.specs.declared.pair.Pair.{Pair}
 use Rattle.mappings.specs.declared.rows.Terms.{Terms}
 use Rattle.mappings.specs.declared.rows.Terms.TheVariants.{Affine, Polynomial, Forward}
 use Rattle.mappings.specs.declared.rows.Side.{Side}

@@ -52,9 +52,10 @@ fn up_to_degree(n: usize, x: f64, y: f64) -> [f64; 21]
 fn degree_of(order: u64) -> usize
     ensures { result ≡ min order 5 }
 {
-    if order < 5 { order as usize } else { 5 }
+    order.min(5) as usize
 }
 
+#[tactic(auto, unfolding(crate::specs::Monomials::monomials))]
 pub fn monomials(order: u64, x: f64, y: f64) -> [f64; 21]
     ensures { result ≡ padded 21 (Monomials.monomials order x y) }
 {

@@ -3,7 +3,7 @@ ghost use Rattle.std.specs.Prelude.{◌≡◌};
 ghost use Rattle.mappings.specs.Rows.{row_of, side_of, first_row, second_row};
 
 use crate::monomials::monomials;
-use crate::pairs::Pair;
+use crate::pair::Pair;
 
 // Which terms a row has: x, y, 1; a polynomial's monomials in x and y; 1, u, v, uv.
 #[derive(Clone, Copy)]

@@ -1,14 +1,24 @@
 -- The greatest misfit of a mapping: the largest difference between a pair and where the mapping takes it, over the pairs
 -- in their order. Assumes nothing.
-use Rattle.std.specs.Prelude.{ℕ, ◌+◌, cond, ◌==◌, Float}
+use Rattle.std.specs.Prelude.{ℕ, ◌+◌, Bool, true, false, cond, Float}
 use Rattle.exact.specs.Double.{◌⊕◌, ◌⊖◌, ◌⊗◌}
 use Rattle.exact.specs.Loop.{up_to}
 use Rattle.exact.specs.Vector.{Vector, at}
 use Rattle.number.specs.Magnitude.{abs, fmax}
 use Rattle.linear.specs.Matrix.{nought}
+use Rattle.mappings.specs.declared.mapping.Kind.{Kind}
+use Rattle.mappings.specs.declared.mapping.Kind.TheVariants.{
+  Nothing,
+  Affine,
+  Perspective,
+  Poly,
+  BilinearForward,
+  Barrel,
+  BarrelInverse,
+  Shepards,
+}
 use Rattle.mappings.specs.declared.mapping.Mapping.{Mapping}
-use Rattle.mappings.specs.declared.pairs.Pair.{Pair}
-use Rattle.mappings.specs.Mapping.{bilinear_forward_kind}
+use Rattle.mappings.specs.declared.pair.Pair.{Pair}
 use Rattle.mappings.specs.Pairs.{pair_at}
 use Rattle.point.specs.declared.point.Point.{Point}
 use Rattle.inverse.specs.Inverse.{inverse}
@@ -31,15 +41,26 @@ abbrev pub farther_forward : Pair → Vector → Float → Float
 farther_forward p c worst =
     farther worst p.x p.y (bilinear_sum c 0 p.u p.v) (bilinear_sum c 4 p.u p.v)
 
+-- whether a kind is fitted from the picture to the output
+abbrev pub forward : Kind → Bool
+forward Nothing = false
+forward BilinearForward = true
+forward Affine = false
+forward Perspective = false
+forward Poly = false
+forward Barrel = false
+forward BarrelInverse = false
+forward Shepards = false
+
 -- a pair by a mapping, whose source point is taken at the pair's own x and y
-unfoldable pub missed : ℕ → ℕ → ℕ → Vector → Pair → Float → Float
+unfoldable pub missed : Kind → ℕ → ℕ → Vector → Pair → Float → Float
 missed kind order count coef p worst =
-    cond (kind == bilinear_forward_kind)
+    cond (forward kind)
     (farther_forward p coef worst)
     (farther_back p (inverse kind order count coef p.x p.y) worst)
 
 -- the pair numbered j of those after `skip` arguments
-unfoldable pub missed_at : ℕ → ℕ → ℕ → Vector → Vector → ℕ → ℕ → Float → Float
+unfoldable pub missed_at : Kind → ℕ → ℕ → Vector → Vector → ℕ → ℕ → Float → Float
 missed_at kind order count coef values skip j worst = missed kind order count coef (pair_at values skip j) worst
 
 -- over the first `pairs` of them, from +0

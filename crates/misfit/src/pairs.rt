@@ -1,13 +1,12 @@
-// The greatest misfit of a mapping over the pairs that it was fitted to. Assumes that the pairs are in the store.
-ghost use Rattle.std.specs.Prelude.{◌≡◌, ◌+◌, ◌*◌, ◌≤◌};
-ghost use Rattle.exact.specs.Limits.{most_arguments};
+// The greatest misfit of a mapping over the pairs that it was fitted to. Assumes nothing.
+ghost use Rattle.std.specs.Prelude.{◌≡◌, ◌≤◌};
 ghost use Rattle.misfit.specs.Misfit.{bilinear_sum, farther, missed};
 ghost use Rattle.misfit.specs.Misfit as Misfit;
 
 use inverse::source::inverse;
-use mappings::mapping;
-use mappings::mapping::Mapping;
-use mappings::pairs::{Pair, pair_at};
+use mappings::mapping::{Kind, Mapping};
+use mappings::pair::Pair;
+use mappings::pairs::Pairs;
 use number::magnitude::{abs, max};
 
 // Where the fit takes (u, v), by the four coefficients from place k on: 0 for x, 4 for y.
@@ -26,30 +25,26 @@ fn farther(worst: f64, a: f64, b: f64, c: f64, d: f64) -> f64
 }
 
 // With one pair more. Where the mapping has no point, the point's coordinates are NaNs.
-fn missed(kind: u64, order: u64, count: u64, coef: &[f64; 256], p: Pair, worst: f64) -> f64
-    ensures { result ≡ missed kind order count coef.now p worst }
+#[tactic(auto, unfolding(crate::specs::Misfit::missed))]
+fn missed(mapping: &Mapping, p: Pair, worst: f64) -> f64
+    ensures { result ≡ missed mapping.now.kind mapping.now.order mapping.now.count mapping.now.coef p worst }
 {
-    if kind == mapping::BILINEAR_FORWARD {
-        let x = bilinear_sum(coef, 0, p.u, p.v);
-        let y = bilinear_sum(coef, 4, p.u, p.v);
+    if mapping.kind == Kind::BilinearForward {
+        let x = bilinear_sum(&mapping.coef, 0, p.u, p.v);
+        let y = bilinear_sum(&mapping.coef, 4, p.u, p.v);
         return farther(worst, p.x, p.y, x, y);
     }
-    let source = inverse(kind, order, count, coef, p.x, p.y);
+    let source = inverse(mapping, p.x, p.y);
     farther(worst, p.u, p.v, source.u, source.v)
 }
 
-// Over the pairs after `skip` arguments, in their order.
-pub fn misfit(mapping: Mapping, values: &[f64; 257], skip: usize, pairs: usize) -> f64
-    requires { skip + 4 * pairs ≤ most_arguments }
-    ensures { result ≡ Misfit.misfit mapping values.now skip pairs }
+// Over the pairs in their order.
+pub fn misfit(mapping: &Mapping, pairs: &Pairs) -> f64
+    ensures { result ≡ Misfit.misfit mapping.now pairs.now.values.now pairs.now.skip pairs.now.count }
 {
-    let kind = mapping.kind;
-    let order = mapping.order;
-    let count = mapping.count;
-    let coef = mapping.coef;
     let mut worst = 0.0;
-    for j in 0..pairs {
-        worst = missed(kind, order, count, &coef, pair_at(values, skip, j), worst);
+    for j in 0..pairs.count {
+        worst = missed(mapping, pairs.at(j), worst);
     }
     worst
 }

@@ -1,14 +1,11 @@
--- Bytes and a name are compared from the front: unlike lengths are not the same, and what is left of the two is the
--- same where the next bytes are and the rest is. Assumes nothing.
-use mathlib.Core.Path.{◌≡◌, refl, ap}
-use mathlib.Core.Bool.{Bool, true, false, cond}
-use mathlib.Core.List.{List, [], ◌∷◌, map}
-use Prim.Native.Nat.{ℕ, suc, ◌+◌, ◌≤◌, ◌<◌}
-use native.Mathlib.Numerals.{add-one}
-use borrow.Author.Tests.{eq-eqb, ne_eqb}
-use lib.Dec.{eqb}
-use lib.ListN.{length, get_or, drop, length-map, drop_of_length-le}
-use lib.Seq.{drop-cons}
+-- Bytes and a name are compared: unlike lengths are not the same, and of like ones all pairs are where the two are.
+-- Assumes nothing.
+use Rattle.std.proofs.Common.{◌≡◌, refl, ap, Bool, true, false, cond, List, [], ◌∷◌, map, ℕ, suc, length, eqb, arith}
+use Rattle.std.proofs.lemmas.List.{length-map}
+use Rattle.std.specs.Char.{to_ascii_lowercase}
+use Rattle.std.specs.List.{list_all, zip}
+use Rattle.std.specs.Prelude.{◌==◌, ◌&&◌}
+use Rattle.std.proofs.lemmas.Bool.Decides.{nat_tests}
 use Rattle.names.specs.Names.{lowercase, equal, same_name}
 
 cond_false : (b : Bool) (x : Bool) → x ≡ false → cond b x false ≡ false
@@ -26,21 +23,23 @@ pub same_length : (s name : List ℕ) → (length s ≡ length name → ⊥) →
 unfolding same_name
 same_length s name h = equal_length (map lowercase s) name (λ e. h (rw length-map at e))
 
-module _ (s name : List ℕ) (i : ℕ) where
-  -- past the end of both
-  pub same_end : length s ≤ i → length name ≤ i → same_name (drop i s) (drop i name) ≡ true
-  unfolding same_name equal
-  same_end h g = rw (drop_of_length-le s h, drop_of_length-le name g)
+-- the code's tests, one for each pair of bytes
+abbrev pub AllSame : List ℕ → List ℕ → Bool
+AllSame s name = list_all (λ (p : ℕ × ℕ). to_ascii_lowercase p.0 == p.1) (zip s name)
 
-  module _ (h : i < length s) (g : i < length name) where
-    next : same_name (drop i s) (drop i name) ≡ cond (eqb (lowercase (get_or s i 0)) (get_or name i 0))
-        (same_name (drop (i + 1) s) (drop (i + 1) name)) false
-    unfolding same_name equal
-    next = rw (add-one, drop-cons s i 0, drop-cons name i 0)
+lowers : (b : ℕ) → to_ascii_lowercase b ≡ lowercase b
+unfolding lowercase
+lowers b = grind (arith, nat_tests)
 
-    pub same_next : lowercase (get_or s i 0) ≡ get_or name i 0
-        → same_name (drop i s) (drop i name) ≡ same_name (drop (i + 1) s) (drop (i + 1) name)
-    same_next e = rw (next, eq-eqb _ _ e)
-
-    pub same_unlike : (lowercase (get_or s i 0) ≡ get_or name i 0 → ⊥) → same_name (drop i s) (drop i name) ≡ false
-    same_unlike n = rw (next, ne_eqb _ _ n)
+pub all_same : (s name : List ℕ) → length s ≡ length name → AllSame s name ≡ same_name s name
+unfolding same_name equal
+all_same [] [] e = refl
+all_same [] (n ∷ name) e = cc
+all_same (b ∷ s) [] e = cc
+all_same (b ∷ s) (n ∷ name) e =
+    let shorter : length s ≡ length name = omega (arith, e) in
+    rw (lowers b, all_same s name shorter) (both (eqb (lowercase b) n) (equal (map lowercase s) name))
+  where
+    both : (t u : Bool) → (t && u) ≡ cond t u false
+    both true u = refl
+    both false u = refl

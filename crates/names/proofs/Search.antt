@@ -1,5 +1,6 @@
 -- A search through a text of names, one byte a turn: what is left of the table at a byte, after a name's first bytes,
 -- is the table left at the next byte, with the name in front where it ends. Assumes nothing.
+use Rattle.std.specs.Prelude.{Some, None}
 use mathlib.Core.Path.{◌≡◌, refl, ap}
 use mathlib.Core.Bool.{Bool, true, false, cond, true≢false}
 use mathlib.Core.List.{List, [], ◌∷◌, ◌++◌}
@@ -9,7 +10,6 @@ use native.Mathlib.Omega.{arith}
 use lib.Dec.{eqb}
 use lib.ListN.{length, get_or, take, drop, length-drop, drop_of_length-le}
 use lib.Seq.{drop-cons, take-suc, get_or-drop}
-use Rattle.names.specs.declared.Named.TheVariants.{Code, Refused}
 use Rattle.names.specs.Names.{same_name, lookup}
 use Rattle.names.specs.Table.{ends_name, next_name, next_code, split, entries}
 
@@ -25,7 +25,7 @@ pub all : (text s : List ℕ) → lookup (entries text) s ≡ lookup (left text 
 unfolding entries left
 all text s = refl
 
-pub over : (text : List ℕ) (from n k : ℕ) (s : List ℕ) → length text ≤ k → lookup (left text from n k) s ≡ Refused
+pub over : (text : List ℕ) (from n k : ℕ) (s : List ℕ) → length text ≤ k → lookup (left text from n k) s ≡ None
 unfolding left split lookup
 over text from n k s h = rw (drop_of_length-le text h)
 
@@ -75,7 +75,7 @@ module _ (text : List ℕ) (from n k : ℕ) (h : from ≤ k) (g : k < length tex
     inside e = ap (λ (t : List (List ℕ × ℕ)). lookup t s) (left_inside e)
 
     pub found : ends_name (get_or text k 0) ≡ true → same_name s (part text from k) ≡ true
-        → lookup (left text from n k) s ≡ Code n
+        → lookup (left text from n k) s ≡ Some n
     unfolding lookup
     found e w = rw (left_end e, w)
 

@@ -1,11 +1,9 @@
 -- The three `from_name` readers, over bytes: a table of names and codes for each, and one lookup that ignores ASCII
 -- case. A code is the place of the variant in its Rust enum's declaration, from 0; the methods that are absent have
 -- theirs too. Specification 1.2. Assumes nothing.
-use Rattle.std.specs.Prelude.{ℕ, ◌+◌, ◌<◌, Bool, true, false, cond, List, [], ◌∷◌, map, leb, eqb}
+use Rattle.std.specs.Prelude.{ℕ, ◌+◌, ◌<◌, Bool, true, false, cond, List, [], ◌∷◌, map, leb, eqb, Option, Some, None}
 use Prim.Native.String.{String}
 use Rattle.endian.specs.Bytes.{ascii}
-use Rattle.names.specs.declared.Named.{Named}
-use Rattle.names.specs.declared.Named.TheVariants.{Code, Refused}
 
 -- u8::to_ascii_lowercase: A (65) to Z (90) become a to z, and every other byte stays
 unfoldable pub lowercase : ℕ → ℕ
@@ -22,20 +20,20 @@ equal (x ∷ xs) (y ∷ ys) = cond (eqb x y) (equal xs ys) false
 unfoldable pub same_name : List ℕ → List ℕ → Bool
 same_name s name = equal (map lowercase s) name
 
--- the code of the first name that s is in lower case, or the refusal
-unfoldable pub lookup : List (List ℕ × ℕ) → List ℕ → Named
-lookup [] s = Refused
-lookup ((name, n) ∷ table) s = cond (same_name s name) (Code n) (lookup table s)
+-- the code of the first name that s is in lower case; none is the refusal
+unfoldable pub lookup : List (List ℕ × ℕ) → List ℕ → Option ℕ
+lookup [] s = None
+lookup ((name, n) ∷ table) s = cond (same_name s name) (Some n) (lookup table s)
 
 -- the number of the refusal (specification 2, code); a code is none, which is 0 here
-abbrev pub named_refusal : Named → ℕ
-named_refusal (Code n) = 0
-named_refusal Refused = 3
+abbrev pub named_refusal : Option ℕ → ℕ
+named_refusal (Some n) = 0
+named_refusal None = 3
 
 -- a code, if there is one, is below m
-abbrev pub Below : ℕ → Named → Type 0
-Below m (Code n) = n < m
-Below m Refused = Unit
+abbrev pub Below : ℕ → Option ℕ → Type 0
+Below m (Some n) = n < m
+Below m None = Unit
 
 -- an entry, as an arm of the Rust's `match`
 infix 70 ◌⇒◌

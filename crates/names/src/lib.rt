@@ -1,5 +1,5 @@
-// The three `from_name` readers over bytes: a name to its code, or the refusal, for every slice of bytes. `dihyravo`
-// exports them.
+// The three `from_name` readers over bytes: a name to its code, or none, which is refusal 3, for every slice of bytes.
+// `dihyravo` exports them.
 #![tactic(auto)]
 
 mod letters;
@@ -8,15 +8,8 @@ mod table;
 ghost use Rattle.std.specs.Prelude.{◌≡◌};
 ghost use Rattle.names.specs.Names.{lookup, method_names, policy_names, interpolation_names};
 
-// What a name is read as: a code, or refusal 3. So code 3 and the refusal are told apart.
-#[derive(Drop)]
-pub enum Named {
-    Code(u64),
-    Refused,
-}
-
 // DistortMethod::from_name
-pub fn method(name: &[u8]) -> Named
+pub fn method(name: &[u8]) -> Option<u64>
     ensures { result ≡ lookup method_names name.now }
 {
     table::find(
@@ -27,7 +20,7 @@ pub fn method(name: &[u8]) -> Named
 }
 
 // VirtualPixel::from_name
-pub fn policy(name: &[u8]) -> Named
+pub fn policy(name: &[u8]) -> Option<u64>
     ensures { result ≡ lookup policy_names name.now }
 {
     table::find(
@@ -38,7 +31,7 @@ pub fn policy(name: &[u8]) -> Named
 }
 
 // PixelInterpolate::from_name
-pub fn interpolation(name: &[u8]) -> Named
+pub fn interpolation(name: &[u8]) -> Option<u64>
     ensures { result ≡ lookup interpolation_names name.now }
 {
     table::find(

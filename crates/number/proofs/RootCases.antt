@@ -2,12 +2,12 @@
 -- nothing.
 use Rattle.std.proofs.Common.{◌≡◌, ℕ, zero, suc, ◌*◌, ◌<◌, ◌≤◌, Bool, true, false, not, ◌&&◌, ◌||◌, T, eqb, ltb, ℤ, pos, sym, refl, ap, ◌∙◌, subst, true≢false, zero-le, le_refl, lt_of_le_of_lt, le_of_lt, lt_irrefl, zero-lt-suc, mul-pos, zero-mul, not-le_of_lt, eqb→eq, ltb→lt, lt→ltb}
 use mathlib.Core.Bool.{beq}
-use lib.Ieee.{Float, nan, inf, fin, binary64, up, down, fits, is_nan, to_bits, of_bits, lt, eq, div}
+use lib.Ieee.{Float, nan, inf, fin, binary64, up, down, fits, is_nan, to_bits, of_bits, lt, eq}
 use lib.Ieee.Bits.{is_true}
 use lib.Ieee.Fits.{up_pos, and_l}
 use lib.Ieee.Positive.{positive, first_pos}
 use Rattle.exact.proofs.FloatPatterns.{finite_bits}
-use Rattle.exact.proofs.Nan.{zero_bits, zero_by_zero}
+use Rattle.exact.proofs.Nan.{zero_bits}
 use Rattle.number.specs.Root.{root}
 
 as_test : (b : Bool) → b ≡ true → T b
@@ -114,7 +114,12 @@ none (fin s zero e) h k =
 none (fin true (suc m) e) h k = refl
 none (fin false (suc m) e) h k = absurd (true≢false (sym (zero_below m e) ∙ h))
 
+-- the NaN of the language
+nan_pattern : of_bits binary64 0x7ff8_0000_0000_0000 ≡ nan
+unfolding of_bits
+nan_pattern = refl
+
 pub no_root : (x : Float) → lt (of_bits binary64 0) x ≡ false → eq x (of_bits binary64 0) ≡ false
-    → div binary64 (of_bits binary64 0) (of_bits binary64 0) ≡ root x
-no_root x h k = zero_by_zero binary64
+    → of_bits binary64 0x7ff8_0000_0000_0000 ≡ root x
+no_root x h k = nan_pattern
     ∙ none x (ap (λ (z : Float). lt z x) (sym (zero_bits binary64)) ∙ h) (ap (eq x) (sym (zero_bits binary64)) ∙ k)

@@ -105,9 +105,8 @@ pub fn narrow_number(x: f64) -> f32
 pub fn narrow(x: f64) -> f32
     ensures { result ≡ narrow x }
 {
-    if x != x {
-        let zero: f32 = 0.0;
-        return zero / zero;
+    if x.is_nan() {
+        return f32::NAN;
     }
     narrow_number(x)
 }

@@ -35,7 +35,7 @@ pub fn root_by(x: f64, g: f64) -> f64
     if x == 0.0 {
         return x;
     }
-    0.0 / 0.0
+    f64::NAN
 }
 
 // The root of x, which is finite and above 0. Its significand m is moved up by its leading zeros, and once
@@ -106,7 +106,7 @@ fn nearest(n: u64, g: f64) -> u64
     requires { (2 ^ 52 ≤ n) × (n < 2 ^ 54) }
     ensures { result ≡ nearest_root (n * 2 ^ 52) }
 {
-    if g != g {
+    if g.is_nan() {
         return neighbour(n, DIGITS);
     }
     let q = f64::to_bits(g) % DIGITS + DIGITS;
@@ -155,8 +155,7 @@ fn by_digits(n: u64) -> u64
     let mut s = 0u64;
     let mut r = 0u64;
     let mut rest = n * 1024;
-    let mut left = 53u64;
-    while left > 0 {
+    for _ in 0..53u64 {
         r = 4 * r + rest / 0x4000_0000_0000_0000;
         rest = rest % 0x4000_0000_0000_0000 * 4;
         if 4 * s < r {
@@ -165,7 +164,6 @@ fn by_digits(n: u64) -> u64
         } else {
             s = 2 * s;
         }
-        left -= 1;
     }
     if r > s { s + 1 } else { s }
 }

@@ -7,7 +7,9 @@ use Prim.Native.Nat.{ℕ, ◌<◌}
 use lib.IntN.{ℤ, pos}
 use Rattle.picture.specs.At.{tap_samples, Held, at}
 use Rattle.picture.specs.Colour.{zero, half, one, grey}
-use Rattle.policies.specs.Named.{named, Lies}
+use Rattle.policies.specs.Named as Named
+use Rattle.policies.specs.Named.{named, code_of, Lies}
+use Rattle.policies.proofs.NamedCode.{named_code}
 use Rattle.picture.specs.Pixel.{Picture, pixel_at}
 use Rattle.picture.specs.declared.colour.Rgba.{Rgba}
 use Rattle.policies.specs.declared.named.Tap.{Tap}
@@ -18,6 +20,13 @@ pub at_inside : (bytes : List ℕ) (width height channels policy : ℕ) (backgro
     → at bytes width height channels policy background (pos x) (pos y) ≡ pixel_at bytes width channels x y
 unfolding at
 at_inside bytes width height channels policy background x y hx hy = rw (named_inside policy width height x y hx hy)
+
+-- the code of what a code is read as asks the same policy
+pub at_code : (bytes : List ℕ) (width height channels policy : ℕ) (background : Rgba) (x y : ℤ)
+    → at bytes width height channels (code_of (Named.policy policy)) background x y
+    ≡ at bytes width height channels policy background x y
+unfolding at
+at_code bytes width height channels policy background x y = rw named_code
 
 -- where what is named lies inside, its samples are in the picture's bytes
 held : (bytes : List ℕ) (w h channels : ℕ) → Picture bytes w h channels → (t : Tap) → Lies w h t

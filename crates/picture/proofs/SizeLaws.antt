@@ -1,7 +1,7 @@
 -- Where the tests of sides, channels and length fail, the sizes are a picture's and its samples are few enough to
 -- count; where the test of the samples fails, too, the bytes are a picture. Provides: `side_fit`, `channels_fit`,
 -- `channels_range`, `size_fit`, `stock_whole` (what each test leaves); `area_small`, `samples_small`, `counted`
--- (the products); `picture_fit`, `one_pixel`. Assumes nothing.
+-- (the products); `picture_fit`, `pixel_picture`, `one_pixel`. Assumes nothing.
 use mathlib.Core.Path.{◌≡◌}
 use mathlib.Core.Logic.{inl, inr, ⊎_elim}
 use mathlib.Core.Bool.{false, ◌||◌}
@@ -90,16 +90,15 @@ picture_fit bytes w h c f g fine =
     }
 
 -- a background or a matte is a picture of one pixel
-pub one_pixel : (bytes : List ℕ) → length bytes ≡ 16 → up_to (step bytes) 0 4 false ≡ false → Inside bytes 1 4 0 0
-one_pixel bytes e fine = record {
-  height = 1;
-  picture = record {
-    sizes = record { wide = lit≤ tt; width_most = lit≤ tt; high = lit≤ tt; height_most = lit≤ tt };
-    channels_least = lit≤ tt;
-    channels_most = lit≤ tt;
-    whole = e;
-    limited = limited_by bytes 4 e fine;
-  };
-  column = lit≤ tt;
-  row = lit≤ tt;
+pub pixel_picture : (bytes : List ℕ) → length bytes ≡ 16 → up_to (step bytes) 0 4 false ≡ false → Picture bytes 1 1 4
+pixel_picture bytes e fine = record {
+  sizes = record { wide = lit≤ tt; width_most = lit≤ tt; high = lit≤ tt; height_most = lit≤ tt };
+  channels_least = lit≤ tt;
+  channels_most = lit≤ tt;
+  whole = e;
+  limited = limited_by bytes 4 e fine;
 }
+
+pub one_pixel : (bytes : List ℕ) → length bytes ≡ 16 → up_to (step bytes) 0 4 false ≡ false → Inside bytes 1 4 0 0
+one_pixel bytes e fine =
+    record { height = 1; picture = pixel_picture bytes e fine; column = lit≤ tt; row = lit≤ tt }

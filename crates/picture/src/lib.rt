@@ -6,6 +6,7 @@
 
 pub mod at;
 pub mod colour;
+pub mod picture;
 pub mod pixel;
 pub mod shape;
 pub mod size;

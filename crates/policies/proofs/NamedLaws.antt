@@ -11,8 +11,9 @@ use borrow.Author.Tests.{lt-ltb}
 use Rattle.endian.specs.Bytes.{twos_complement}
 use Rattle.policies.specs.Index.{in_range, tile, parity}
 use Rattle.policies.specs.Random.{mix}
-use Rattle.policies.specs.Named.{
-  Policy,
+use Rattle.policies.specs.Named.{policy, picked, outside, named, Lies}
+use Rattle.policies.specs.declared.policy.Policy.{Policy}
+use Rattle.policies.specs.declared.policy.Policy.TheVariants.{
   Edge,
   Background,
   Black,
@@ -27,11 +28,6 @@ use Rattle.policies.specs.Named.{
   VerticalTileEdge,
   CheckerTile,
   Random,
-  policy,
-  picked,
-  outside,
-  named,
-  Lies,
 }
 use Rattle.policies.specs.declared.named.Tap.{Tap}
 use Rattle.policies.proofs.IndexLaws.{within_lt, clamped_lt, tile_lt, mirror_lt}

@@ -1,12 +1,50 @@
 -- Which pixel of the picture, or which colour, a policy names at an index: the Rust's `Sampler::at` without the
 -- samples. An index inside names its own pixel under every policy. Specification 8. Assumes nothing.
-use Rattle.std.specs.Prelude.{ℕ, ◌+◌, ◌/◌, ◌%◌, ◌^◌, ◌≤◌, ◌<◌, cond, ◌&&◌, List, [], ◌∷◌, eqb, get_or, ℤ}
+use Rattle.std.specs.Prelude.{
+  ◌≡◌,
+  ℕ,
+  ◌+◌,
+  ◌/◌,
+  ◌%◌,
+  ◌^◌,
+  ◌≤◌,
+  ◌<◌,
+  cond,
+  ◌&&◌,
+  List,
+  [],
+  ◌∷◌,
+  eqb,
+  get_or,
+  ℤ,
+  Result,
+  MatchResult,
+}
 use Rattle.std.specs.Int.Signed.{mag}
 use Rattle.exact.specs.Limits.{largest_side}
 use Rattle.endian.specs.Bytes.{twos_complement}
 use Rattle.policies.specs.Index.{in_range, clamped, tile, mirror, parity}
 use Rattle.policies.specs.Random.{mix}
+use Rattle.policies.specs.declared.policy.Policy.{Policy}
+use Rattle.policies.specs.declared.policy.Policy.TheVariants.{
+  Edge,
+  Background,
+  Black,
+  White,
+  Gray,
+  Transparent,
+  Tile,
+  Mirror,
+  HorizontalTile,
+  VerticalTile,
+  HorizontalTileEdge,
+  VerticalTileEdge,
+  CheckerTile,
+  Random,
+}
 use Rattle.policies.specs.declared.named.Tap.{Tap}
+use Rattle.refusals.specs.declared.Refusal.{Refusal}
+use Rattle.refusals.specs.declared.Refusal.TheVariants.{Code}
 
 -- the sizes that a call is accepted with
 pub record Sizes (width height : ℕ) : Type 0 where
@@ -14,11 +52,6 @@ pub record Sizes (width height : ℕ) : Type 0 where
   pub width_most : width ≤ largest_side
   pub high : 0 < height
   pub height_most : height ≤ largest_side
-
--- the Rust's `VirtualPixel`
-pub data Policy : Type 0 where
-  Edge Background Black White Gray Transparent Tile Mirror HorizontalTile VerticalTile HorizontalTileEdge
-      VerticalTileEdge CheckerTile Random : Policy
 
 -- codes count from 0 in this order. No call is accepted with another code; one would count as the last.
 abbrev pub policies : List Policy
@@ -28,6 +61,27 @@ policies =
 
 unfoldable pub policy : ℕ → Policy
 policy code = get_or policies code Random
+
+-- the code of each
+abbrev pub code_of : Policy → ℕ
+code_of Edge = 0
+code_of Background = 1
+code_of Black = 2
+code_of White = 3
+code_of Gray = 4
+code_of Transparent = 5
+code_of Tile = 6
+code_of Mirror = 7
+code_of HorizontalTile = 8
+code_of VerticalTile = 9
+code_of HorizontalTileEdge = 10
+code_of VerticalTileEdge = 11
+code_of CheckerTile = 12
+code_of Random = 13
+
+-- what a code is read as: the policy that has it, or the refusal of a code where none has
+abbrev pub Decodes : ℕ → Result Policy Refusal → Type 0
+Decodes code r = MatchResult r (λ (p : Policy). code_of p ≡ code) (λ (e : Refusal). (e ≡ Code) × (13 < code))
 
 -- ---- the codes that definitions ask for by name
 abbrev pub edge_code : ℕ

@@ -3,13 +3,10 @@
 ghost use Rattle.std.specs.Prelude.{◌≡◌, ◌<◌};
 ghost use Rattle.policies.specs.Index.{signed};
 ghost use Rattle.policies.specs.Named as Named;
-ghost use Rattle.policies.specs.Named.{Sizes, Policy, outside};
+ghost use Rattle.policies.specs.Named.{Sizes, code_of, outside};
 
 use crate::index::{clamped, mirror, parity, tile};
-use crate::policy::{
-    BACKGROUND, BLACK, CHECKER_TILE, EDGE, GRAY, HORIZONTAL_TILE, HORIZONTAL_TILE_EDGE, MIRROR,
-    TILE, TRANSPARENT, VERTICAL_TILE, VERTICAL_TILE_EDGE, WHITE,
-};
+use crate::policy::Policy;
 use crate::random::mix;
 use endian::pattern::bits_of_i64;
 
@@ -97,38 +94,47 @@ fn random(w: u64, h: u64, x: u64, y: u64) -> Tap
     Tap::Pixel(z % w, z / 4294967296 % h)
 }
 
-// A code that is none of the fourteen counts as `Random`; no call is accepted with one.
-fn named_outside(policy: u64, w: u64, h: u64, x: u64, y: u64) -> Tap
+fn named_outside(policy: Policy, w: u64, h: u64, x: u64, y: u64) -> Tap
     requires { Sizes w h }
-    ensures { result ≡ outside (Named.policy policy) w h (signed x) (signed y) }
+    ensures { result ≡ outside policy w h (signed x) (signed y) }
 {
     match policy {
-        EDGE => edge(w, h, x, y),
-        BACKGROUND => Tap::Background,
-        BLACK => Tap::Black,
-        WHITE => Tap::White,
-        GRAY => Tap::Gray,
-        TRANSPARENT => Tap::Transparent,
-        TILE => tiled(w, h, x, y),
-        MIRROR => mirrored(w, h, x, y),
-        HORIZONTAL_TILE => horizontal_tile(w, h, x, y),
-        VERTICAL_TILE => vertical_tile(w, h, x, y),
-        HORIZONTAL_TILE_EDGE => horizontal_tile_edge(w, h, x, y),
-        VERTICAL_TILE_EDGE => vertical_tile_edge(w, h, x, y),
-        CHECKER_TILE => checker_tile(w, h, x, y),
-        _ => random(w, h, x, y),
+        Policy::Edge => edge(w, h, x, y),
+        Policy::Background => Tap::Background,
+        Policy::Black => Tap::Black,
+        Policy::White => Tap::White,
+        Policy::Gray => Tap::Gray,
+        Policy::Transparent => Tap::Transparent,
+        Policy::Tile => tiled(w, h, x, y),
+        Policy::Mirror => mirrored(w, h, x, y),
+        Policy::HorizontalTile => horizontal_tile(w, h, x, y),
+        Policy::VerticalTile => vertical_tile(w, h, x, y),
+        Policy::HorizontalTileEdge => horizontal_tile_edge(w, h, x, y),
+        Policy::VerticalTileEdge => vertical_tile_edge(w, h, x, y),
+        Policy::CheckerTile => checker_tile(w, h, x, y),
+        Policy::Random => random(w, h, x, y),
     }
 }
 
-// The inside test comes before any rule. The bits of an index below 0 are a number above every size.
+impl Policy {
+    // The inside test comes before any rule. The bits of an index below 0 are a number above every size.
+    pub fn named(self, w: u64, h: u64, x: i64, y: i64) -> Tap
+        requires { Sizes w h }
+        ensures { result ≡ Named.named (code_of self) w h x y }
+    {
+        let i = bits_of_i64(x);
+        let j = bits_of_i64(y);
+        if i < w && j < h {
+            return Tap::Pixel(i, j);
+        }
+        named_outside(self, w, h, i, j)
+    }
+}
+
+// The same by a policy's code. No call is accepted with a code that is none of the fourteen.
 pub fn named(policy: u64, w: u64, h: u64, x: i64, y: i64) -> Tap
     requires { Sizes w h }
     ensures { result ≡ Named.named policy w h x y }
 {
-    let i = bits_of_i64(x);
-    let j = bits_of_i64(y);
-    if i < w && j < h {
-        return Tap::Pixel(i, j);
-    }
-    named_outside(policy, w, h, i, j)
+    Policy::of_code(policy).named(w, h, x, y)
 }

@@ -4,7 +4,7 @@ use Rattle.std.specs.Prelude.{ℕ, ◌+◌, ◌*◌, min, cond, List, eqb, get_o
 use Rattle.std.specs.Float.{nan}
 use Rattle.exact.specs.Loop.{up_to}
 use Rattle.endian.specs.Bytes.{store_u64, store_f64}
-use Rattle.mappings.specs.declared.mapping.Fitted.{Fitted}
+use Rattle.mappings.specs.Mapping.{Fitted}
 use Rattle.mappings.specs.declared.mapping.Mapping.{Mapping}
 use Rattle.probe_fit.specs.Sized.{sized_fit}
 

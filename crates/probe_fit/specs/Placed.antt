@@ -2,12 +2,11 @@
 -- nothing. Assumes nothing.
 use Rattle.std.specs.Prelude.{ℕ, cond, List, eqb, ℤ}
 use Rattle.endian.specs.Bytes.{store_u64, store_i64}
-use Rattle.mappings.specs.declared.mapping.Fitted.{Fitted}
-use Rattle.window.specs.View.{yes}
+use Rattle.mappings.specs.Mapping.{Fitted}
+use Rattle.window.specs.View.{view_by}
 use Rattle.window.specs.Window.{window}
 use Rattle.window.specs.declared.view.View.{View}
-use Rattle.window.specs.declared.window.Placed.{Placed}
-use Rattle.window.specs.declared.window.Placed.TheVariants.{Window, Refused}
+use Rattle.window.specs.Placed.{Placed, Window, Refused}
 use Rattle.probe_fit.specs.Sized.{sized_fit}
 
 unfoldable pub store_placed : Placed → List ℕ → ℕ × List ℕ
@@ -24,11 +23,4 @@ placed f width height view out =
 unfoldable pub probe_window : ℕ → List ℕ → ℕ → ℕ → ℕ → ℕ → ℕ → ℕ → ℤ → ℤ → List ℕ → ℕ × List ℕ
 probe_window method bytes width height bestfit viewport view-width view-height view-x view-y out =
     placed (sized_fit method bytes width height) width height
-    (record {
-      bestfit = yes bestfit;
-      given = yes viewport;
-      width = view-width;
-      height = view-height;
-      x = view-x;
-      y = view-y;
-    }) out
+    (view_by bestfit viewport (record { width = view-width; height = view-height; x = view-x; y = view-y })) out

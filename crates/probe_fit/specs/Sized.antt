@@ -2,8 +2,7 @@
 -- nothing.
 use Rattle.std.specs.Prelude.{ℕ, cond, ◌||◌, List}
 use Rattle.fit.specs.Build.{build}
-use Rattle.mappings.specs.Mapping.{refused}
-use Rattle.mappings.specs.declared.mapping.Fitted.{Fitted}
+use Rattle.mappings.specs.Mapping.{Fitted, refused}
 use Rattle.picture.specs.Size.{bad_side}
 
 unfoldable pub sized_fit : ℕ → List ℕ → ℕ → ℕ → Fitted

@@ -4,12 +4,12 @@ ghost use Rattle.exact.specs.Loop.{up_to};
 ghost use Rattle.probe_fit.specs.Fitted.{store_coefficient, probe_fit};
 
 use crate::sized::sized_fit;
-use endian::bytes::{store_f64, store_u64};
+use endian::bytes::StoreAt;
 
 fn most(count: u64) -> usize
     ensures { result ≡ min count 256 }
 {
-    if count < 256 { count as usize } else { 256 }
+    count.min(256) as usize
 }
 
 // The first n coefficients, after the count.
@@ -18,7 +18,7 @@ fn store_coefficients(out: &mut [u8], coef: &[f64; 256], n: usize)
     ensures { out.new ≡ up_to (store_coefficient coef.now) 0 n out.old }
 {
     for k in 0..n {
-        store_f64(out, 8 + 8 * k, coef[k]);
+        coef[k].store_at(out, 8 + 8 * k);
     }
 }
 
@@ -32,15 +32,12 @@ pub fn probe_fit(
 ) -> u64
     ensures { (result, out.new) ≡ probe_fit method arguments.now width height out.old }
 {
-    let fitted = sized_fit(method, arguments, width, height);
-    let refusal = fitted.refusal;
-    if refusal != 0 {
-        return refusal;
+    match sized_fit(method, arguments, width, height) {
+        Ok(m) => {
+            m.count.store_at(out, 0);
+            store_coefficients(out, &m.coef, most(m.count));
+            0
+        }
+        Err(r) => r.number(),
     }
-    let mapping = fitted.mapping;
-    let coef = mapping.coef;
-    let count = mapping.count;
-    store_u64(out, 0, count);
-    store_coefficients(out, &coef, most(count));
-    0
 }

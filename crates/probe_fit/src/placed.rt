@@ -1,32 +1,22 @@
 // The window of the output in bytes: its size and where it lies. Assumes nothing.
 ghost use Rattle.std.specs.Prelude.{◌≡◌, ◌≤◌, length};
+ghost use Rattle.window.specs.Placed as Windows;
 ghost use Rattle.probe_fit.specs.Placed.{store_placed, probe_window};
 
 use crate::sized::sized_fit;
-use endian::bytes::{store_i64, store_u64};
-use window::view::{View, yes};
-use window::window::{Placed, window};
+use endian::bytes::StoreAt;
+use window::view::{View, Window};
+use window::window::window;
 
 #[tactic(auto, unfolding(crate::specs::Placed::store_placed))]
-fn store_placed(out: &mut [u8], placed: Placed) -> u64
+fn store_window(out: &mut [u8], w: Window)
     requires { 32 ≤ length out.old }
-    ensures { (result, out.new) ≡ store_placed placed out.old }
+    ensures { (0, out.new) ≡ store_placed (Windows.placed (Some w)) out.old }
 {
-    match placed {
-        Placed::Window {
-            width,
-            height,
-            x,
-            y,
-        } => {
-            store_u64(out, 0, width);
-            store_u64(out, 8, height);
-            store_i64(out, 16, x);
-            store_i64(out, 24, y);
-            0
-        }
-        Placed::Refused => 9,
-    }
+    w.width.store_at(out, 0);
+    w.height.store_at(out, 8);
+    w.x.store_at(out, 16);
+    w.y.store_at(out, 24);
 }
 
 // Width or height 0 or above 4,096 is refused by 1, a window by 9. Of bestfit and viewport, 0 is no and anything else
@@ -47,24 +37,22 @@ pub fn probe_window(
     ensures { (result, out.new) ≡ probe_window method arguments.now width height bestfit viewport
         view_width view_height view_x view_y out.old }
 {
-    let fitted = sized_fit(method, arguments, width, height);
-    let refusal = fitted.refusal;
-    if refusal != 0 {
-        return refusal;
-    }
-    let mapping = fitted.mapping;
-    let coef = mapping.coef;
-    let asked = yes(bestfit);
-    let given = yes(viewport);
-    let kind = mapping.kind;
-    let view = View {
-        bestfit: asked,
-        given,
+    let mapping = match sized_fit(method, arguments, width, height) {
+        Ok(m) => m,
+        Err(r) => return r.number(),
+    };
+    let asked = Window {
         width: view_width,
         height: view_height,
         x: view_x,
         y: view_y,
     };
-    let placed = window(kind, &coef, width, height, view);
-    store_placed(out, placed)
+    let view = View::of_numbers(bestfit, viewport, asked);
+    match window(&mapping, width, height, view) {
+        Ok(w) => {
+            store_window(out, w);
+            0
+        }
+        Err(r) => r.number(),
+    }
 }

@@ -8,28 +8,28 @@ ghost use Rattle.number.specs.Root as Root;
 ghost use Rattle.exact.specs.Power.{power};
 ghost use Rattle.number.specs.Wrapping.{wrapped};
 
-use endian::pattern::{bits_of_f32, bits_of_f64, f64_of_bits};
+use endian::pattern::Pattern;
 
 // The floor, or the least i64 outside a magnitude of 2^31.
 #[unsafe(no_mangle)]
 pub extern "C" fn probe_floor(x: u64) -> i64
     ensures { result ≡ floor_i64 (of_bits binary64 x) }
 {
-    number::floor::floor_i64(f64_of_bits(x))
+    number::floor::floor_i64(f64::of_bits(x))
 }
 
 #[unsafe(no_mangle)]
 pub extern "C" fn probe_narrow(x: u64) -> u32
     ensures { result ≡ to_bits binary32 (Narrow.narrow (of_bits binary64 x)) }
 {
-    bits_of_f32(number::narrow::narrow(f64_of_bits(x)))
+    number::narrow::narrow(f64::of_bits(x)).bits()
 }
 
 #[unsafe(no_mangle)]
 pub extern "C" fn probe_root(x: u64) -> u64
     ensures { result ≡ to_bits binary64 (Root.root (of_bits binary64 x)) }
 {
-    bits_of_f64(number::root::root(f64_of_bits(x)))
+    number::root::root(f64::of_bits(x)).bits()
 }
 
 // An exponent above 5 counts as 5.
@@ -37,7 +37,7 @@ pub extern "C" fn probe_root(x: u64) -> u64
 pub extern "C" fn probe_powi(x: u64, n: u64) -> u64
     ensures { result ≡ to_bits binary64 (power (of_bits binary64 x) n) }
 {
-    bits_of_f64(number::power::powi(f64_of_bits(x), n))
+    number::power::powi(f64::of_bits(x), n).bits()
 }
 
 #[unsafe(no_mangle)]

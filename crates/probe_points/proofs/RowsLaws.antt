@@ -15,7 +15,6 @@ use Rattle.exact.specs.Loop.{up_to}
 use Rattle.exact.specs.Sums.{asked}
 use Rattle.exact.proofs.Booleans.{or_false}
 use Rattle.exact.proofs.Loop.{up_to_join, up_to_same}
-use Rattle.exact.specs.Vector.{Vector}
 use Rattle.inverse.specs.Inverse.{inverse}
 use Rattle.inverse.specs.declared.frame.Frame.{Frame}
 use Rattle.window.specs.Extent.{good_offset}
@@ -72,15 +71,14 @@ pub product : (rows width : ℕ) → rows ≤ 4096 → width ≤ 4096 → rows *
 product rows width h k = mul-le-mul h k
 
 -- ---- the points read back
-module _ (f : Frame) (coef : Vector) (first j n place : ℕ) (us vs : List Float)
-    (s : Points f coef first j n us vs) where
+module _ (f : Frame) (first j n place : ℕ) (us vs : List Float) (s : Points f first j n us vs) where
   column : (i : ℕ) (out : List ℕ) → first ≤ i → i < first + n
-      → store_kept us vs first place i out ≡ store_column f coef j place i out
+      → store_kept us vs first place i out ≡ store_column f.mapping.now f.x f.y j place i out
   unfolding store_kept store_column
   column i out l h =
       ap (store_point out ((place + i) * 24))
       (sym (s.kept (i - first) (omega arith))
-      ∙ ap (λ (k : ℕ). inverse f.kind f.order f.count coef (asked k f.x) (asked j f.y))
+      ∙ ap (λ (k : ℕ). inverse f.mapping.now.kind f.mapping.now.order f.mapping.now.count f.mapping.now.coef (asked k f.x) (asked j f.y))
       (back first i l))
     where
       back : (a b : ℕ) → a ≤ b → a + (b - a) ≡ b
@@ -88,7 +86,7 @@ module _ (f : Frame) (coef : Vector) (first j n place : ℕ) (us vs : List Float
 
   pub span_is : (out : List ℕ)
       → up_to (store_kept us vs first place) first (first + n) out
-      ≡ up_to (store_column f coef j place) first (first + n) out
+      ≡ up_to (store_column f.mapping.now f.x f.y j place) first (first + n) out
   span_is out = up_to_same _ _ first (first + n) out (omega arith) column
 
 -- ---- a span more

@@ -3,7 +3,7 @@
 use Rattle.std.specs.Prelude.{ℕ, ◌+◌, ◌*◌, ◌/◌, ◌%◌, Bool, cond, not, ◌||◌, List, eqb, length, Float}
 use Rattle.exact.specs.Loop.{up_to}
 use Rattle.endian.specs.Bytes.{f64_at}
-use Rattle.mappings.specs.declared.mapping.Fitted.{Fitted}
+use Rattle.mappings.specs.Mapping.{Fitted}
 use Rattle.mappings.specs.declared.mapping.Mapping.{Mapping}
 use Rattle.inverse.specs.Inverse.{inverse}
 use Rattle.probe_points.specs.Pointed.{store_point}
@@ -14,12 +14,13 @@ unfoldable pub wrong_lengths : ℕ → ℕ → Bool
 wrong_lengths points out = not (eqb (points % 16) 0) || (not (eqb (out % 24) 0) || not (eqb (points / 16) (out / 24)))
 
 -- the point numbered k
-unfoldable pub store_next : ℕ → ℕ → ℕ → List Float → List ℕ → ℕ → List ℕ → List ℕ
-store_next kind order count coef points k out =
-    store_point out (k * 24) (inverse kind order count coef (f64_at points (k * 16)) (f64_at points (k * 16 + 8)))
+unfoldable pub store_next : Mapping → List ℕ → ℕ → List ℕ → List ℕ
+store_next m points k out =
+    store_point out (k * 24)
+    (inverse m.kind m.order m.count m.coef (f64_at points (k * 16)) (f64_at points (k * 16 + 8)))
 
 abbrev pub store_all : Mapping → List ℕ → List ℕ → List ℕ
-store_all m points out = up_to (store_next m.kind m.order m.count m.coef points) 0 (length points / 16) out
+store_all m points out = up_to (store_next m points) 0 (length points / 16) out
 
 unfoldable pub points_of : Fitted → List ℕ → List ℕ → ℕ × List ℕ
 points_of f points out =

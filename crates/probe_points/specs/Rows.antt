@@ -4,13 +4,11 @@ use Rattle.std.specs.Prelude.{ℕ, ◌+◌, ◌-◌, ◌*◌, Bool, cond, not, �
 use Rattle.exact.specs.Limits.{largest_side}
 use Rattle.exact.specs.Loop.{up_to}
 use Rattle.exact.specs.Sums.{asked}
-use Rattle.exact.specs.Vector.{Vector, at}
-use Rattle.mappings.specs.declared.mapping.Fitted.{Fitted}
+use Rattle.exact.specs.Vector.{at}
+use Rattle.mappings.specs.Mapping.{Fitted}
 use Rattle.mappings.specs.declared.mapping.Mapping.{Mapping}
 use Rattle.point.specs.Point.{point}
-use Rattle.inverse.specs.Frame.{frame_of}
 use Rattle.inverse.specs.Inverse.{inverse}
-use Rattle.inverse.specs.declared.frame.Frame.{Frame}
 use Rattle.window.specs.Extent.{good_offset}
 use Rattle.probe_points.specs.Pointed.{store_point}
 use Rattle.probe_fit.specs.Sized.{sized_fit}
@@ -19,15 +17,14 @@ use Rattle.probe_fit.specs.Sized.{sized_fit}
 unfoldable pub store_kept : List Float → List Float → ℕ → ℕ → ℕ → List ℕ → List ℕ
 store_kept us vs first place i out = store_point out ((place + i) * 24) (point (at us (i - first)) (at vs (i - first)))
 
--- column i of row j, of the frame's window
-unfoldable pub store_column : Frame → Vector → ℕ → ℕ → ℕ → List ℕ → List ℕ
-store_column f coef j place i out =
-    store_point out ((place + i) * 24)
-    (inverse f.kind f.order f.count coef (asked i f.x) (asked j f.y))
+-- column i of row j, of a window at x, y
+unfoldable pub store_column : Mapping → ℤ → ℤ → ℕ → ℕ → ℕ → List ℕ → List ℕ
+store_column m x y j place i out =
+    store_point out ((place + i) * 24) (inverse m.kind m.order m.count m.coef (asked i x) (asked j y))
 
 -- the row numbered r of those from `first` on
-unfoldable pub store_row : Frame → Vector → ℕ → ℕ → ℕ → List ℕ → List ℕ
-store_row f coef width first r out = up_to (store_column f coef (first + r) (r * width)) 0 width out
+unfoldable pub store_row : Mapping → ℤ → ℤ → ℕ → ℕ → ℕ → List ℕ → List ℕ
+store_row m x y width first r out = up_to (store_column m x y (first + r) (r * width)) 0 width out
 
 -- beyond the limits of a window, or not 24 bytes for each point
 unfoldable pub wrong_rows : ℕ → ℤ → ℤ → ℕ → ℕ → ℕ → Bool
@@ -37,7 +34,7 @@ wrong_rows width x y first rows out =
     || (ltb largest_side (first + rows) || not (eqb out (rows * width * 24)))))
 
 abbrev pub store_rows : Mapping → ℤ → ℤ → ℕ → ℕ → ℕ → List ℕ → List ℕ
-store_rows m x y width first rows out = up_to (store_row (frame_of m x y) m.coef width first) 0 rows out
+store_rows m x y width first rows out = up_to (store_row m x y width first) 0 rows out
 
 unfoldable pub rows_answer : Fitted → ℕ → ℤ → ℤ → ℕ → ℕ → List ℕ → ℕ × List ℕ
 rows_answer f width x y first rows out =

@@ -4,8 +4,9 @@ ghost use Rattle.exact.specs.Loop.{up_to};
 ghost use Rattle.probe_points.specs.Points.{wrong_lengths, store_next, probe_points};
 
 use crate::pointed::store_point;
-use endian::bytes::f64_at;
+use endian::bytes::ReadAt;
 use inverse::source::inverse;
+use mappings::mapping::Mapping;
 use probe_fit::sized::sized_fit;
 
 // Points of 16 bytes go in, points of 24 come out, as many.
@@ -15,23 +16,15 @@ fn wrong_lengths(points: usize, out: usize) -> bool
     (points % 16 != 0) | ((out % 24 != 0) | (points / 16 != out / 24))
 }
 
-fn store_points(
-    out: &mut [u8],
-    points: &[u8],
-    kind: u64,
-    order: u64,
-    count: u64,
-    coef: &[f64; 256],
-    n: usize,
-)
+fn store_points(out: &mut [u8], points: &[u8], mapping: &Mapping, n: usize)
     requires { (n * 24 ≤ length out.old) × (n * 16 ≤ length points.now) }
-    ensures { out.new ≡ up_to (store_next kind order count coef.now points.now) 0 n
+    ensures { out.new ≡ up_to (store_next mapping.now points.now) 0 n
         out.old }
 {
     for k in 0..n {
-        let x = f64_at(points, k * 16);
-        let y = f64_at(points, k * 16 + 8);
-        let p = inverse(kind, order, count, coef, x, y);
+        let x = f64::read_at(points, k * 16);
+        let y = f64::read_at(points, k * 16 + 8);
+        let p = inverse(mapping, x, y);
         store_point(out, k * 24, p);
     }
 }
@@ -49,24 +42,13 @@ pub extern "C" fn probe_points(
     ensures { (result, out.new) ≡ probe_points method arguments.now width height
         points.now out.old }
 {
-    let fitted = sized_fit(method, arguments, width, height);
-    let refusal = fitted.refusal;
-    if refusal != 0 {
-        return refusal;
-    }
+    let mapping = match sized_fit(method, arguments, width, height) {
+        Ok(m) => m,
+        Err(r) => return r.number(),
+    };
     if wrong_lengths(points.len(), out.len()) {
         return 12;
     }
-    let mapping = fitted.mapping;
-    let coef = mapping.coef;
-    store_points(
-        out,
-        points,
-        mapping.kind,
-        mapping.order,
-        mapping.count,
-        &coef,
-        points.len() / 16,
-    );
+    store_points(out, points, &mapping, points.len() / 16);
     0
 }

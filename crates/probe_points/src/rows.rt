@@ -1,13 +1,13 @@
 // Source points in bytes, whole rows of a window by one fit and worked as the call works them, in spans: so that
 // what is measured is what the product does. Assumes nothing.
-ghost use Rattle.std.specs.Prelude.{◌≡◌, ◌+◌, ◌*◌, ◌≤◌, nat_abs, length};
-ghost use Rattle.exact.specs.Limits.{largest_offset, largest_side, longest_span};
+ghost use Rattle.std.specs.Prelude.{◌≡◌, ◌+◌, ◌*◌, ◌≤◌, length};
+ghost use Rattle.exact.specs.Limits.{largest_side, longest_span};
 ghost use Rattle.exact.specs.Loop.{up_to};
 ghost use Rattle.probe_points.specs.Rows.{store_kept, store_column, store_row, wrong_rows, probe_rows};
 
 use crate::pointed::store_point;
 use fast_points::points::{next_span, points};
-use inverse::frame::{Frame, frame_of};
+use inverse::frame::Frame;
 use point::usable::point;
 use probe_fit::sized::sized_fit;
 use window::extent::{LARGEST_SIDE, good_offset};
@@ -24,68 +24,43 @@ fn store_kept(us: &[f64; 64], vs: &[f64; 64], first: usize, n: usize, place: usi
     }
 }
 
-fn store_span_points(
-    out: &mut [u8],
-    frame: Frame,
-    coef: &[f64; 256],
-    first: u64,
-    j: u64,
-    n: usize,
-    place: usize,
-)
+fn store_span_points(out: &mut [u8], frame: Frame, first: u64, j: u64, n: usize, place: usize)
     requires n_le_longest_span { (n ≤ longest_span) × ((first + n ≤ largest_side) × (j ≤ largest_side)) }
-    requires x_bound { (nat_abs frame.x ≤ largest_offset) × (nat_abs frame.y ≤ largest_offset) }
     requires n_in_bounds { (place + (first + n)) * 24 ≤ length out.old }
-    ensures { out.new ≡ up_to (store_column frame coef.now j place) first
+    ensures { out.new ≡ up_to (store_column frame.entry.mapping.now frame.entry.x frame.entry.y j place) first
         (first + n) out.old }
 {
     let mut us = [0.0; 64];
     let mut vs = [0.0; 64];
-    points(frame, coef, first, j, n, &mut us, &mut vs);
+    points(frame, first, j, n, &mut us, &mut vs);
     store_kept(&us, &vs, first as usize, n, place, out);
 }
 
 // Row j of a window of this width.
-fn store_row_points(
-    out: &mut [u8],
-    frame: Frame,
-    coef: &[f64; 256],
-    width: u64,
-    j: u64,
-    place: usize,
-)
+fn store_row_points(out: &mut [u8], frame: Frame, width: u64, j: u64, place: usize)
     requires width_le_largest_side { (width ≤ largest_side) × (j ≤ largest_side) }
-    requires x_bound { (nat_abs frame.x ≤ largest_offset) × (nat_abs frame.y ≤ largest_offset) }
     requires width_in_bounds { (place + width) * 24 ≤ length out.old }
-    ensures { out.new ≡ up_to (store_column frame coef.now j place) 0 width
+    ensures { out.new ≡ up_to (store_column frame.entry.mapping.now frame.entry.x frame.entry.y j place) 0 width
         out.old }
 {
     let mut i = 0;
     while i < width {
         let n = next_span(width - i);
-        store_span_points(out, frame, coef, i, j, n, place);
+        store_span_points(out, frame, i, j, n, place);
         i = i + n as u64;
     }
 }
 
 // Rows from `first` on.
-fn store_rows_points(
-    out: &mut [u8],
-    frame: Frame,
-    coef: &[f64; 256],
-    width: u64,
-    first: u64,
-    rows: u64,
-)
+fn store_rows_points(out: &mut [u8], frame: Frame, width: u64, first: u64, rows: u64)
     requires width_le_largest_side { (width ≤ largest_side) × (first + rows ≤ largest_side) }
-    requires x_bound { (nat_abs frame.x ≤ largest_offset) × (nat_abs frame.y ≤ largest_offset) }
     requires out_len { length out.old ≡ rows * width * 24 }
-    ensures { out.new ≡ up_to (store_row frame coef.now width first) 0 rows
+    ensures { out.new ≡ up_to (store_row frame.entry.mapping.now frame.entry.x frame.entry.y width first) 0 rows
         out.old }
 {
     for r in 0..rows {
         let place = r * width;
-        store_row_points(out, frame, coef, width, first + r, place as usize);
+        store_row_points(out, frame, width, first + r, place as usize);
     }
 }
 
@@ -122,17 +97,18 @@ pub extern "C" fn probe_rows(
     ensures { (result, out.new) ≡ probe_rows method arguments.now width height x y first rows
         out.old }
 {
-    let fitted = sized_fit(method, arguments, width, height);
-    let refusal = fitted.refusal;
-    if refusal != 0 {
-        return refusal;
-    }
+    let mapping = match sized_fit(method, arguments, width, height) {
+        Ok(m) => m,
+        Err(r) => return r.number(),
+    };
     if wrong_rows(width, x, y, first, rows, out.len()) {
         return 12;
     }
-    let mapping = fitted.mapping;
-    let coef = mapping.coef;
-    let frame = frame_of(mapping, x, y);
-    store_rows_points(out, frame, &coef, width, first, rows);
+    let frame = Frame {
+        mapping: &mapping,
+        x,
+        y,
+    };
+    store_rows_points(out, frame, width, first, rows);
     0
 }

@@ -10,10 +10,10 @@ use lib.Ieee.{binary64, of_bits}
 use borrow.Author.Tests.{not-false}
 use Rattle.probe_sampler.specs.Sampled.{sample_count, wrong_picture, wrong_codes, large, far_coordinate, unfit_sample}
 use Rattle.taps.specs.Cell.{index_limit, Reached}
-use Rattle.picture.specs.Pixel.{Shaped, Inside}
+use Rattle.picture.specs.Pixel.{Shaped, Picture}
 use Rattle.picture.specs.Size.{bad_size, bad_stock}
 use Rattle.picture.specs.declared.shape.Shape.{Shape}
-use Rattle.picture.proofs.SizeLaws.{picture_fit, one_pixel}
+use Rattle.picture.proofs.SizeLaws.{picture_fit, pixel_picture}
 use Rattle.exact.proofs.Booleans.{or_false}
 use Rattle.number.specs.Magnitude.{within}
 
@@ -35,7 +35,7 @@ reached x h = holds (within index_limit (of_bits binary64 x)) (not-false (within
 pub outside_fit : (bytes : List ℕ) (s : Shape) (policy code : ℕ) (background : List ℕ) (x y : ℕ)
     → unfit_sample bytes s policy code background x y ≡ false
     → Shaped bytes s
-    × ((length background ≡ 16 → Inside background 1 4 0 0)
+    × ((length background ≡ 16 → Picture background 1 1 4)
     × (Reached (of_bits binary64 x) × Reached (of_bits binary64 y)))
 unfolding unfit_sample large
 outside_fit bytes s policy code background x y f =
@@ -49,5 +49,5 @@ outside_fit bytes s policy code background x y f =
     let l = or_false (far_coordinate x) (far_coordinate y) k.1 in
     let z = shape_fit bytes s t.0 in (
       picture_fit bytes s.width s.height s.channels z.0 z.1 v.0,
-      (λ e. one_pixel background e k.0, (reached x l.0, reached y l.1)),
+      (λ e. pixel_picture background e k.0, (reached x l.0, reached y l.1)),
     )

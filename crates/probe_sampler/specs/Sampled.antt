@@ -1,6 +1,6 @@
 -- The sampler handed out: 0 with the colour's bits in the bytes lent, or 1 outside the domain, where nothing is
 -- written. Assumes nothing.
-use Rattle.std.specs.Prelude.{ℕ, ◌*◌, Bool, not, cond, ◌||◌, List, ltb}
+use Rattle.std.specs.Prelude.{ℕ, ◌*◌, Bool, not, cond, ◌||◌, List, ltb, Float}
 use Rattle.std.specs.Float.{binary64}
 use Rattle.std.specs.Float.Ieee.{of_bits}
 use Rattle.number.specs.Magnitude.{within}
@@ -39,10 +39,13 @@ unfit_sample bytes s policy code background x y =
 
 -- ---- the answers
 -- the colour at a point, by the bits of its coordinates, as the pixel numbered k
-abbrev pub store_colour : List ℕ → ℕ → ℕ → ℕ → ℕ → ℕ → Rgba → ℕ → ℕ → List ℕ → ℕ → List ℕ
-store_colour bytes width height channels policy code background x y out k =
-    store_pixel out 4 k (interpolate bytes width height channels policy code background (of_bits binary64 x)
-    (of_bits binary64 y))
+abbrev pub store_colour : (Float → Float → Rgba) → ℕ → ℕ → List ℕ → ℕ → List ℕ
+store_colour colour x y out k = store_pixel out 4 k (colour (of_bits binary64 x) (of_bits binary64 y))
+
+-- the colours of a picture under a policy by an interpolation; the background in bytes is a picture of one pixel
+abbrev pub colours : List ℕ → Shape → ℕ → ℕ → List ℕ → Float → Float → Rgba
+colours bytes s policy code background =
+    interpolate bytes s.width s.height s.channels policy code (pixel_at background 1 4 0 0)
 
 abbrev pub shape_of : ℕ → ℕ → ℕ → Shape
 shape_of width height channels = record { width = width; height = height; channels = channels }
@@ -50,4 +53,4 @@ shape_of width height channels = record { width = width; height = height; channe
 unfoldable pub probe_interpolate : List ℕ → ℕ → ℕ → ℕ → ℕ → ℕ → List ℕ → ℕ → ℕ → List ℕ → ℕ × List ℕ
 probe_interpolate bytes width height channels policy code background x y out =
     cond (unfit_sample bytes (shape_of width height channels) policy code background x y) (1, out)
-    (0, store_colour bytes width height channels policy code (pixel_at background 1 4 0 0) x y out 0)
+    (0, store_colour (colours bytes (shape_of width height channels) policy code background) x y out 0)

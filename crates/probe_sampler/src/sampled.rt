@@ -1,5 +1,5 @@
 // The sampler in bytes: a colour. Assumes nothing.
-ghost use Rattle.std.specs.Prelude.{◌≡◌, ◌+◌, ◌*◌, ◌≤◌, length};
+ghost use Rattle.std.specs.Prelude.{◌≡◌, ℕ, ◌+◌, ◌*◌, ◌≤◌, length};
 ghost use Rattle.std.specs.Float.{binary64};
 ghost use Rattle.std.specs.Float.Ieee.{of_bits};
 ghost use Rattle.probe_sampler.specs.Sampled.{
@@ -8,21 +8,25 @@ ghost use Rattle.probe_sampler.specs.Sampled.{
   far_coordinate,
   unfit_sample,
   store_colour,
+  colours,
   probe_interpolate,
 };
 ghost use Rattle.taps.specs.Cell.{Reached};
-ghost use Rattle.picture.specs.Pixel.{Picture};
+ghost use Rattle.taps.specs.Interpolation.{interpolation};
+ghost use Rattle.picture.specs.Pixel as Pixel;
+ghost use Rattle.picture.specs.Pixel.{Shaped};
+ghost use Rattle.sampler.specs.Sampled.{sampled};
 
-use endian::pattern::{f64_bits_within, f64_of_bits};
-use picture::colour::Rgba;
-use picture::pixel::pixel_at;
+use endian::pattern::Pattern;
+use picture::picture::Picture;
 use picture::shape::Shape;
 use picture::size::{bad_size, bad_stock};
 use picture::store::store_pixel;
-use policies::policy::RANDOM;
+use policies::policy::Policy;
 use sample_limit::large::large;
 use sampler::interpolate::interpolate_at;
-use taps::interpolation::BACKGROUND;
+use taps::interpolation::Interpolation;
+use taps::sampler::Sampler;
 
 fn wrong_picture(picture: &[u8], shape: Shape) -> bool
     ensures { result ≡ wrong_picture picture.now shape }
@@ -36,13 +40,13 @@ fn wrong_picture(picture: &[u8], shape: Shape) -> bool
 fn wrong_codes(policy: u64, code: u64) -> bool
     ensures { result ≡ wrong_codes policy code }
 {
-    (RANDOM < policy) | (BACKGROUND < code)
+    Policy::try_from(policy).is_err() | Interpolation::try_from(code).is_err()
 }
 
 pub fn far_coordinate(x: u64) -> bool
     ensures { result ≡ far_coordinate x }
 {
-    !f64_bits_within(x, 0x41d0_0000_0040_0000)
+    !f64::bits_within(x, 0x41d0_0000_0040_0000)
 }
 
 pub fn unfit_sample(
@@ -77,37 +81,36 @@ pub fn unfit_sample(
     far_coordinate(y)
 }
 
-// The colour at a point of the domain, as the pixel numbered k.
-pub fn store_colour(
-    picture: &[u8],
-    width: u64,
-    height: u64,
-    channels: u64,
+// How the picture is read, where none of the tests applied.
+pub fn sampler_of<'a>(
+    picture: &'a [u8],
+    shape: Shape,
     policy: u64,
-    code: u64,
-    background: Rgba,
-    x: u64,
-    y: u64,
-    out: &mut [u8],
-    k: u64,
-)
-    requires picture { Picture picture.now width height channels }
+    background: &[u8; 16],
+) -> Sampler<'a>
+    requires shaped { Shaped picture.now shape }
+    requires one_pixel { Pixel.Picture background.now 1 1 4 }
+    ensures { (code : ℕ) → sampled result (interpolation code) ≡ colours picture.now shape policy code background.now }
+{
+    let one = Shape {
+        width: 1,
+        height: 1,
+        channels: 4,
+    };
+    Sampler {
+        picture: Picture::new(picture, shape),
+        policy: Policy::of_code(policy),
+        background: Picture::new(background, one).pixel_at(0, 0),
+    }
+}
+
+// The colour at a point of the domain, as the pixel numbered k.
+pub fn store_colour(s: Sampler, i: Interpolation, x: u64, y: u64, out: &mut [u8], k: u64)
     requires reached { Reached (of_bits binary64 x) × Reached (of_bits binary64 y) }
     requires k_in_bounds { (k * 4 + 4) * 4 ≤ length out.old }
-    ensures { out.new ≡ store_colour picture.now width height channels policy code background x y
-        out.old k }
+    ensures { out.new ≡ store_colour (sampled s.entry i) x y out.old k }
 {
-    let c = interpolate_at(
-        picture,
-        width,
-        height,
-        channels,
-        policy,
-        code,
-        background,
-        f64_of_bits(x),
-        f64_of_bits(y),
-    );
+    let c = interpolate_at(s, i, f64::of_bits(x), f64::of_bits(y));
     store_pixel(out, 4, k, c);
 }
 
@@ -135,18 +138,7 @@ pub extern "C" fn probe_interpolate(
     if unfit_sample(picture, shape, policy, interpolation, background, x, y) {
         return 1;
     }
-    store_colour(
-        picture,
-        width,
-        height,
-        channels,
-        policy,
-        interpolation,
-        pixel_at(background, 1, 4, 0, 0),
-        x,
-        y,
-        out,
-        0,
-    );
+    let s = sampler_of(picture, shape, policy, background);
+    store_colour(s, Interpolation::of_code(interpolation), x, y, out, 0);
     0
 }

@@ -2,10 +2,10 @@
 ghost use Rattle.std.specs.Prelude.{◌≡◌};
 ghost use Rattle.probe_sampler.specs.Weights.{no_fraction, store_weights, probe_cubic};
 
-use cubic::cubic::{catrom_row, cubic_weights, spline_row};
-use endian::bytes::store_f32;
-use endian::pattern::f32_of_bits;
-use taps::interpolation::{CATROM, SPLINE};
+use cubic::cubic::{Catrom, Kernel, Spline, cubic_weights};
+use endian::bytes::StoreAt;
+use endian::pattern::Pattern;
+use taps::interpolation::Interpolation;
 
 fn no_fraction(t: f32) -> bool
     ensures { result ≡ no_fraction t }
@@ -16,27 +16,24 @@ fn no_fraction(t: f32) -> bool
 fn store_weights(out: &mut [u8; 16], w: [f32; 4])
     ensures { out.new ≡ store_weights out.old w }
 {
-    store_f32(out, 0, w[0]);
-    store_f32(out, 4, w[1]);
-    store_f32(out, 8, w[2]);
-    store_f32(out, 12, w[3]);
+    w[0].store_at(out, 0);
+    w[1].store_at(out, 4);
+    w[2].store_at(out, 8);
+    w[3].store_at(out, 12);
 }
 
 #[unsafe(no_mangle)]
 pub extern "C" fn probe_cubic(interpolation: u64, t: u32, out: &mut [u8; 16]) -> u64
     ensures { (result, out.new) ≡ probe_cubic interpolation t out.old }
 {
-    let f = f32_of_bits(t);
+    let f = f32::of_bits(t);
     if no_fraction(f) {
         return 1;
     }
-    if interpolation == CATROM {
-        store_weights(out, cubic_weights(f, catrom_row()));
-        return 0;
+    match Interpolation::of_code(interpolation) {
+        Interpolation::Catrom => store_weights(out, cubic_weights(f, Catrom::row())),
+        Interpolation::Spline => store_weights(out, cubic_weights(f, Spline::row())),
+        _ => return 1,
     }
-    if interpolation == SPLINE {
-        store_weights(out, cubic_weights(f, spline_row()));
-        return 0;
-    }
-    1
+    0
 }

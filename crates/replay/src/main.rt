@@ -4,80 +4,58 @@
 // width, view height, view x, view y, first row, rows, the lengths of picture, arguments and band, the refusal), 16
 // bytes of background and 16 of matte, the picture, the arguments, and of an accepted job the answer's 48 bytes and the
 // band. Nothing is longer than 4,096 bytes. No contract can speak of a file: what compares has one, and all is safe and
-// ends.
+// ends. None is the answer wherever the file ends too early or has another form.
 #![tactic(auto)]
 
 ghost use Rattle.std.specs.Prelude.{◌≡◌, ◌&&◌, ◌≤◌, take};
-ghost use Rattle.endian.specs.Bytes.{twos_complement};
 ghost use Rattle.replay.specs.Same as Same;
 
 use band::rows::Rows;
-use distort::answer::{Answer, store_answer};
+use distort::answer::{Output, store_answer};
 use distort::call::distort;
 use distort::job::Job;
-use endian::bytes::u64_at;
+use endian::bytes::ReadAt;
 use picture::shape::Shape;
+use refusals::Refusal;
 use std::io;
 use std::io::{Read, Stdin};
-use window::view::{View, yes};
+use window::view::{View, Window};
 
-// How a job ended; Broken is a file that ends too early or has another form.
-#[derive(Drop)]
-enum Outcome {
-    Right,
-    Wrong,
-    Broken,
+// A job as it stands in the file: its 18 numbers, and then what they give the lengths of.
+#[derive(Clone, Copy)]
+struct Case<'a> {
+    head: &'a [u8; 144],
+    background: &'a [u8; 16],
+    matte: &'a [u8; 16],
+    picture: &'a [u8],
+    arguments: &'a [u8],
+    answer: &'a [u8; 48],
+    expected: &'a [u8],
 }
 
 fn same(a: &[u8], b: &[u8]) -> bool
     ensures { result ≡ Same.same a.now b.now }
 {
-    if a.len() != b.len() {
-        return false;
-    }
-    let mut t = true;
-    for k in 0..a.len() {
-        t = t & (a[k] == b[k]);
-    }
-    t
+    a == b
 }
 
 fn agree(got: &[u8; 48], answer: &[u8; 48], band: &[u8], expected: &[u8]) -> bool
     ensures { result ≡ Same.same got.now answer.now
         && Same.same band.now expected.now }
 {
-    if !same(got, answer) {
-        return false;
-    }
-    same(band, expected)
+    same(got, answer) && same(band, expected)
 }
 
 // All of it where it is shorter.
 fn first(s: &[u8], n: usize) -> &[u8]
     ensures { result.now ≡ take n s.now }
 {
-    if n > s.len() {
-        return s;
-    }
-    &s[..n]
+    s.get(..n).unwrap_or(s)
 }
 
-fn signed(bits: u64) -> i64
-    ensures { twos_complement result ≡ bits }
-{
-    if bits < 9223372036854775808 {
-        bits as i64
-    } else {
-        -1 - ((18446744073709551615 - bits) as i64)
-    }
-}
-
-// Whether the buffer has room for n bytes and the input has them.
-fn fill(input: &mut Stdin, buffer: &mut [u8], n: usize) -> bool {
-    if n > buffer.len() {
-        return false;
-    }
-    input.read_exact(&mut buffer[..n]).is_ok()
+// The first n bytes of the buffer are read; none where it has no room for them.
+fn fill(input: &mut Stdin, buffer: &mut [u8], n: usize) -> Option<()> {
+    input.read_exact(buffer.get_mut(..n)?).ok()
 }
 
 // The stored answer and band, which a refused job has not.
@@ -87,45 +65,36 @@ fn stored(
     answer: &mut [u8; 48],
     expected: &mut [u8],
     n: usize,
-) -> bool {
-    if u64_at(head, 136) != 0 {
-        return true;
+) -> Option<()> {
+    if u64::read_at(head, 136) == 0 {
+        fill(input, answer, 48)?;
+        fill(input, expected, n)?;
     }
-    if !fill(input, answer, 48) {
-        return false;
-    }
-    fill(input, expected, n)
+    Some(())
 }
 
 // The word numbered k of a job's head.
 fn word(head: &[u8; 144], k: usize) -> u64
     requires { k ≤ 17 }
 {
-    u64_at(head, 8 * k)
+    u64::read_at(head, 8 * k)
 }
 
 // The call of a job.
-fn call(
-    head: &[u8; 144],
-    background: &[u8; 16],
-    matte: &[u8; 16],
-    picture: &[u8],
-    arguments: &[u8],
-    band: &mut [u8],
-) -> Answer {
+fn call(s: Case, band: &mut [u8]) -> Result<Output, Refusal> {
+    let head = s.head;
     let shape = Shape {
         width: word(head, 0),
         height: word(head, 1),
         channels: word(head, 2),
     };
-    let view = View {
-        bestfit: yes(word(head, 6)),
-        given: yes(word(head, 7)),
+    let asked = Window {
         width: word(head, 8),
         height: word(head, 9),
-        x: signed(word(head, 10)),
-        y: signed(word(head, 11)),
+        x: word(head, 10).cast_signed(),
+        y: word(head, 11).cast_signed(),
     };
+    let view = View::of_numbers(word(head, 6), word(head, 7), asked);
     let rows = Rows {
         first: word(head, 12),
         count: word(head, 13),
@@ -138,113 +107,69 @@ fn call(
         view,
         rows,
     };
-    distort(picture, arguments, background, matte, job, band)
+    distort(s.picture, s.arguments, s.background, s.matte, job, band)
 }
 
 // Whether the call answers as stored: a refusal leaves band and answer as they were.
-fn answers(
-    head: &[u8; 144],
-    background: &[u8; 16],
-    matte: &[u8; 16],
-    picture: &[u8],
-    arguments: &[u8],
-    answer: &[u8; 48],
-    expected: &[u8],
-    band: &mut [u8],
-) -> bool {
+fn answers(s: Case, band: &mut [u8]) -> bool {
     let mut got = [90u8; 48];
-    let answered = call(head, background, matte, picture, arguments, band);
-    if store_answer(answered, &mut got) != u64_at(head, 136) {
-        return false;
-    }
-    agree(&got, answer, band, expected)
+    let (head, answer, expected) = (s.head, s.answer, s.expected);
+    let answered = call(s, band);
+    store_answer(answered, &mut got) == u64::read_at(head, 136)
+        && agree(&got, answer, band, expected)
 }
 
 // With a band as long as the expected one.
-fn replay(
-    head: &[u8; 144],
-    background: &[u8; 16],
-    matte: &[u8; 16],
-    picture: &[u8],
-    arguments: &[u8],
-    answer: &[u8; 48],
-    expected: &[u8],
-) -> Outcome {
+fn replay(s: Case) -> Option<bool> {
     let mut band = [90u8; 4096];
-    let n = expected.len();
-    if n > 4096 {
-        return Outcome::Broken;
-    }
-    if answers(
-        head,
-        background,
-        matte,
-        picture,
-        arguments,
-        answer,
-        expected,
-        &mut band[..n],
-    ) {
-        return Outcome::Right;
-    }
-    Outcome::Wrong
+    let n = s.expected.len();
+    Some(answers(s, band.get_mut(..n)?))
 }
 
-// A job after its numbers.
-fn rest(input: &mut Stdin, head: &[u8; 144]) -> Outcome {
+// A job after its numbers, and whether it is answered as it should be.
+fn rest(input: &mut Stdin, head: &[u8; 144]) -> Option<bool> {
     let mut background = [0u8; 16];
     let mut matte = [0u8; 16];
     let mut picture = [0u8; 4096];
     let mut arguments = [0u8; 4096];
     let mut answer = [90u8; 48];
     let mut expected = [90u8; 4096];
-    let picture_length = u64_at(head, 112) as usize;
-    let arguments_length = u64_at(head, 120) as usize;
-    let band_length = u64_at(head, 128) as usize;
+    let picture_length = u64::read_at(head, 112) as usize;
+    let arguments_length = u64::read_at(head, 120) as usize;
+    let band_length = u64::read_at(head, 128) as usize;
     if band_length > 4096 {
-        return Outcome::Broken;
+        return None;
     }
-    let mut whole = fill(input, &mut background, 16);
-    whole = whole & fill(input, &mut matte, 16);
-    whole = whole & fill(input, &mut picture, picture_length);
-    whole = whole & fill(input, &mut arguments, arguments_length);
-    whole = whole & stored(input, head, &mut answer, &mut expected, band_length);
-    if !whole {
-        return Outcome::Broken;
-    }
-    replay(
+    fill(input, &mut background, 16)?;
+    fill(input, &mut matte, 16)?;
+    fill(input, &mut picture, picture_length)?;
+    fill(input, &mut arguments, arguments_length)?;
+    stored(input, head, &mut answer, &mut expected, band_length)?;
+    replay(Case {
         head,
-        &background,
-        &matte,
-        first(&picture, picture_length),
-        first(&arguments, arguments_length),
-        &answer,
-        first(&expected, band_length),
-    )
+        background: &background,
+        matte: &matte,
+        picture: first(&picture, picture_length),
+        arguments: first(&arguments, arguments_length),
+        answer: &answer,
+        expected: first(&expected, band_length),
+    })
 }
 
-fn job(input: &mut Stdin) -> Outcome {
+fn job(input: &mut Stdin) -> Option<bool> {
     let mut head = [0u8; 144];
-    if !fill(input, &mut head, 144) {
-        return Outcome::Broken;
-    }
+    fill(input, &mut head, 144)?;
     rest(input, &head)
 }
 
-// How many jobs there are, after the text; none where the file has another form.
-fn begin(input: &mut Stdin) -> u64 {
+// How many jobs there are, after the text.
+fn begin(input: &mut Stdin) -> Option<u64> {
     let mut number = [0u8; 8];
     let mut text = [0u8; 4096];
-    if !fill(input, &mut number, 8) {
-        return 0;
-    }
-    if !fill(input, &mut text, u64_at(&number, 0) as usize) {
-        return 0;
-    }
-    if !fill(input, &mut number, 8) {
-        return 0;
-    }
-    u64_at(&number, 0)
+    fill(input, &mut number, 8)?;
+    fill(input, &mut text, u64::read_at(&number, 0) as usize)?;
+    fill(input, &mut number, 8)?;
+    Some(u64::read_at(&number, 0))
 }
 
 fn print(rt: &impl Print, passed: u64, failed: u64) -> io::Result<()> {
@@ -255,17 +180,12 @@ fn print(rt: &impl Print, passed: u64, failed: u64) -> io::Result<()> {
 fn passed(input: &mut Stdin, jobs: u64) -> u64
     ensures { result ≤ jobs }
 {
-    let mut n: u64 = 0;
+    let mut n = 0;
     for k in 0..jobs {
-        match job(input) {
-            Outcome::Right => {
-                n = n + 1;
-            }
-            Outcome::Wrong => {}
-            Outcome::Broken => {
-                return n;
-            }
-        }
+        let Some(right) = job(input) else {
+            break;
+        };
+        n += u64::from(right);
     }
     n
 }
@@ -273,7 +193,7 @@ fn passed(input: &mut Stdin, jobs: u64) -> u64
 // A file without jobs is one failure.
 fn main(rt: HostRuntime) -> io::Result<()> {
     let mut input = rt.stdin();
-    let jobs = begin(&mut input);
+    let jobs = begin(&mut input).unwrap_or(0);
     if jobs == 0 {
         return print(&rt, 0, 1);
     }

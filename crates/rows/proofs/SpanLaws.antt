@@ -5,11 +5,11 @@ use mathlib.Core.Path.{◌≡◌, refl, sym, ap, ap₂, ◌∙◌, subst, subst�
 use mathlib.Core.Bool.{cond}
 use mathlib.Core.List.{List, ◌++◌, append_assoc}
 use Prim.Native.Nat.{ℕ, ◌+◌, ◌-◌, ◌*◌, ◌≤◌, ◌<◌}
-use native.Mathlib.Nat.{le_trans, mul-one, mul-le-mul_right}
+use native.Mathlib.Nat.{mul-one}
 use native.Mathlib.Omega.{arith}
 use lib.Ieee.{Float}
 use lib.ListN.{length, take, drop}
-use Rattle.exact.specs.Vector.{Vector, at}
+use Rattle.exact.specs.Vector.{at}
 use Rattle.inverse.specs.declared.frame.Frame.{Frame}
 use Rattle.point.specs.declared.point.Point.{Point}
 use Rattle.picture.specs.declared.colour.Rgba.{Rgba}
@@ -34,10 +34,10 @@ use Rattle.band.proofs.PixelLaws.{SoFar, so_far_next, pixel_length}
 use Rattle.band.proofs.RowLaws.{RowHolds}
 
 -- ---- the points read back
-module _ (s : Source) (frame : Frame) (coef : Vector) (first j n : ℕ) (us vs : List Float)
-    (P : Points frame coef first j n us vs) where
+module _ (s : Source) (frame : Frame) (first j n : ℕ) (us vs : List Float)
+    (P : Points frame first j n us vs) where
   abbrev f : Mapped
-  f = framed coef frame
+  f = framed frame
 
   pub span_mattes : totalled (λ (k : ℕ). kept_matte_pixels (at us k) (at vs k)) n ≡ totalled
       (λ (k : ℕ). matte_pixels_at f (first + k) j) n
@@ -106,23 +106,6 @@ module _ {out_channels out-width pixel : ℕ} {f : ℕ → Rgba} {g : ℕ → �
       more : (m i r n : ℕ) → m ≤ i → r ≤ n → m + r ≤ i + n
       more m i r n a c = omega arith
 
--- a span of what is left stays within the row, and so do its pixel and what is counted
+-- a span of what is left stays within the row
 pub within_row : (i n out-width : ℕ) → i < out-width → n ≤ out-width - i → i + n ≤ out-width
 within_row i n out-width h l = omega arith
-
-pub part_room : (pixel i n out-width out_channels l : ℕ) → i + n ≤ out-width
-    → (pixel + out-width) * out_channels * 4 ≤ l → (pixel + i + n) * out_channels * 4 ≤ l
-part_room pixel i n out-width out_channels l h r =
-    le_trans (mul-le-mul_right 4 (mul-le-mul_right out_channels (less pixel i n out-width h))) r
-  where
-    less : (p i n s : ℕ) → i + n ≤ s → p + i + n ≤ p + s
-    less p i n s h = omega arith
-
--- ---- two ways to put a span
--- a band that is as it was has the same room, and what is put into it is the same
-pub same_room : {a b : List ℕ} {m : ℕ} → a ≡ b → m ≤ length b → m ≤ length a
-same_room p h = rw p h
-
-pub same_put : (s : Source) (out_channels : ℕ) (us vs : List Float) (n pixel : ℕ) {a b x : List ℕ} → a ≡ b
-    → x ≡ span_bytes s out_channels us vs n pixel a → x ≡ span_bytes s out_channels us vs n pixel b
-same_put s out_channels us vs n pixel p e = e ∙ ap (λ (z : List ℕ). span_bytes s out_channels us vs n pixel z) p

@@ -1,12 +1,13 @@
 // Whether a sample is not finite or above 65,536 in magnitude. Every sample is read, with no way out in the middle, so
 // that the compiler takes several at once; and eight parts of the picture are read side by side, since a processor
-// fetches ahead along each by itself, and so waits less for memory. Assumes that there are as many samples as is said.
+// fetches ahead along each by itself, and so waits less for memory: so no iterator over the samples takes the place of
+// the indexes. Assumes that there are as many samples as is said.
 ghost use Rattle.std.specs.Prelude.{◌≡◌, Bool, ◌||◌, ℕ, ◌+◌, ◌*◌, ◌≤◌, length};
 ghost use Rattle.exact.specs.Loop.{up_to};
 ghost use Rattle.sample_limit.specs.Samples as Samples;
 ghost use Rattle.sample_limit.specs.Samples.{beyond_limit, one_of_eight, in_parts};
 
-use endian::bytes::f32_within;
+use endian::bytes::within;
 
 // 65536.0, the largest sample in magnitude, by its pattern.
 const SAMPLE_LIMIT: u32 = 0x4780_0000;
@@ -16,7 +17,7 @@ fn beyond_limit(bytes: &[u8], k: usize) -> bool
     requires { (k + 1) * 4 ≤ length bytes.now }
     ensures { result ≡ beyond_limit bytes.now k }
 {
-    !f32_within(bytes, 4 * k, SAMPLE_LIMIT)
+    !within::<f32>(bytes, 4 * k, SAMPLE_LIMIT)
 }
 
 // One of eight samples, m apart, from the one numbered k on.

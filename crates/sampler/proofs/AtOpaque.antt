@@ -16,8 +16,9 @@ use Rattle.exact.specs.Weighted.{Unit32}
 use Rattle.picture.specs.At.{at}
 use Rattle.picture.specs.Colour.{zero, half, one}
 use Rattle.policies.specs.Index.{in_range, tile, parity}
-use Rattle.policies.specs.Named.{
-  Policy,
+use Rattle.policies.specs.Named.{policy, picked, outside, named}
+use Rattle.policies.specs.declared.policy.Policy.{Policy}
+use Rattle.policies.specs.declared.policy.Policy.TheVariants.{
   Edge,
   Background,
   Black,
@@ -32,10 +33,6 @@ use Rattle.policies.specs.Named.{
   VerticalTileEdge,
   CheckerTile,
   Random,
-  policy,
-  picked,
-  outside,
-  named,
 }
 use Rattle.sampler.specs.Opaque.{OpaquePicture, OpaquePlace}
 use Rattle.picture.specs.Pixel.{widened, pixel_at}

@@ -18,7 +18,8 @@ use Rattle.number.specs.Floor.{floor_i64}
 use Rattle.picture.specs.At.{at}
 use Rattle.taps.specs.Cell.{Reached, fraction, cell}
 use Rattle.sampler.specs.Interpolate.{several, interpolate}
-use Rattle.taps.specs.Interpolation.{Bilinear, interpolation, bilinear_code}
+use Rattle.taps.specs.Interpolation.{interpolation, bilinear_code}
+use Rattle.taps.specs.declared.interpolation.Interpolation.TheVariants.{Bilinear}
 use Rattle.sampler.specs.Opaque.{OpaquePlace, Exact, UnitExact, NearExact, NearColour}
 use Rattle.taps.specs.Taps.{Plane}
 use Rattle.taps.specs.Weighted.{mean, weighted, Opaque}

@@ -11,7 +11,8 @@ use Rattle.picture.specs.Pixel.{pixel_at}
 use Rattle.picture.specs.declared.colour.Rgba.{Rgba}
 use Rattle.picture.proofs.AtLaws.{at_inside}
 use Rattle.taps.specs.Cell.{first, fraction}
-use Rattle.taps.specs.Interpolation.{interpolation, Bilinear, bilinear_code, Single}
+use Rattle.taps.specs.Interpolation.{interpolation, bilinear_code, Single}
+use Rattle.taps.specs.declared.interpolation.Interpolation.TheVariants.{Bilinear}
 use Rattle.taps.specs.Taps.{taps}
 use Rattle.taps.specs.Weighted.{weighted}
 use Rattle.taps.specs.Weights.{four_weights, weights}

@@ -23,8 +23,9 @@ use Rattle.picture.specs.Colour as Colour
 use Rattle.cubic.specs.Cubic.{catrom, spline}
 use Rattle.sampler.specs.Finite.{BoundedPicture, FitsBy}
 use Rattle.sampler.specs.Interpolate.{several, interpolated, interpolate}
-use Rattle.taps.specs.Interpolation.{
-  Interpolation,
+use Rattle.taps.specs.Interpolation.{interpolation}
+use Rattle.taps.specs.declared.interpolation.Interpolation.{Interpolation}
+use Rattle.taps.specs.declared.interpolation.Interpolation.TheVariants.{
   Integer,
   Nearest,
   Average,
@@ -34,7 +35,6 @@ use Rattle.taps.specs.Interpolation.{
   Catrom,
   Spline,
   Background,
-  interpolation,
 }
 use Rattle.picture.specs.Pixel.{Picture}
 use Rattle.taps.specs.Taps.{Plane, side, count, sixteen, taps}

@@ -1,5 +1,5 @@
 -- Sixteen taps: inside they are the picture's own pixels.
--- Provides: `cubic_inside`, `cubic_anywhere` (each way's answer). Assumes nothing.
+-- Provides: `kernel_spline`; `cubic_inside`, `cubic_anywhere` (each way's answer). Assumes nothing.
 use mathlib.Core.Path.{◌≡◌, refl, sym, ◌∙◌}
 use mathlib.Core.List.{List, [], ◌∷◌}
 use Prim.Native.Nat.{ℕ, ◌+◌, ◌≤◌, ◌<◌}
@@ -13,7 +13,20 @@ use Rattle.picture.specs.Pixel.{pixel_at}
 use Rattle.picture.specs.declared.colour.Rgba.{Rgba}
 use Rattle.picture.proofs.AtLaws.{at_inside}
 use Rattle.taps.specs.Cell.{fraction}
-use Rattle.taps.specs.Interpolation.{interpolation, Cubic}
+use Rattle.cubic.specs.Cubic.{spline}
+use Rattle.taps.specs.Interpolation.{interpolation, code_of, Cubic}
+use Rattle.taps.specs.declared.interpolation.Interpolation.{Interpolation}
+use Rattle.taps.specs.declared.interpolation.Interpolation.TheVariants.{
+  Integer,
+  Nearest,
+  Average,
+  Average9,
+  Average16,
+  Bilinear,
+  Catrom,
+  Spline,
+  Background,
+}
 use Rattle.taps.specs.Taps.{Plane, taps}
 use Rattle.taps.specs.Weighted.{weighted}
 use Rattle.taps.specs.Weights.{products}
@@ -22,6 +35,19 @@ use Rattle.sampler.specs.Interpolate.{several, interpolated, interpolate}
 use Rattle.sampler.specs.FourByFour.{own}
 use Rattle.sampler.specs.Sixteen.{kernel_of}
 use Rattle.sampler.proofs.InterpolateCode.{several_code}
+
+-- ---- the kernels
+pub kernel_spline : (i : Interpolation) (t : Float) → (i ≡ Catrom → ⊥) → kernel_of (code_of i) t ≡ spline t
+unfolding kernel_of
+kernel_spline Integer t h = refl
+kernel_spline Nearest t h = refl
+kernel_spline Average t h = refl
+kernel_spline Average9 t h = refl
+kernel_spline Average16 t h = refl
+kernel_spline Bilinear t h = refl
+kernel_spline Catrom t h = absurd (h refl)
+kernel_spline Spline t h = refl
+kernel_spline Background t h = refl
 
 -- ---- the answers
 -- what both kernels are

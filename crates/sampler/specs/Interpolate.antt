@@ -3,8 +3,9 @@
 use Rattle.std.specs.Prelude.{ℕ, List, Float}
 use Rattle.picture.specs.At.{at}
 use Rattle.taps.specs.Cell.{Cell, cell, fraction}
-use Rattle.taps.specs.Interpolation.{
-  Interpolation,
+use Rattle.taps.specs.Interpolation.{interpolation}
+use Rattle.taps.specs.declared.interpolation.Interpolation.{Interpolation}
+use Rattle.taps.specs.declared.interpolation.Interpolation.TheVariants.{
   Integer,
   Nearest,
   Average,
@@ -14,7 +15,6 @@ use Rattle.taps.specs.Interpolation.{
   Catrom,
   Spline,
   Background,
-  interpolation,
 }
 use Rattle.taps.specs.Taps.{Plane, side, count, taps}
 use Rattle.taps.specs.Weighted.{weighted}

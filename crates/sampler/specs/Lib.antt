@@ -3,5 +3,6 @@ pub mod Finite
 pub mod FourByFour
 pub mod Interpolate
 pub mod Opaque
+pub mod Sampled
 pub mod Sixteen
 pub mod TwoByTwo

@@ -6,7 +6,8 @@ use Rattle.exact.specs.Warp.{exact_sample}
 use Rattle.exact.specs.Weighted.{Unit32, Sample}
 use Rattle.endian.specs.Bytes.{sample_at}
 use Rattle.picture.specs.Colour.{one}
-use Rattle.policies.specs.Named.{Transparent, policy}
+use Rattle.policies.specs.Named.{policy}
+use Rattle.policies.specs.declared.policy.Policy.TheVariants.{Transparent}
 use Rattle.picture.specs.Pixel.{Picture}
 use Rattle.taps.specs.Taps.{Plane}
 use Rattle.taps.specs.Weighted.{Opaque}

@@ -1,52 +1,42 @@
 // The four taps of a cell that lies inside, read straight from the bytes, no policy asked: their sums and their
-// weighted mean. Assumes that the bytes are a picture's.
+// weighted mean. Assumes nothing.
 ghost use Rattle.std.specs.Prelude.{◌≡◌, ◌+◌, ◌<◌};
-ghost use Rattle.picture.specs.Pixel.{Picture};
 ghost use Rattle.sampler.specs.TwoByTwo as TwoByTwo;
 ghost use Rattle.sampler.specs.TwoByTwo.{two_by_two_sums};
 
 use picture::colour::Rgba;
-use picture::pixel::widened;
+use picture::picture::Picture;
 use taps::weighted::{Sums, added, mean, nothing};
+use taps::weights::BilinearWeights;
 
-// A row and the row after it, at the weights a, b, c and d, whose sum is t. Where `channels` is a literal at the call,
-// it is asked once and not at each tap. A sum of weights that is worked out elsewhere leaves four sums alike, which the
-// compiler works out side by side.
-fn sums(
-    picture: &[u8],
-    width: u64,
-    height: u64,
-    channels: u64,
-    i: u64,
-    j: u64,
-    a: f32,
-    b: f32,
-    c: f32,
-    d: f32,
-    t: f32,
-) -> Sums
-    requires picture { Picture picture.now width height channels }
-    requires i_bound { (i + 1 < width) × (j + 1 < height) }
-    ensures { result ≡ two_by_two_sums picture.now width channels i j a b c d t }
+// A row and the row after it, at the weights, whose sum is handed in with them. Where `channels` is a literal at the
+// call, it is asked once and not at each tap; as a const parameter it would need a case for two channels, too, which no
+// call has. A sum of weights that is worked out elsewhere leaves four sums alike, which the compiler works out side by
+// side.
+fn sums(picture: Picture, channels: u64, i: u64, j: u64, w: BilinearWeights) -> Sums
+    requires same_channels { channels ≡ picture.channels }
+    requires i_bound { (i + 1 < picture.width) × (j + 1 < picture.height) }
+    ensures { result ≡ two_by_two_sums picture.entry.bytes.now picture.entry.width channels i j w.w00 w.w10 w.w01 w.w11
+        w.sum }
 {
-    let k = (j * width + i) * channels;
-    let n = k + width * channels;
+    let k = (j * picture.width + i) * channels;
+    let n = k + picture.width * channels;
     let upper = added(
-        widened(picture, channels, k + channels),
-        b,
-        added(widened(picture, channels, k), a, nothing()),
+        picture.widened(channels, k + channels),
+        w.w10,
+        added(picture.widened(channels, k), w.w00, nothing()),
     );
     let s = added(
-        widened(picture, channels, n + channels),
-        d,
-        added(widened(picture, channels, n), c, upper),
+        picture.widened(channels, n + channels),
+        w.w11,
+        added(picture.widened(channels, n), w.w01, upper),
     );
     Sums {
         r: s.r,
         g: s.g,
         b: s.b,
         a: s.a,
-        weight: t,
+        weight: w.sum,
     }
 }
 
@@ -63,29 +53,18 @@ fn over_weight(s: Sums) -> Rgba
 }
 
 // The colour of the cell at column i and row j, by its weights and their sum. The channels are literals, so that they
-// are asked once and not at each tap.
-pub fn mixed(
-    picture: &[u8],
-    width: u64,
-    height: u64,
-    channels: u64,
-    i: u64,
-    j: u64,
-    a: f32,
-    b: f32,
-    c: f32,
-    d: f32,
-    t: f32,
-) -> Rgba
-    requires picture { Picture picture.now width height channels }
-    requires i_bound { (i + 1 < width) × (j + 1 < height) }
-    ensures { result ≡ TwoByTwo.mixed picture.now width channels i j a b c d t }
+// are asked once and not at each tap; so they are a parameter here, too.
+pub fn mixed(picture: Picture, channels: u64, i: u64, j: u64, w: BilinearWeights) -> Rgba
+    requires same_channels { channels ≡ picture.channels }
+    requires i_bound { (i + 1 < picture.width) × (j + 1 < picture.height) }
+    ensures { result ≡ TwoByTwo.mixed picture.entry.bytes.now picture.entry.width channels i j w.w00 w.w10 w.w01 w.w11
+        w.sum }
 {
     if channels == 4 {
-        return mean(sums(picture, width, height, 4, i, j, a, b, c, d, t));
+        return mean(sums(picture, 4, i, j, w));
     }
     if channels == 3 {
-        return over_weight(sums(picture, width, height, 3, i, j, a, b, c, d, t));
+        return over_weight(sums(picture, 3, i, j, w));
     }
-    over_weight(sums(picture, width, height, channels, i, j, a, b, c, d, t))
+    over_weight(sums(picture, channels, i, j, w))
 }

@@ -1,113 +1,69 @@
-// The colour at a source point, by the interpolation's code: one tap alone, the weighted mean of several, or the
-// background. Assumes that the bytes are a picture's, and that the point can be used.
+// The colour at a source point, by the interpolation: one tap alone, the weighted mean of several, or the background.
+// Assumes that the point can be used.
 ghost use Rattle.std.specs.Prelude.{◌≡◌, true};
 ghost use Rattle.exact.specs.Double.{◌⊖◌};
 ghost use Rattle.exact.specs.Warp.{half};
 ghost use Rattle.point.specs.Point as Points;
-ghost use Rattle.picture.specs.At.{at};
 ghost use Rattle.taps.specs.Cell.{Reached, cell};
+ghost use Rattle.taps.specs.Sampler.{plane_of};
 ghost use Rattle.sampler.specs.Interpolate as Interpolate;
-ghost use Rattle.taps.specs.Interpolation.{interpolation};
-ghost use Rattle.picture.specs.Pixel.{Picture};
+ghost use Rattle.sampler.specs.Sampled.{sampled};
 
 use crate::apart::apart;
 use crate::fast_bilinear::bilinear;
 use crate::fast_sixteen::cubic;
 use crate::several::several;
-use picture::at::at;
 use picture::colour::Rgba;
+use picture::picture::Picture;
 use point::point::Point;
-use taps::cell::first;
-use taps::interpolation::{
-    AVERAGE, AVERAGE9, AVERAGE16, BILINEAR, CATROM, INTEGER, NEAREST, SPLINE,
-};
+use policies::policy::Policy;
+use taps::interpolation::Interpolation;
+use taps::sampler::Sampler;
 
 // One tap alone.
-fn single_tap(
-    picture: &[u8],
-    width: u64,
-    height: u64,
-    channels: u64,
-    policy: u64,
-    code: u64,
-    background: Rgba,
-    x: f64,
-    y: f64,
-) -> Rgba
-    requires picture { Picture picture.now width height channels }
-    requires reached { Reached x × Reached y }
-    ensures { result ≡ Interpolate.single_tap (at picture.now width height channels policy background)
-        (cell (interpolation code) x y) }
+fn single_tap(s: Sampler, i: Interpolation, x: f64, y: f64) -> Rgba
+    requires { Reached x × Reached y }
+    ensures { result ≡ Interpolate.single_tap (plane_of s.entry) (cell i x y) }
 {
-    at(
-        picture,
-        width,
-        height,
-        channels,
-        policy,
-        background,
-        first(code, x),
-        first(code, y),
-    )
+    s.at(i.first(x), i.first(y))
 }
 
 // At a point of index space, whose coordinates are at most 2^30 + 1 in magnitude.
-pub fn interpolate_at(
-    picture: &[u8],
-    width: u64,
-    height: u64,
-    channels: u64,
-    policy: u64,
-    code: u64,
-    background: Rgba,
-    x: f64,
-    y: f64,
-) -> Rgba
-    requires picture { Picture picture.now width height channels }
-    requires reached { Reached x × Reached y }
-    ensures { result ≡ Interpolate.interpolate picture.now width height channels policy code background x
-        y }
+pub fn interpolate_at(s: Sampler, i: Interpolation, x: f64, y: f64) -> Rgba
+    requires { Reached x × Reached y }
+    ensures { result ≡ sampled s.entry i x y }
 {
-    match code {
-        INTEGER | NEAREST => single_tap(
-            picture, width, height, channels, policy, code, background, x, y,
-        ),
-        CATROM | SPLINE => apart(cubic(
-            picture, width, height, channels, policy, code, background, x, y,
-        )),
-        AVERAGE | AVERAGE9 | AVERAGE16 => apart(several(
-            picture, width, height, channels, policy, code, background, x, y,
-        )),
-        BILINEAR => apart(bilinear(picture, width, height, channels, policy, background, x, y)),
-        _ => background,
+    match i {
+        Interpolation::Integer | Interpolation::Nearest => single_tap(s, i, x, y),
+        Interpolation::Catrom | Interpolation::Spline => apart(cubic(s, i, x, y)),
+        Interpolation::Average | Interpolation::Average9 | Interpolation::Average16 => {
+            apart(several(s, i, x, y))
+        }
+        Interpolation::Bilinear => apart(bilinear(s, x, y)),
+        Interpolation::Background => s.background,
     }
 }
 
 // At a source point: half a pixel back it is in index space.
-pub fn interpolate(
-    picture: &[u8],
-    width: u64,
-    height: u64,
-    channels: u64,
-    policy: u64,
-    code: u64,
-    background: Rgba,
-    p: Point,
-) -> Rgba
-    requires picture { Picture picture.now width height channels }
-    requires usable_value { (p.usable ≡ true) × Points.Whole p }
-    ensures { result ≡ Interpolate.interpolate picture.now width height channels policy code background (p.u ⊖ half)
-        (p.v ⊖ half) }
+pub fn interpolate_point(s: Sampler, i: Interpolation, p: Point) -> Rgba
+    requires { (p.usable ≡ true) × Points.Whole p }
+    ensures { result ≡ sampled s.entry i (p.u ⊖ half) (p.v ⊖ half) }
 {
-    interpolate_at(
+    interpolate_at(s, i, p.u - 0.5, p.v - 0.5)
+}
+
+// The same by the codes of the policy and of the interpolation. No call is accepted with another code; one counts as
+// the last.
+pub fn interpolate(picture: Picture, policy: u64, code: u64, background: Rgba, p: Point) -> Rgba
+    requires { (p.usable ≡ true) × Points.Whole p }
+    ensures { result ≡ Interpolate.interpolate picture.entry.bytes.now picture.entry.width picture.entry.height
+        picture.entry.channels policy code background (p.u ⊖ half) (p.v ⊖ half) }
+{
+    let policy = Policy::of_code(policy);
+    let s = Sampler {
         picture,
-        width,
-        height,
-        channels,
         policy,
-        code,
         background,
-        p.u - 0.5,
-        p.v - 0.5,
-    )
+    };
+    interpolate_point(s, Interpolation::of_code(code), p)
 }

@@ -1,114 +1,49 @@
-// The weighted mean of a square of taps, row by row. Assumes that the bytes are a picture's, and the point's
-// coordinates at most 2^30 + 1 in magnitude.
+// The weighted mean of a square of taps, row by row. Assumes that the point's coordinates are at most 2^30 + 1 in
+// magnitude.
 ghost use Rattle.std.specs.Prelude.{◌≡◌, ◌*◌, ◌≤◌, ◌<◌};
-ghost use Rattle.std.specs.Int.Signed.{mag};
-ghost use Rattle.exact.specs.Limits.{farthest_tap};
-ghost use Rattle.picture.specs.At.{at};
 ghost use Rattle.taps.specs.Cell.{Reached};
+ghost use Rattle.taps.specs.Sampler.{plane_of};
 ghost use Rattle.sampler.specs.Interpolate as Interpolate;
-ghost use Rattle.taps.specs.Interpolation.{interpolation};
-ghost use Rattle.picture.specs.Pixel.{Picture};
 ghost use Rattle.taps.specs.Taps.{taps};
 ghost use Rattle.taps.specs.Weighted.{lined, weighted};
 
 use picture::colour::Rgba;
-use taps::cell::{first, fraction};
-use taps::taps::{nearby, side};
+use taps::cell::{Cell, fraction};
+use taps::interpolation::Interpolation;
+use taps::sampler::Sampler;
 use taps::weighted::{Sums, added, mean, nothing};
-use taps::weights::weights;
 
 // The sums with a row of taps added, the row numbered j of n by n.
-fn line(
-    picture: &[u8],
-    width: u64,
-    height: u64,
-    channels: u64,
-    policy: u64,
-    background: Rgba,
-    column: i64,
-    row: i64,
-    n: usize,
-    j: usize,
-    weight: &[f32; 16],
-    s: Sums,
-) -> Sums
-    requires picture { Picture picture.now width height channels }
-    requires column_bound { (mag column ≤ farthest_tap) × (mag row ≤ farthest_tap) }
-    requires j_lt_n { (j < n) × (n ≤ 4) }
+fn line(s: Sampler, cell: Cell, n: usize, j: usize, weight: &[f32; 16], start: Sums) -> Sums
+    requires { (j < n) × (n ≤ 4) }
     ensures { result ≡ lined
-        (taps (at picture.now width height channels policy background)
-        (record { column = column; row = row }) n) weight.now n j s }
+        (taps (plane_of s.entry) (record { column = cell.column; row = cell.row }) n) weight.now n j start }
 {
-    let mut sums = s;
+    let mut sums = start;
     for i in 0..n {
-        sums = added(
-            nearby(
-                picture, width, height, channels, policy, background, column, row, i, j,
-            ),
-            weight[j * n + i],
-            sums,
-        );
+        sums = added(s.nearby(cell, i, j), weight[j * n + i], sums);
     }
     sums
 }
 
 // The weighted mean of the n by n taps from a cell on.
-fn mean_of_taps(
-    picture: &[u8],
-    width: u64,
-    height: u64,
-    channels: u64,
-    policy: u64,
-    background: Rgba,
-    column: i64,
-    row: i64,
-    n: usize,
-    weight: &[f32; 16],
-) -> Rgba
-    requires picture { Picture picture.now width height channels }
-    requires column_bound { (mag column ≤ farthest_tap) × (mag row ≤ farthest_tap) }
-    requires n_bound { n ≤ 4 }
+fn mean_of_taps(s: Sampler, cell: Cell, n: usize, weight: &[f32; 16]) -> Rgba
+    requires { n ≤ 4 }
     ensures { result ≡ weighted
-        (taps (at picture.now width height channels policy background)
-        (record { column = column; row = row }) n) weight.now (n * n) }
+        (taps (plane_of s.entry) (record { column = cell.column; row = cell.row }) n) weight.now (n * n) }
 {
-    let mut s = nothing();
+    let mut sums = nothing();
     for j in 0..n {
-        s = line(
-            picture, width, height, channels, policy, background, column, row, n, j, weight, s,
-        );
+        sums = line(s, cell, n, j, weight, sums);
     }
-    mean(s)
+    mean(sums)
 }
 
 // Every interpolation that weighs several taps.
-pub fn several(
-    picture: &[u8],
-    width: u64,
-    height: u64,
-    channels: u64,
-    policy: u64,
-    code: u64,
-    background: Rgba,
-    x: f64,
-    y: f64,
-) -> Rgba
-    requires picture { Picture picture.now width height channels }
-    requires reached { Reached x × Reached y }
-    ensures { result ≡ Interpolate.several (interpolation code)
-        (at picture.now width height channels policy background) x y }
+pub fn several(s: Sampler, i: Interpolation, x: f64, y: f64) -> Rgba
+    requires { Reached x × Reached y }
+    ensures { result ≡ Interpolate.several i (plane_of s.entry) x y }
 {
-    let weight = weights(code, fraction(x), fraction(y));
-    mean_of_taps(
-        picture,
-        width,
-        height,
-        channels,
-        policy,
-        background,
-        first(code, x),
-        first(code, y),
-        side(code),
-        &weight,
-    )
+    let weight = i.weights(fraction(x), fraction(y));
+    mean_of_taps(s, i.cell(x, y), i.side(), &weight)
 }

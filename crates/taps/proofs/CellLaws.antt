@@ -30,8 +30,8 @@ use Rattle.number.specs.Magnitude.{abs, within}
 use Rattle.number.proofs.FloorLaws.{floor_size, floor_integer}
 use Rattle.number.proofs.MagnitudeLaws.{abs_limited}
 use Rattle.taps.specs.Cell.{index_limit, Reached, rounded, first}
-use Rattle.taps.specs.Interpolation.{
-  Interpolation,
+use Rattle.taps.specs.declared.interpolation.Interpolation.{Interpolation}
+use Rattle.taps.specs.declared.interpolation.Interpolation.TheVariants.{
   Integer,
   Nearest,
   Average,

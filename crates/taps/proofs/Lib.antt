@@ -7,4 +7,3 @@ pub mod TapsLaws
 pub mod WeightedFinite
 pub mod WeightedOpaque
 pub mod WeightedWeights
-pub mod WeightsCode

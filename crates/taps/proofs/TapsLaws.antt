@@ -17,8 +17,8 @@ use Rattle.exact.proofs.Loop.{up_to_none, up_to_next, up_to_join}
 use Rattle.picture.specs.At.{at}
 use Rattle.taps.specs.Cell.{Cell}
 use Rattle.picture.specs.Colour.{grey}
-use Rattle.taps.specs.Interpolation.{
-  Interpolation,
+use Rattle.taps.specs.declared.interpolation.Interpolation.{Interpolation}
+use Rattle.taps.specs.declared.interpolation.Interpolation.TheVariants.{
   Integer,
   Nearest,
   Average,

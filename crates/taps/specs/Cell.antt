@@ -8,8 +8,8 @@ use Rattle.exact.specs.Warp.{half}
 use Rattle.number.specs.Floor.{floor_i64, floor_f64}
 use Rattle.number.specs.Magnitude.{within}
 use Rattle.number.specs.Narrow.{narrow}
-use Rattle.taps.specs.Interpolation.{
-  Interpolation,
+use Rattle.taps.specs.declared.interpolation.Interpolation.{Interpolation}
+use Rattle.taps.specs.declared.interpolation.Interpolation.TheVariants.{
   Integer,
   Nearest,
   Average,

@@ -2,6 +2,7 @@
 -- mean.
 pub mod Cell
 pub mod Interpolation
+pub mod Sampler
 pub mod Taps
 pub mod Weighted
 pub mod Weights

@@ -2,8 +2,8 @@
 -- colour for each index for good, as a picture does under its policy. Specification 9. Assumes nothing.
 use Rattle.std.specs.Prelude.{ℕ, ◌*◌, ◌/◌, ◌%◌, List, [], ◌∷◌, ℤ, pos, ◌+ℤ◌}
 use Rattle.taps.specs.Cell.{Cell}
-use Rattle.taps.specs.Interpolation.{
-  Interpolation,
+use Rattle.taps.specs.declared.interpolation.Interpolation.{Interpolation}
+use Rattle.taps.specs.declared.interpolation.Interpolation.TheVariants.{
   Integer,
   Nearest,
   Average,

@@ -5,8 +5,8 @@ use Rattle.exact.specs.Single.{◌⊗◌}
 use Rattle.exact.specs.Weighted.{w00, w10, w01, w11, weight_sum}
 use Rattle.picture.specs.Colour.{zero, one}
 use Rattle.cubic.specs.Cubic.{catrom, spline}
-use Rattle.taps.specs.Interpolation.{
-  Interpolation,
+use Rattle.taps.specs.declared.interpolation.Interpolation.{Interpolation}
+use Rattle.taps.specs.declared.interpolation.Interpolation.TheVariants.{
   Integer,
   Nearest,
   Average,

@@ -2,12 +2,11 @@
 // point's coordinates are at most 2^30 + 1 in magnitude, so that no floor has to test its domain.
 ghost use Rattle.std.specs.Prelude.{◌≡◌, ◌≤◌, pos, ◌-ℤ◌};
 ghost use Rattle.std.specs.Int.Signed.{mag};
-ghost use Rattle.exact.specs.Limits.{farthest_floor};
+ghost use Rattle.exact.specs.Limits.{farthest_floor, farthest_tap};
 ghost use Rattle.number.specs.Floor.{floor_i64};
 ghost use Rattle.taps.specs.Cell.{Reached, fraction, rounded, first};
-ghost use Rattle.taps.specs.Interpolation.{interpolation};
 
-use crate::interpolation::{AVERAGE9, AVERAGE16, CATROM, NEAREST, SPLINE};
+use crate::interpolation::Interpolation;
 use number::floor::{floor_i64_within, floor_within};
 use number::narrow::narrow_number;
 
@@ -43,17 +42,40 @@ pub fn before(v: i64) -> i64
     v - 1
 }
 
-// The first of the columns, or of the rows, that taps come from: both together are the cell.
-pub fn first(code: u64, x: f64) -> i64
-    requires { Reached x }
-    ensures { result ≡ first (interpolation code) x }
-{
-    match code {
-        NEAREST => rounded(x),
-        AVERAGE9 => before(rounded(x)),
-        AVERAGE16 => before(below(x)),
-        CATROM => before(below(x)),
-        SPLINE => before(below(x)),
-        _ => below(x),
+// The pair of whole numbers from which the taps are placed. Those of a point within reach are small.
+#[derive(Clone, Copy)]
+pub struct Cell {
+    pub column: i64,
+    pub row: i64,
+    pub ghost near: { (mag column ≤ farthest_tap) × (mag row ≤ farthest_tap) },
+}
+
+impl Interpolation {
+    // The first of the columns, or of the rows, that taps come from: both together are the cell.
+    pub fn first(self, x: f64) -> i64
+        requires { Reached x }
+        ensures { result ≡ first self x }
+    {
+        match self {
+            Interpolation::Nearest => rounded(x),
+            Interpolation::Average9 => before(rounded(x)),
+            Interpolation::Average16 | Interpolation::Catrom | Interpolation::Spline => before(
+                below(x),
+            ),
+            Interpolation::Integer
+            | Interpolation::Average
+            | Interpolation::Bilinear
+            | Interpolation::Background => below(x),
+        }
+    }
+
+    pub fn cell(self, x: f64, y: f64) -> Cell
+        requires { Reached x × Reached y }
+        ensures { (result.column ≡ first self x) × (result.row ≡ first self y) }
+    {
+        Cell {
+            column: self.first(x),
+            row: self.first(y),
+        }
     }
 }

@@ -1,20 +1,56 @@
-// The interpolations' codes, which count from 0 in the order of the Rust's `PixelInterpolate` (specification 1.2).
-// Assumes nothing.
+// The interpolations: how a picture is read between its pixels, the Rust's `PixelInterpolate`. A caller in C names one
+// by its code, which counts from 0 in this order (specification 1.2). Assumes nothing.
+ghost use Rattle.std.specs.Prelude.{◌≡◌};
+ghost use Rattle.taps.specs.Interpolation.{code_of, interpolation, Decodes};
 
-pub const INTEGER: u64 = 0;
+use refusals::Refusal;
 
-pub const NEAREST: u64 = 1;
+#[derive(Clone, Copy, Debug, PartialEq, Eq)]
+pub enum Interpolation {
+    Integer,
+    Nearest,
+    Average,
+    Average9,
+    Average16,
+    Bilinear,
+    Catrom,
+    Spline,
+    Background,
+}
 
-pub const AVERAGE: u64 = 2;
+impl Interpolation {
+    pub fn code(self) -> u64
+        ensures { result ≡ code_of self }
+    {
+        self as u64
+    }
 
-pub const AVERAGE9: u64 = 3;
+    // The interpolation of a code, and the last for a code that none has.
+    pub fn of_code(code: u64) -> Interpolation
+        ensures { result ≡ interpolation code }
+    {
+        Interpolation::try_from(code).unwrap_or(Interpolation::Background)
+    }
+}
 
-pub const AVERAGE16: u64 = 4;
+// A code that no interpolation has is refused.
+impl TryFrom<u64> for Interpolation {
+    type Error = Refusal;
 
-pub const BILINEAR: u64 = 5;
+    ghost try_from_gives = { Decodes };
 
-pub const CATROM: u64 = 6;
-
-pub const SPLINE: u64 = 7;
-
-pub const BACKGROUND: u64 = 8;
+    fn try_from(code: u64) -> Result<Interpolation, Refusal> {
+        match code {
+            0 => Ok(Interpolation::Integer),
+            1 => Ok(Interpolation::Nearest),
+            2 => Ok(Interpolation::Average),
+            3 => Ok(Interpolation::Average9),
+            4 => Ok(Interpolation::Average16),
+            5 => Ok(Interpolation::Bilinear),
+            6 => Ok(Interpolation::Catrom),
+            7 => Ok(Interpolation::Spline),
+            8 => Ok(Interpolation::Background),
+            _ => Err(Refusal::Code),
+        }
+    }
+}

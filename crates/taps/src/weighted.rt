@@ -4,7 +4,7 @@
 ghost use Rattle.std.specs.Prelude.{◌≡◌, ◌≤◌};
 ghost use Rattle.taps.specs.Weighted as Weighted;
 
-use number::magnitude::abs_f32;
+use number::magnitude::abs;
 use picture::colour::Rgba;
 
 // The Rust's `acc` and `wsum`.
@@ -47,7 +47,7 @@ fn quotient(x: f32, y: f32) -> f32
     ensures { result ≡ Weighted.quotient x y }
 {
     let q = x / y;
-    if abs_f32(y) > 1e-9 { q } else { 0.0 }
+    if abs(y) > 1e-9 { q } else { 0.0 }
 }
 
 pub fn mean(s: Sums) -> Rgba
@@ -61,7 +61,8 @@ pub fn mean(s: Sums) -> Rgba
     }
 }
 
-// Over the first `count` taps.
+// Over the first `count` taps. The index counts taps and weights as the definition does; a zip of both slices was tried
+// and leaves three goals that this loop does not have.
 pub fn weighted(taps: [Rgba; 16], weights: [f32; 16], count: usize) -> Rgba
     requires { count ≤ 16 }
     ensures { result ≡ Weighted.weighted taps weights count }

@@ -1,10 +1,10 @@
 // The weights of an interpolation's taps, in the taps' order. Assumes nothing.
 ghost use Rattle.std.specs.Prelude.{◌≡◌};
-ghost use Rattle.taps.specs.Interpolation.{Bilinear, interpolation};
+ghost use Rattle.taps.specs.declared.interpolation.Interpolation.TheVariants.{Bilinear};
 ghost use Rattle.taps.specs.Weights.{bilinear_weights, products, weights};
 
-use crate::interpolation::{BILINEAR, CATROM, SPLINE};
-use cubic::cubic::{catrom, spline};
+use crate::interpolation::Interpolation;
+use cubic::cubic::{Catrom, Spline, weights_by};
 
 // Those of the columns times those of the rows.
 fn products(wx: [f32; 4], wy: [f32; 4]) -> [f32; 16]
@@ -75,13 +75,20 @@ fn bilinear(tx: f32, ty: f32) -> [f32; 16]
     ]
 }
 
-pub fn weights(code: u64, tx: f32, ty: f32) -> [f32; 16]
-    ensures { result ≡ weights (interpolation code) tx ty }
-{
-    match code {
-        BILINEAR => bilinear(tx, ty),
-        CATROM => products(catrom(tx), catrom(ty)),
-        SPLINE => products(spline(tx), spline(ty)),
-        _ => [1.0; 16],
+impl Interpolation {
+    pub fn weights(self, tx: f32, ty: f32) -> [f32; 16]
+        ensures { result ≡ weights self tx ty }
+    {
+        match self {
+            Interpolation::Bilinear => bilinear(tx, ty),
+            Interpolation::Catrom => products(weights_by::<Catrom>(tx), weights_by::<Catrom>(ty)),
+            Interpolation::Spline => products(weights_by::<Spline>(tx), weights_by::<Spline>(ty)),
+            Interpolation::Integer
+            | Interpolation::Nearest
+            | Interpolation::Average
+            | Interpolation::Average9
+            | Interpolation::Average16
+            | Interpolation::Background => [1.0; 16],
+        }
     }
 }

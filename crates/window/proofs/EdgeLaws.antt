@@ -11,7 +11,7 @@ use Rattle.exact.proofs.Operands.{same_test}
 use Rattle.exact.proofs.Order.{le_flip}
 use Rattle.number.specs.Floor.{ceil_div, floorℤ, in_domain, domain_end, floor_i64}
 use Rattle.number.proofs.FloorLaws.{floor_integer, floor_integer_out}
-use Rattle.window.specs.declared.extent.Extent.TheVariants.{Out}
+use Rattle.std.specs.Prelude.{None}
 use Rattle.window.specs.Ceil.{ceilℤ, ceil_i64}
 use Rattle.window.specs.Extent.{good_offset, from_to}
 use Rattle.window.proofs.CeilLaws.{by_test, ceil_in, ceil_out}
@@ -39,7 +39,7 @@ floor_far true m e d = subst (λ (q : ℕ). 2147483648 ≤ q) (sym (nat_abs_neg 
 least_off : good_offset (negsuc 9223372036854775807) ≡ false
 least_off = offset_far (negsuc 9223372036854775807) (lit< tt)
 
-pub low_edge : (x : Float) (y : ℤ) → from_to (floor_i64 x) y ≡ cond (finite x) (from_to (floorℤ x) y) Out
+pub low_edge : (x : Float) (y : ℤ) → from_to (floor_i64 x) y ≡ cond (finite x) (from_to (floorℤ x) y) None
 low_edge nan y = ap (λ (z : ℤ). from_to z y) (floor_integer_out nan (unfold in_domain in tt))
     ∙ reach_off (negsuc 9223372036854775807) y least_off
 low_edge (inf s) y = ap (λ (z : ℤ). from_to z y) (floor_integer_out (inf s) (unfold in_domain in tt))
@@ -71,7 +71,7 @@ unfolding of_bits lt
 under_edge m e = le_flip true false m 1 e (pos 31)
 
 pub high_refused : (x : Float) (z : ℤ) → (finite x && le x domain_end) ≡ false
-    → cond (finite x) (from_to z (ceilℤ x)) Out ≡ Out
+    → cond (finite x) (from_to z (ceilℤ x)) None ≡ None
 high_refused nan z h = refl
 high_refused (inf s) z h = refl
 high_refused (fin true m e) z h = absurd (true≢false (sym (under_edge m e) ∙ h))
@@ -94,7 +94,7 @@ reach_far z zero h = absurd (none h)
 reach_far z (suc k) h = reach_low z 9223372036854775807 k (lit≤ tt) (omega arith)
 
 pub high_edge : (x : Float) (z : ℤ) → (finite x && le x domain_end) ≡ true
-    → from_to z (ceil_i64 x) ≡ cond (finite x) (from_to z (ceilℤ x)) Out
+    → from_to z (ceil_i64 x) ≡ cond (finite x) (from_to z (ceilℤ x)) None
 high_edge nan z h = absurd (true≢false (sym h))
 high_edge (inf s) z h = absurd (true≢false (sym h))
 high_edge (fin false m e) z h = ap (from_to z) (ceil_in (fin false m e) (subst T (sym h ∙ le_edge m e) tt))

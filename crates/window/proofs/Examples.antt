@@ -1,6 +1,6 @@
 -- Worked windows, by computation. The identity with bestfit on 4 by 3 is 6 by 5 at -1, -1; a given viewport wins over
 -- bestfit, and with a side of 0 it is refused. Assumes nothing.
-use Rattle.std.proofs.Common.{◌≡◌, ℕ, true, false, ◌∷◌, ℤ, pos, negsuc, refl}
+use Rattle.std.proofs.Common.{◌≡◌, ℕ, true, ◌∷◌, ℤ, pos, negsuc, refl}
 use lib.Ieee.{
   of_bits,
   of_fields,
@@ -29,7 +29,8 @@ use Rattle.mappings.specs.Mapping.{affine_kind}
 use Rattle.exact.specs.Vector.{Vector}
 use Rattle.linear.specs.Matrix.{nought}
 use Rattle.window.specs.declared.view.View.{View}
-use Rattle.window.specs.declared.window.Placed.TheVariants.{Window, Refused}
+use Rattle.std.specs.Prelude.{Some, None}
+use Rattle.window.specs.Placed.{Window, Refused}
 use Rattle.window.specs.Bestfit.{affine_found, bestfit}
 use Rattle.window.specs.Ceil.{ceilℤ}
 use Rattle.window.specs.Edges.{unbounded, grown, boxed}
@@ -38,10 +39,10 @@ use Rattle.window.specs.Window.{of_extents, judged, window}
 
 -- bestfit is asked for; a viewport is given besides, or not
 abbrev at : ℕ → ℕ → ℤ → ℤ → View
-at w h x y = record { bestfit = true; given = true; width = w; height = h; x = x; y = y }
+at w h x y = record { bestfit = true; viewport = Some (record { width = w; height = h; x = x; y = y }) }
 
 abbrev around : View
-around = record { bestfit = true; given = false; width = 0; height = 0; x = pos 0; y = pos 0 }
+around = record { bestfit = true; viewport = None }
 
 -- u = x, v = y; what stands after the six coefficients is not read
 pub identity : (rest : Vector)

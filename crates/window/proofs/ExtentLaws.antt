@@ -4,8 +4,8 @@ use borrow.Author.Tests.{lt-leb}
 use lib.Signed.{le_z}
 use lib.Dec.{leb-suc-suc}
 use Rattle.exact.proofs.Booleans.{and_true}
-use Rattle.window.specs.declared.extent.Extent.TheVariants.{Of, Out}
-use Rattle.window.specs.Extent.{good_offset, good_length, held, at_least_one, from_to}
+use Rattle.std.specs.Prelude.{Some, None}
+use Rattle.window.specs.Extent.{side, good_offset, good_length, held, at_least_one, from_to}
 use Rattle.window.proofs.DifferenceLaws.{Count, one_positive, diff_low, diff_high}
 
 -- ---- the tests
@@ -23,21 +23,21 @@ unfolding good_offset
 offset_far z h = lt-leb (nat_abs z) 1048576 h
 
 -- ---- what is beyond the limits
-pub held_off : (z : ℤ) (n : ℕ) → good_offset z ≡ false → held z n ≡ Out
+pub held_off : (z : ℤ) (n : ℕ) → good_offset z ≡ false → held z n ≡ None
 unfolding held
-held_off z n h = ap (λ (b : Bool). cond (b && good_length n) (Of z n) Out) h
+held_off z n h = ap (λ (b : Bool). cond (b && good_length n) (Some (side z n)) None) h
 
-pub held_long : (z : ℤ) (n : ℕ) → 4096 < n → held z n ≡ Out
+pub held_long : (z : ℤ) (n : ℕ) → 4096 < n → held z n ≡ None
 unfolding held good_length
-held_long z n h = ap (λ (t : Bool). cond (good_offset z && (ltb 0 n && t)) (Of z n) Out) (lt-leb n 4096 h)
+held_long z n h = ap (λ (t : Bool). cond (good_offset z && (ltb 0 n && t)) (Some (side z n)) None) (lt-leb n 4096 h)
     ∙ go (good_offset z) (ltb 0 n)
   where
-    go : (b c : Bool) → cond (b && (c && false)) (Of z n) Out ≡ Out
+    go : (b c : Bool) → cond (b && (c && false)) (Some (side z n)) None ≡ None
     go false c = refl
     go true false = refl
     go true true = refl
 
-pub reach_off : (z y : ℤ) → good_offset z ≡ false → from_to z y ≡ Out
+pub reach_off : (z y : ℤ) → good_offset z ≡ false → from_to z y ≡ None
 unfolding from_to
 reach_off z y h = held_off z (at_least_one (y -ℤ z)) h
 
@@ -47,7 +47,7 @@ by_offset true f g = f refl
 by_offset false f g = g refl
 
 -- an end so high that the side is too long
-pub reach_high : (z : ℤ) (q : ℕ) → 1052672 < q → from_to z (pos q) ≡ Out
+pub reach_high : (z : ℤ) (q : ℕ) → 1052672 < q → from_to z (pos q) ≡ None
 unfolding from_to
 reach_high z q h = by_offset (good_offset z) (λ g. long g (diff_high (pos q) z (above z (offset_le z g))))
     (reach_off z (pos q))
@@ -56,7 +56,7 @@ reach_high z q h = by_offset (good_offset z) (λ g. long g (diff_high (pos q) z 
     above (pos b) k = lt-leb q b (omega arith)
     above (negsuc b) k = refl
 
-    long : good_offset z ≡ true → Count (pos q -ℤ z) q (nat_abs z) → held z (at_least_one (pos q -ℤ z)) ≡ Out
+    long : good_offset z ≡ true → Count (pos q -ℤ z) q (nat_abs z) → held z (at_least_one (pos q -ℤ z)) ≡ None
     long g c =
         let k = offset_le z g in
         ap (held z) (ap at_least_one c.is ∙ one_positive c.d) ∙ held_long z (suc c.d) (omega (arith, c.least))

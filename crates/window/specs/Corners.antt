@@ -1,6 +1,6 @@
 -- Where the corners (0, 0), (w, 0), (0, h) and (w, h) of the picture come to lie in the output, under the inverted
 -- mapping f, and the box around them. Specification 6. Assumes nothing.
-use Rattle.std.specs.Prelude.{ℕ, ◌+◌, Bool, ◌||◌, Float}
+use Rattle.std.specs.Prelude.{ℕ, ◌+◌, Bool, ◌||◌, ◌≡◌, Float}
 use Rattle.std.specs.Float.Ieee.{lt}
 use Rattle.exact.specs.Double.{◌⊕◌, ◌⊗◌, ◌⊘◌, least_divisor}
 use Rattle.number.specs.Magnitude.{abs}
@@ -9,6 +9,20 @@ use Rattle.linear.specs.Matrix.{nought}
 use Rattle.window.specs.declared.edges.Corner.{Corner}
 use Rattle.window.specs.declared.edges.Edges.{Edges}
 use Rattle.window.specs.Edges.{boxed}
+
+-- ---- the box, each corner by a rule
+
+-- the box around corners that the rule allows
+pub record Around (rule : Float → Float → Corner → Type 0) (w h : Float) (e : Edges) : Type 0 where
+  pub a : Corner
+  pub b : Corner
+  pub c : Corner
+  pub d : Corner
+  pub at_a : rule nought nought a
+  pub at_b : rule w nought b
+  pub at_c : rule nought h c
+  pub at_d : rule w h d
+  pub is : e ≡ boxed a b c d
 
 -- f[k] * u + f[k + 1] * v + f[k + 2]
 abbrev pub form : Vector → ℕ → Float → Float → Float

@@ -4,5 +4,6 @@ pub mod Ceil
 pub mod Corners
 pub mod Edges
 pub mod Extent
+pub mod Placed
 pub mod View
 pub mod Window

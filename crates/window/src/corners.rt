@@ -22,14 +22,23 @@ fn affine_corner(f: &[f64; 6], u: f64, v: f64) -> Corner
     Corner { x, y }
 }
 
+// The box around the picture's corners, each where `corner` puts it.
+fn edges<F: Fn(f64, f64) -> Corner>(corner: F, w: f64, h: f64) -> Edges
+    requires { F.IsAlwaysCallable corner }
+    ensures { Corners.Around (F.post corner) w h result }
+{
+    boxed(
+        corner(0.0, 0.0),
+        corner(w, 0.0),
+        corner(0.0, h),
+        corner(w, h),
+    )
+}
+
 pub fn affine_edges(f: &[f64; 6], w: f64, h: f64) -> Edges
     ensures { result ≡ Corners.affine_edges f.now w h }
 {
-    let a = affine_corner(f, 0.0, 0.0);
-    let b = affine_corner(f, w, 0.0);
-    let c = affine_corner(f, 0.0, h);
-    let d = affine_corner(f, w, h);
-    boxed(a, b, c, d)
+    edges(|u, v| affine_corner(f, u, v), w, h)
 }
 
 // Whether the corner is too near to the horizon to lie anywhere.
@@ -57,9 +66,5 @@ fn perspective_corner(f: &[f64; 9], u: f64, v: f64) -> Corner
 pub fn perspective_edges(f: &[f64; 9], w: f64, h: f64) -> Edges
     ensures { result ≡ Corners.perspective_edges f.now w h }
 {
-    let a = perspective_corner(f, 0.0, 0.0);
-    let b = perspective_corner(f, w, 0.0);
-    let c = perspective_corner(f, 0.0, h);
-    let d = perspective_corner(f, w, h);
-    boxed(a, b, c, d)
+    edges(|u, v| perspective_corner(f, u, v), w, h)
 }

@@ -22,16 +22,15 @@ pub struct Edges {
 fn unbounded() -> Edges
     ensures { result ≡ Box.unbounded }
 {
-    let above = 1.0 / 0.0;
-    let below = -1.0 / 0.0;
     Edges {
-        x0: above,
-        y0: above,
-        x1: below,
-        y1: below,
+        x0: f64::INFINITY,
+        y0: f64::INFINITY,
+        x1: f64::NEG_INFINITY,
+        y1: f64::NEG_INFINITY,
     }
 }
 
+#[tactic(auto, unfolding(crate::specs::Edges::grown))]
 fn grown(e: Edges, p: Corner) -> Edges
     ensures { result ≡ Box.grown e p }
 {
@@ -42,6 +41,7 @@ fn grown(e: Edges, p: Corner) -> Edges
     Edges { x0, y0, x1, y1 }
 }
 
+#[tactic(auto, unfolding(crate::specs::Edges::boxed))]
 pub fn boxed(a: Corner, b: Corner, c: Corner, d: Corner) -> Edges
     ensures { result ≡ Box.boxed a b c d }
 {

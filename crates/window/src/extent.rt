@@ -1,4 +1,5 @@
-// One side of the window: where it starts and how many pixels it has, or that it is beyond the limits. Assumes nothing.
+// One side of the window: where it starts and how many pixels it has; none where it is beyond the limits. Assumes
+// nothing.
 ghost use Rattle.std.specs.Prelude.{◌≡◌, ◌&&◌, pos, ◌≤ℤ◌, from_bits};
 ghost use Rattle.std.specs.Float.Ieee.{le};
 ghost use Rattle.std.specs.Float.{binary64};
@@ -9,10 +10,10 @@ ghost use Rattle.window.specs.Extent as Side;
 use crate::ceil::ceil_i64;
 use number::floor::floor_i64;
 
-#[derive(Drop)]
-pub enum Extent {
-    Of { from: i64, length: u64 },
-    Out,
+#[derive(Clone, Copy)]
+pub struct Extent {
+    pub from: i64,
+    pub length: u64,
 }
 
 // The largest side in pixels, and the offsets' limits.
@@ -28,22 +29,22 @@ pub fn good_offset(from: i64) -> bool
     (from >= LEAST_OFFSET) & (from <= LARGEST_OFFSET)
 }
 
-pub fn held(from: i64, length: u64) -> Extent
+pub fn held(from: i64, length: u64) -> Option<Extent>
     ensures { result ≡ Side.held from length }
 {
     if good_offset(from) & (length > 0) & (length <= LARGEST_SIDE) {
-        return Extent::Of { from, length };
+        return Some(Extent { from, length });
     }
-    Extent::Out
+    None
 }
 
 // From `from` up to `to`: one pixel at least.
-fn from_to(from: i64, to: i64) -> Extent
+fn from_to(from: i64, to: i64) -> Option<Extent>
     requires { to ≤ℤ pos farthest_floor }
     ensures { result ≡ Side.from_to from to }
 {
     if !good_offset(from) {
-        return Extent::Out;
+        return None;
     }
     if to <= from {
         return held(from, 1);
@@ -59,12 +60,12 @@ fn counts(x: f64) -> bool
 }
 
 // An edge that floor or ceil does not count is beyond the limits, but for a high edge far below the low one.
-pub fn extent_of(low: f64, high: f64) -> Extent
+pub fn extent_of(low: f64, high: f64) -> Option<Extent>
     ensures { result ≡ Side.extent_of low high }
 {
     let top = high + 0.5;
     if !counts(top) {
-        return Extent::Out;
+        return None;
     }
     from_to(floor_i64(low - 0.5), ceil_i64(top))
 }

@@ -1,81 +1,83 @@
 // The window of the output: its size and where it lies. A given viewport wins; bestfit is tried where it is asked for;
 // else, or where it finds none, the window is the picture's own. Assumes nothing.
 ghost use Rattle.std.specs.Prelude.{◌≡◌};
+ghost use Rattle.refusals.specs.Number.{told};
+ghost use Rattle.window.specs.Placed.{placed, placed_by};
+ghost use Rattle.window.specs.Window.{refusal_of};
 ghost use Rattle.window.specs.Window as Placing;
 
-use crate::bestfit::{Found, bestfit};
+use crate::bestfit::bestfit;
 use crate::edges::Edges;
 use crate::extent::{Extent, extent_of, held};
-use crate::view::View;
+use crate::view::{View, Window};
+use mappings::mapping::Mapping;
+use refusals::Refusal;
 
-// Refused is refusal 9.
-#[derive(Drop)]
-pub enum Placed {
-    Window {
-        width: u64,
-        height: u64,
-        x: i64,
-        y: i64,
-    },
-    Refused,
-}
-
+// None where a side or an offset is beyond the limits.
 #[tactic(auto, unfolding(crate::specs::Window::of_extents))]
-fn of_extents(across: Extent, down: Extent) -> Placed
-    ensures { result ≡ Placing.of_extents across down }
+fn of_extents(across: Option<Extent>, down: Option<Extent>) -> Option<Window>
+    ensures { placed result ≡ Placing.of_extents across down }
 {
-    match across {
-        Extent::Of {
-            from: x,
-            length: width,
-        } => match down {
-            Extent::Of {
-                from: y,
-                length: height,
-            } => Placed::Window {
-                width,
-                height,
-                x,
-                y,
-            },
-            Extent::Out => Placed::Refused,
-        },
-        Extent::Out => Placed::Refused,
-    }
+    let across = across?;
+    let down = down?;
+    Some(Window {
+        width: across.length,
+        height: down.length,
+        x: across.from,
+        y: down.from,
+    })
 }
 
-fn given(width: u64, height: u64, x: i64, y: i64) -> Placed
-    ensures { result ≡ Placing.given width height x y }
+fn given(w: Window) -> Option<Window>
+    ensures { placed result ≡ Placing.given w.width w.height w.x w.y }
 {
-    of_extents(held(x, width), held(y, height))
+    of_extents(held(w.x, w.width), held(w.y, w.height))
 }
 
-fn around(e: Edges) -> Placed
-    ensures { result ≡ Placing.around e }
+fn around(e: Edges) -> Option<Window>
+    ensures { placed result ≡ Placing.around e }
 {
     of_extents(extent_of(e.x0, e.x1), extent_of(e.y0, e.y1))
 }
 
-#[tactic(auto, unfolding(crate::specs::Window::judged))]
-fn best(kind: u64, coef: &[f64; 256], width: u64, height: u64) -> Placed
-    ensures { result ≡ Placing.best kind coef.now width height }
+// The picture's own window.
+fn whole(width: u64, height: u64) -> Window
+    ensures { result ≡ Placing.whole width height }
 {
-    let w = std::num::nearest_u64_to_f64(width);
-    let h = std::num::nearest_u64_to_f64(height);
-    match bestfit(kind, coef, w, h) {
-        Found::Box(e) => around(e),
-        Found::Nothing => given(width, height, 0, 0),
+    Window {
+        width,
+        height,
+        x: 0,
+        y: 0,
     }
 }
 
-pub fn window(kind: u64, coef: &[f64; 256], width: u64, height: u64, view: View) -> Placed
-    ensures { result ≡ Placing.window kind coef.now width height view }
+#[tactic(auto, unfolding(crate::specs::Window::judged))]
+fn best(mapping: &Mapping, width: u64, height: u64) -> Option<Window>
+    ensures { placed result ≡ Placing.best mapping.now.kind mapping.now.coef width height }
 {
-    if view.given {
-        return given(view.width, view.height, view.x, view.y);
+    let w = std::num::nearest_u64_to_f64(width);
+    let h = std::num::nearest_u64_to_f64(height);
+    match bestfit(mapping, w, h) {
+        Some(e) => around(e),
+        None => given(whole(width, height)),
     }
-    if view.bestfit {
-        return best(kind, coef, width, height);
+}
+
+#[tactic(auto, unfolding(crate::specs::Window::window))]
+fn window_of(mapping: &Mapping, width: u64, height: u64, view: View) -> Option<Window>
+    ensures { placed result ≡ Placing.window mapping.now.kind mapping.now.coef width height view }
+{
+    match view.viewport {
+        Some(w) => given(w),
+        None if view.bestfit => best(mapping, width, height),
+        None => given(whole(width, height)),
     }
-    given(width, height, 0, 0)
+}
+
+pub fn window(mapping: &Mapping, width: u64, height: u64, view: View) -> Result<Window, Refusal>
+    ensures window { placed_by result ≡ Placing.window mapping.now.kind mapping.now.coef width height view }
+    ensures refusal { told result ≡ refusal_of (Placing.window mapping.now.kind mapping.now.coef width height view) }
+{
+    window_of(mapping, width, height, view).ok_or(Refusal::Window)
 }

@@ -1,9 +1,6 @@
 -- `replay::passed` meets its contract: before turn k at most k jobs have passed.
-use Rattle.std.proofs.Common.{◌-◌, ◌≤◌}
+use Rattle.std.proofs.Common.{◌≤◌}
 use Rattle.replay.proofs.passed.Given as goal
 
 abbrev pub invariant-loop-k : goal.invariant-loop-k
-invariant-loop-k l = (l.n ≤ l.k) × (l.k ≤ l.jobs)
-
-abbrev pub decreases-loop-k : goal.decreases-loop-k
-decreases-loop-k l = l.jobs - l.k
+invariant-loop-k l = l.n ≤ l.k

@@ -6,7 +6,7 @@ use Rattle.fast_colours.proofs.CoverLaws.{Overlaid}
 use Rattle.fast_colours.proofs.broad.store_first.Given as goal
 
 abbrev pub invariant-loop-k : goal.invariant-loop-k
-invariant-loop-k l = Overlaid l.m l.pixel (mixed_at l.picture l.width 3 l.columns l.rows l.w) l.initial.band l.band l.k
+invariant-loop-k l = Overlaid l.m l.pixel (mixed_at l.picture.bytes.now l.picture.width 3 l.columns l.rows l.w) l.initial.band l.band l.k
 
 abbrev pub decreases-loop-k : goal.decreases-loop-k
 decreases-loop-k l = l.m - l.k

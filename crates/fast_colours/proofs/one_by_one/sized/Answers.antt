@@ -5,5 +5,4 @@ use Rattle.fast_colours.proofs.InsideSpanLaws.{are_sized}
 use Rattle.fast_colours.proofs.one_by_one.sized.Goals as goal
 
 pub returns : goal.returns
-returns c =
-    are_sized (e_float binary32).ty.own_val c.args.w c.well_formed.0.0 c.well_formed.0.1.0.1 c.well_formed.0.1.1
+returns g c = are_sized (e_float binary32).ty.own_val c.args.w c.well_formed.0.0 c.well_formed.0.1.0.1 c.well_formed.0.1.1

@@ -1,5 +1,4 @@
 -- `fast_colours::one_by_one::weigh` meets its contract. The loop's invariant: the first k points are weighed.
-use Prim.Native.Nat.{◌-◌}
 use borrow.Author.Rules.{rules}
 use Rattle.sampler.proofs.MixedLaws.{weighed_by}
 use Rattle.fast_colours.proofs.InsideSpanLaws.{weigh_none, weigh_more, weigh_last}

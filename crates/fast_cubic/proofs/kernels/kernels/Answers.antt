@@ -1,11 +1,10 @@
--- `fast_cubic::kernels::kernels` meets its contract: the row is the code's.
+-- `fast_cubic::kernels::kernels` meets its contract: the kernel is the code's.
 use Rattle.fast_cubic.proofs.KernelLaws.{kernel_catrom, kernel_spline}
 use Rattle.fast_cubic.proofs.kernels.kernels.Goals as goal
 
-pub returns-then-code-eq-CATROM : goal.returns-then-code-eq-CATROM
-returns-then-code-eq-CATROM c = λ e. kernel_catrom c.if-code-eq-CATROM.true c.catrom_row.ensures
-    (c.weigh4.ensures e)
+pub returns-in-Catrom : goal.returns-in-Catrom
+returns-in-Catrom c = λ e. rw c.in-Catrom.is (kernel_catrom (c.weigh4.ensures e))
 
-pub returns : goal.returns
-returns c = λ e. kernel_spline c.if-code-eq-CATROM.false c.spline_row.ensures
-    (c.weigh4-2.ensures e)
+pub returns-in_default : goal.returns-in_default
+returns-in_default c =
+    λ e. kernel_spline c.args.interpolation c.in_default.not-Catrom (c.weigh4-in_default.ensures e)

@@ -1,13 +1,9 @@
--- `fast_points::barrels::barrel_points` meets its contract: on either way its steps are the points (`BarrelLaws.antt`).
-use Rattle.fast_points.proofs.BarrelLaws.{barrel_span, barrel_inverse_span}
+-- `fast_points::barrels::barrel_points` meets its contract: its steps together are the points (`BarrelLaws.antt`).
+use borrow.Author.Rules.{rules}
+use Rattle.fast_points.proofs.BarrelLaws.{barrel_span}
 use Rattle.fast_points.proofs.barrels.barrel_points.Goals as goal
 
-pub returns-then-kind-eq-BARREL : goal.returns-then-kind-eq-BARREL
-returns-then-kind-eq-BARREL c =
-    barrel_span _ _ _ _ _ c.if-kind-eq-BARREL.true c.down-dy.ensures c.radii_squared.ensures
-    c.roots.ensures c.barrel_moved.ensures
-
 pub returns : goal.returns
-returns c =
-    barrel_inverse_span _ _ _ _ _ c.if-kind-eq-BARREL.false c.down-dy.ensures c.radii_squared.ensures
-    c.roots.ensures c.barrel_inverse_moved.ensures
+returns g c = let a = c.args in
+    barrel_span (goal.F-post g a.from) a.coef.now a.x a.y a.first a.n c.from_centre-dy.ensures
+    c.radii_squared.ensures c.roots.ensures (λ k h p e. search rules) c.keep.ensures

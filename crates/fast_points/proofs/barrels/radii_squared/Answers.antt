@@ -9,7 +9,7 @@ loop-k-init c = (square_none _ _ _ _ (search rules) (search rules), search rules
 
 pub loop-k-preserved : goal.loop-k-preserved
 loop-k-preserved c = (
-  square_more _ _ _ _ c.loop-k.k c.pixel_middle.ensures c.across-dx.ensures
+  square_more _ _ _ _ c.loop-k.k c.pixel_middle.ensures c.from_centre-dx.ensures
       c.radius_squared.ensures (search rules) c.loop-k.invariant.0,
   search rules,
 )

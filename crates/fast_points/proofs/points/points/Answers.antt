@@ -1,68 +1,95 @@
--- `fast_points::points::points` meets its contract: each way out is the span of the kind that the test found.
-use lib.IntN.{ℤ}
+-- `fast_points::points::points` meets its contract: each way out is the span of the kind that the arm has.
+use lib.IntN.{ℤ, pos, negsuc, nat_abs}
 use lib.Ieee.{Float, binary64, of_int}
 use mir.Syntax.{w64}
 use mir.Val.{to_z, of_z, SFits}
 use mir.ValLaws.{to_z-of_z}
 use Rattle.exact.specs.Sums.{asked}
-use Rattle.fast_points.proofs.PointsLaws.{
-  points_by,
-  points_affine,
-  points_perspective,
-  points_polynomial,
-  points_forward,
-  points_barrel,
-  points_barrel_inverse,
-}
-use mathlib.Core.Path.{◌≡◌, refl, ap, ◌∙◌}
-use Rattle.std.proofs.Common.{ℕ}
+use Rattle.inverse.specs.Inverse.{inverse}
+use borrow.Author.Rules.{rules}
+use Rattle.fast_points.proofs.PointsLaws.{points_by}
+use mathlib.Core.Path.{◌≡◌, ap, ◌∙◌}
+use Rattle.std.proofs.Common.{ℕ, ◌≤◌, ◌<◌, ◌^◌, arith}
 use Rattle.fast_points.proofs.points.points.Goals as goal
 
+-- an offset that is near fits
+fit : (x : ℤ) → nat_abs x ≤ 1048576 → SFits w64 x
+fit (pos n) h = record { sfits = below n h }
+  where
+    below : (n : ℕ) → n ≤ 1048576 → n < 2 ^ 63
+    below n h = omega arith
+fit (negsuc n) h = record { sfits = below n h }
+  where
+    below : (n : ℕ) → n < 1048576 → n < 2 ^ 63
+    below n h = omega arith
+
 -- the offset and the row's middle, as floats, are those of the frame, whose offsets are read back from their bits
-across : (x : ℤ) (a : Float) → a ≡ of_int binary64 (to_z w64 (of_z w64 x)) → SFits w64 x → a ≡ of_int binary64 x
-across x a e h = e ∙ ap (λ (z : ℤ). of_int binary64 z) (to_z-of_z w64 x h)
+across : (x : ℤ) (a : Float) → a ≡ of_int binary64 (to_z w64 (of_z w64 x)) → nat_abs x ≤ 1048576 → a ≡ of_int binary64 x
+across x a e h = e ∙ ap (λ (z : ℤ). of_int binary64 z) (to_z-of_z w64 x (fit x h))
 
-down : (j : ℕ) (y : ℤ) (b : Float) → b ≡ asked j (to_z w64 (of_z w64 y)) → SFits w64 y → b ≡ asked j y
-down j y b e h = e ∙ ap (λ (z : ℤ). asked j z) (to_z-of_z w64 y h)
+down : (j : ℕ) (y : ℤ) (b : Float) → b ≡ asked j (to_z w64 (of_z w64 y)) → nat_abs y ≤ 1048576 → b ≡ asked j y
+down j y b e h = e ∙ ap (λ (z : ℤ). asked j z) (to_z-of_z w64 y (fit y h))
 
-pub returns-then-kind-eq-AFFINE : goal.returns-then-kind-eq-AFFINE
-returns-then-kind-eq-AFFINE c = points_affine c.args.frame _ _ _ _
-    (across _ _ c.offset-a.ensures (record { sfits = c.struct_told-1.given.1.1.1.0.1 }))
-    (down _ _ _ c.asked-b.ensures (record { sfits = c.struct_told-2-1.given.1.1.1.1.0.1 }))
-    c.if-kind-eq-AFFINE.true c.affine_points.ensures
+pub returns-in-Nothing : goal.returns-in-Nothing
+unfolding inverse
+returns-in-Nothing c = points_by c.args.frame _ _ _
+    (across _ _ c.offset-x.ensures c.args.frame.near.0)
+    (down _ _ _ c.asked-y.ensures c.args.frame.near.1)
+    c.keep_row.ensures
+    (λ z p e. rw c.in-Nothing.is (search rules))
 
-pub returns-then-kind-eq-PERSPECTIVE : goal.returns-then-kind-eq-PERSPECTIVE
-returns-then-kind-eq-PERSPECTIVE c = points_perspective c.args.frame _ _ _ _
-    (across _ _ c.offset-a.ensures (record { sfits = c.struct_told-1.given.1.1.1.0.1 }))
-    (down _ _ _ c.asked-b.ensures (record { sfits = c.struct_told-2-1.given.1.1.1.1.0.1 }))
-    c.if-kind-eq-PERSPECTIVE.true c.perspective_points.ensures
+pub returns-in-Affine : goal.returns-in-Affine
+unfolding inverse
+returns-in-Affine c = points_by c.args.frame _ _ _
+    (across _ _ c.offset-x.ensures c.args.frame.near.0)
+    (down _ _ _ c.asked-y.ensures c.args.frame.near.1)
+    c.keep_row-in-Affine.ensures
+    (λ z p e. rw c.in-Affine.is (search rules))
 
-pub returns-then-kind-eq-POLY : goal.returns-then-kind-eq-POLY
-returns-then-kind-eq-POLY c = points_polynomial c.args.frame _ _ _ _
-    (across _ _ c.offset-a.ensures (record { sfits = c.struct_told-1.given.1.1.1.0.1 }))
-    (down _ _ _ c.asked-b.ensures (record { sfits = c.struct_told-2-1.given.1.1.1.1.0.1 }))
-    c.if-kind-eq-POLY.true c.polynomial_points.ensures
+pub returns-in-Perspective : goal.returns-in-Perspective
+unfolding inverse
+returns-in-Perspective c = points_by c.args.frame _ _ _
+    (across _ _ c.offset-x.ensures c.args.frame.near.0)
+    (down _ _ _ c.asked-y.ensures c.args.frame.near.1)
+    c.keep_row-in-Perspective.ensures
+    (λ z p e. rw c.in-Perspective.is (search rules))
 
-pub returns-then-kind-eq-BILINEAR_FORWARD : goal.returns-then-kind-eq-BILINEAR_FORWARD
-returns-then-kind-eq-BILINEAR_FORWARD c = points_forward c.args.frame _ _ _ _
-    (across _ _ c.offset-a.ensures (record { sfits = c.struct_told-1.given.1.1.1.0.1 }))
-    (down _ _ _ c.asked-b.ensures (record { sfits = c.struct_told-2-1.given.1.1.1.1.0.1 }))
-    c.if-kind-eq-BILINEAR_FORWARD.true c.forward_points.ensures
+pub returns-in-Poly : goal.returns-in-Poly
+unfolding inverse
+returns-in-Poly c = points_by c.args.frame _ _ _
+    (across _ _ c.offset-x.ensures c.args.frame.near.0)
+    (down _ _ _ c.asked-y.ensures c.args.frame.near.1)
+    c.keep_row-in-Poly.ensures
+    (λ z p e. rw c.in-Poly.is (search rules))
 
-pub returns-then-kind-eq-BARREL : goal.returns-then-kind-eq-BARREL
-returns-then-kind-eq-BARREL c = points_barrel c.args.frame _ _ _ _
-    (across _ _ c.offset-a.ensures (record { sfits = c.struct_told-1.given.1.1.1.0.1 }))
-    (down _ _ _ c.asked-b.ensures (record { sfits = c.struct_told-2-1.given.1.1.1.1.0.1 }))
-    c.if-kind-eq-BARREL.true c.barrel_points.ensures
+pub returns-in-BilinearForward : goal.returns-in-BilinearForward
+unfolding inverse
+returns-in-BilinearForward c = points_by c.args.frame _ _ _
+    (across _ _ c.offset-x.ensures c.args.frame.near.0)
+    (down _ _ _ c.asked-y.ensures c.args.frame.near.1)
+    c.keep_row-in-BilinearForward.ensures
+    (λ z p e. rw c.in-BilinearForward.is (search rules))
 
-pub returns-then-kind-eq-BARREL_INVERSE : goal.returns-then-kind-eq-BARREL_INVERSE
-returns-then-kind-eq-BARREL_INVERSE c = points_barrel_inverse c.args.frame _ _ _ _
-    (across _ _ c.offset-a.ensures (record { sfits = c.struct_told-1.given.1.1.1.0.1 }))
-    (down _ _ _ c.asked-b.ensures (record { sfits = c.struct_told-2-1.given.1.1.1.1.0.1 }))
-    c.if-kind-eq-BARREL_INVERSE.true c.barrel_points-then-kind-eq-BARREL_INVERSE.ensures
+pub returns-in-Barrel : goal.returns-in-Barrel
+unfolding inverse
+returns-in-Barrel c = points_by c.args.frame _ _ _
+    (across _ _ c.offset-x.ensures c.args.frame.near.0)
+    (down _ _ _ c.asked-y.ensures c.args.frame.near.1)
+    c.barrel_points.ensures
+    (λ z p e. rw c.in-Barrel.is (search rules))
 
-pub returns : goal.returns
-returns c = points_by c.args.frame _ _ _ _
-    (across _ _ c.offset-a.ensures (record { sfits = c.struct_told-1.given.1.1.1.0.1 }))
-    (down _ _ _ c.asked-b.ensures (record { sfits = c.struct_told-2-1.given.1.1.1.1.0.1 }))
-    _ (λ c. refl) c.other_points.ensures
+pub returns-in-BarrelInverse : goal.returns-in-BarrelInverse
+unfolding inverse
+returns-in-BarrelInverse c = points_by c.args.frame _ _ _
+    (across _ _ c.offset-x.ensures c.args.frame.near.0)
+    (down _ _ _ c.asked-y.ensures c.args.frame.near.1)
+    c.barrel_points-in-BarrelInverse.ensures
+    (λ z p e. rw c.in-BarrelInverse.is (search rules))
+
+pub returns-in-Shepards : goal.returns-in-Shepards
+unfolding inverse
+returns-in-Shepards c = points_by c.args.frame _ _ _
+    (across _ _ c.offset-x.ensures c.args.frame.near.0)
+    (down _ _ _ c.asked-y.ensures c.args.frame.near.1)
+    c.keep_row-in-Shepards.ensures
+    (λ z p e. rw c.in-Shepards.is (search rules))

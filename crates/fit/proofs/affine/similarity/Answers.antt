@@ -1,26 +1,26 @@
--- `fit::affine::similarity` meets its contract: each way out is the case of the solution that was or was not found.
--- Assumes nothing.
-use Rattle.fit.proofs.FitLaws.{affine_terms_law}
+-- There is room for the four terms, and the two ways out are the cases of the definition.
+use Rattle.std.proofs.Common.{◌∙◌}
+use Rattle.std.proofs.lemmas.Result.{err_from_is_err_and}
+use Rattle.mappings.specs.declared.rows.Twin.TheVariants.{Similarity}
+use Rattle.fit.specs.Fit.{fit_twin}
 use Rattle.fit.specs.Affine.{similarity}
-use Rattle.fit.proofs.FitLaws.{none_8, some_8}
-use borrow.Author.Tests.{not-true, not-false}
-use Rattle.mappings.specs.Mapping.{fitted}
-use Rattle.std.proofs.Common.{ap, ◌∙◌, rules}
+use Rattle.fit.proofs.FitLaws.{none_8, some_8, affine_terms_law}
 use Rattle.fit.proofs.affine.similarity.Goals as goal
 
-pub fit_twin-s-requires : goal.fit_twin-s-requires
-fit_twin-s-requires c = (search rules, affine_terms_law 2 c.terms.ensures)
+pub fit_twin-requires : goal.fit_twin-requires
+fit_twin-requires c = (c.requires.0, affine_terms_law 2 c.terms.ensures)
 
-pub returns-then-not-s : goal.returns-then-not-s
+pub returns-in_err-x : goal.returns-in_err-x
 unfolding similarity
-returns-then-not-s c = rw (← c.terms.ensures, ← c.fit_twin-s.ensures)
-    (none_8 _ _ c.refused.ensures (not-true _ c.if-not-s.true))
+returns-in_err-x c =
+    let p = err_from_is_err_and c.from_residual.result c.from_residual.ensures.1 in
+    let e = c.fit_twin.ensures
+    ∙ (λ i. fit_twin c.args.pairs.now.values.now (c.requires.1 i) Similarity (c.terms.ensures i)) in
+    rw (p.1, p.2, ← e) (none_8 _ _ _ c.in_err-x.ensures.value)
 
 pub returns : goal.returns
 unfolding similarity
-returns c = rw (
-  ← c.terms.ensures,
-  ← c.fit_twin-s.ensures,
-)
-    (some_8 _ _ (c.accepted.ensures ∙ ap fitted c.mapping_of.ensures)
-    (not-false _ c.if-not-s.false))
+returns c =
+    let e = c.fit_twin.ensures
+    ∙ (λ i. fit_twin c.args.pairs.now.values.now (c.requires.1 i) Similarity (c.terms.ensures i)) in
+    rw (← e) (some_8 _ _ _ c.in_ok-x.ensures.value c.new.ensures)

@@ -1,28 +1,19 @@
--- `fit::lstsq::fit_both` meets its contract: each way out is the case of the two solutions that were or were not found.
--- Assumes nothing.
-use borrow.Author.Tests.{not-true, not-false}
-use Rattle.mappings.specs.Mapping.{fitted}
+-- The three ways out are the cases of the two solutions.
+use Rattle.std.proofs.lemmas.Result.{err_from_is_err_and}
 use Rattle.fit.proofs.FitLaws.{both_first, both_second, both_found}
-use Rattle.std.proofs.Common.{ap, ◌∙◌}
 use Rattle.fit.proofs.lstsq.fit_both.Goals as goal
 
-pub returns-then-not-s : goal.returns-then-not-s
-returns-then-not-s c = rw (← c.fit_one-s.ensures)
-    (both_first _ _ _ _ _ c.refused.ensures (not-true _ c.if-not-s.true))
+pub returns-in_err-xs : goal.returns-in_err-xs
+returns-in_err-xs c =
+    let p = err_from_is_err_and c.from_residual.result c.from_residual.ensures.1 in
+    rw (p.1, p.2, ← c.fit_one.ensures) (both_first _ _ _ _ _ _ c.in_err-xs.ensures.value)
 
-pub returns-then-not-t : goal.returns-then-not-t
-returns-then-not-t c = rw (
-  ← c.fit_one-s.ensures,
-  ← c.fit_one-t.ensures,
-)
-    (both_second _ _ _ _ _ c.refused-then-not-t.ensures (not-false _ c.if-not-s.false)
-    (not-true _ c.if-not-t.true))
+pub returns-in_err-ys : goal.returns-in_err-ys
+returns-in_err-ys c =
+    let p = err_from_is_err_and c.from_residual-in_err-ys.result c.from_residual-in_err-ys.ensures.1 in
+    rw (p.1, p.2, ← c.fit_one.ensures, ← c.fit_one-2.ensures)
+    (both_second _ _ _ _ _ _ _ c.in_ok-xs.ensures.value c.in_err-ys.ensures.value)
 
 pub returns : goal.returns
-returns c = rw (
-  ← c.fit_one-s.ensures,
-  ← c.fit_one-t.ensures,
-)
-    (both_found _ _ _ _ _ (c.accepted.ensures ∙ ap fitted c.mapping_of_two.ensures)
-    (not-false _ c.if-not-s.false)
-    (not-false _ c.if-not-t.false))
+returns c = rw (← c.fit_one.ensures, ← c.fit_one-2.ensures)
+    (both_found _ _ _ _ _ _ _ c.in_ok-xs.ensures.value c.in_ok-ys.ensures.value c.of_two.ensures)

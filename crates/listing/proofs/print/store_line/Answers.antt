@@ -5,4 +5,4 @@ use Rattle.listing.proofs.PrintLaws.{store_line}
 use Rattle.listing.proofs.print.store_line.Goals as goal
 
 pub returns : goal.returns
-returns c = (refl, rw (c.store_hex.ensures.1, c.bits_of_f64.ensures) (store_line _ _ _ _))
+returns c = (refl, rw (c.store_hex.ensures.1, c.bits.ensures) (store_line _ _ _ _))

@@ -1,5 +1,5 @@
 -- `names::table::find` meets its contract. The invariant: the whole table's answer is that of the entries that are left
--- at `k`, in a name that started at `from`; the measure is what is left of the text. Assumes nothing.
+-- at `k`, in a name that started at `from`. Assumes nothing.
 use mathlib.Core.Path.{sym, ◌∙◌}
 use native.Mathlib.Omega.{arith}
 use borrow.Author.Rules.{rules}

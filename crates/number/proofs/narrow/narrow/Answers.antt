@@ -1,15 +1,11 @@
--- What differs from itself is a NaN, and so is 0 / 0; the rest are numbers. Assumes nothing.
-use Rattle.std.proofs.Common.{T, sym, ap, ◌∙◌, subst}
-use lib.Ieee.{binary32}
-use lib.Ieee.Compare.{differs_from_itself}
-use Rattle.exact.proofs.Nan.{number_test, zero_by_zero}
+-- A NaN is narrowed to the NaN; the rest are numbers. Assumes nothing.
+use Rattle.std.proofs.Common.{sym, ap, ◌∙◌}
+use lib.Ieee.{of_bits}
+use Rattle.exact.proofs.Nan.{from_is_nan}
 use Rattle.number.specs.Narrow.{narrow}
 use Rattle.number.proofs.NarrowLaws.{narrow_nan}
 use Rattle.number.proofs.narrow.narrow.Goals as goal
 
-pub returns-then-x : goal.returns-then-x
-returns-then-x c = zero_by_zero binary32
-    ∙ sym (ap narrow (differs_from_itself c.args.x (subst T (sym c.if-x.true) tt)) ∙ narrow_nan)
-
-pub narrow_number-requires : goal.narrow_number-requires
-narrow_number-requires c = number_test c.args.x c.if-x.false
+pub returns-then-is_nan : goal.returns-then-is_nan
+unfolding of_bits
+returns-then-is_nan c = sym (ap narrow (from_is_nan c.args.x (sym c.is_nan.ensures.value ∙ c.if-is_nan.true)) ∙ narrow_nan)

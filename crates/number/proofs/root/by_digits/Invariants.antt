@@ -1,12 +1,9 @@
 -- `number::root::by_digits` meets its contract. The invariant is the classic one: the number is the square of the root
 -- so far, the remainder and the digits to come (`RootDigits.antt`). After the last turn root and remainder are those of
 -- the whole number. Assumes nothing.
-use Rattle.std.proofs.Common.{◌*◌, ◌^◌}
+use Rattle.std.proofs.Common.{◌-◌, ◌*◌, ◌^◌}
 use Rattle.number.proofs.RootDigits.{Digits}
 use Rattle.number.proofs.root.by_digits.Given as goal
 
-abbrev pub invariant-loop-left : goal.invariant-loop-left
-invariant-loop-left l = Digits (l.n * 2 ^ 52) l.s l.r l.rest l.left
-
-abbrev pub decreases-loop-left : goal.decreases-loop-left
-decreases-loop-left l = l.left
+abbrev pub invariant-loop : goal.invariant-loop
+invariant-loop l = Digits (l.n * 2 ^ 52) l.s l.r l.rest (53 - l.counter)

@@ -1,16 +1,7 @@
 -- `policies::named::checker_tile` meets its contract: two parities are equal where their sum is even. Assumes nothing.
 use Rattle.policies.proofs.IndexLaws.{parity_lt}
-use Rattle.policies.proofs.NamedCode.{same_parity, other_parity}
+use Rattle.policies.proofs.NamedCode.{other_parity}
 use Rattle.policies.proofs.named.checker_tile.Goals as goal
-
-pub returns-then-parity : goal.returns-then-parity
-returns-then-parity c = rw (
-  ← c.parity.ensures,
-  ← c.parity-2.ensures,
-  same_parity _ _ c.if-parity.true,
-  c.tile.ensures,
-  c.tile-then-parity.ensures,
-)
 
 pub returns : goal.returns
 returns c = rw (

@@ -1,19 +1,15 @@
--- `probe_fit::fitted::probe_fit` meets its contract: each way out is the case of the definition that its test took.
+-- `probe_fit::fitted::probe_fit` meets its contract: each way out is the case of the definition that the fit took.
 -- Assumes nothing.
+use borrow.Author.Tests.{ne_eqb}
+use Rattle.fit.proofs.BuildLaws.{number_some}
+use Rattle.mappings.specs.Mapping.{refused}
 use Rattle.probe_fit.specs.Fitted.{answered, probe_fit}
-use borrow.Author.Tests.{eq-eqb, ne_eqb}
 use Rattle.probe_fit.proofs.fitted.probe_fit.Goals as goal
 
-pub returns-then-refusal-ne0 : goal.returns-then-refusal-ne0
+pub returns-in-Ok : goal.returns-in-Ok
 unfolding probe_fit answered
-returns-then-refusal-ne0 c = rw (← c.sized_fit-fitted.ensures, ne_eqb _ _ c.if-refusal-ne0.true)
+returns-in-Ok c = rw (← c.in-Ok.ensures, c.store_coefficients.ensures, c.store_at.ensures, c.most.ensures)
 
-pub returns : goal.returns
-unfolding probe_fit answered
-returns c = rw (
-  ← c.sized_fit-fitted.ensures,
-  eq-eqb _ _ c.if-refusal-ne0.false,
-  c.store_coefficients.ensures,
-  c.store_u64.ensures,
-  c.most.ensures,
-)
+pub returns-in-Err : goal.returns-in-Err
+unfolding probe_fit answered refused
+returns-in-Err c = rw (← c.in-Err.ensures, c.number.ensures, ne_eqb _ 0 (number_some c.in-Err.r))

@@ -12,7 +12,7 @@ loop-k-init c = (up_to_none _ _ _, search rules)
 pub loop-k-preserved : goal.loop-k-preserved
 unfolding store_coefficient
 loop-k-preserved c = (
-  c.store_f64.ensures
+  c.store_at.ensures
       ∙ up_to_next _ _ _ _ (search rules) c.loop-k.invariant.0,
   (search rules, search rules),
 )

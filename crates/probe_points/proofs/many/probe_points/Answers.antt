@@ -3,18 +3,19 @@
 use mathlib.Core.Path.{sym, ◌∙◌}
 use Rattle.probe_points.specs.Points.{points_of, probe_points}
 use Rattle.probe_points.proofs.PointsLaws.{lengths_fit}
-use borrow.Author.Tests.{eq-eqb, ne_eqb}
+use borrow.Author.Tests.{ne_eqb}
+use Rattle.fit.proofs.BuildLaws.{number_some}
+use Rattle.mappings.specs.Mapping.{refused}
 use Rattle.probe_points.proofs.many.probe_points.Goals as goal
 
-pub returns-then-refusal-ne0 : goal.returns-then-refusal-ne0
-unfolding probe_points points_of
-returns-then-refusal-ne0 c = rw (← c.sized_fit-fitted.ensures, ne_eqb _ _ c.if-refusal-ne0.true)
+pub returns-in-Err : goal.returns-in-Err
+unfolding probe_points points_of refused
+returns-in-Err c = rw (← c.in-Err.ensures, c.number.ensures, ne_eqb _ 0 (number_some c.in-Err.r))
 
 pub returns-then-wrong_lengths : goal.returns-then-wrong_lengths
 unfolding probe_points points_of
 returns-then-wrong_lengths c = rw (
-  ← c.sized_fit-fitted.ensures,
-  eq-eqb _ _ c.if-refusal-ne0.false,
+  ← c.in-Ok.ensures,
   ← c.wrong_lengths.ensures,
   c.if-wrong_lengths.true,
 )
@@ -26,8 +27,7 @@ store_points-requires c = lengths_fit _ _ (sym c.wrong_lengths.ensures
 pub returns : goal.returns
 unfolding probe_points points_of
 returns c = rw (
-  ← c.sized_fit-fitted.ensures,
-  eq-eqb _ _ c.if-refusal-ne0.false,
+  ← c.in-Ok.ensures,
   ← c.wrong_lengths.ensures,
   c.if-wrong_lengths.false,
   c.store_points.ensures,

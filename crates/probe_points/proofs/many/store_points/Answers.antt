@@ -15,8 +15,8 @@ loop-k-preserved c = (
   c.store_point.ensures
       ∙ rw (
         c.inverse-p.ensures,
-        c.f64_at-y.ensures,
-        c.f64_at-x.ensures,
+        c.read_at-y.ensures,
+        c.read_at-x.ensures,
       )
       (up_to_next _ _ _ _ (search rules)
       c.loop-k.invariant.0),

@@ -8,7 +8,7 @@ use Prim.Native.Nat.{◌-◌, ◌≤◌}
 use Rattle.probe_points.proofs.many.store_points.Given as goal
 
 abbrev pub invariant-loop-k : goal.invariant-loop-k
-invariant-loop-k l = (l.out ≡ up_to (store_next l.kind l.order l.count l.coef l.points) 0 l.k l.initial.out)
+invariant-loop-k l = (l.out ≡ up_to (store_next l.mapping l.points) 0 l.k l.initial.out)
     × ((length l.out ≡ length l.initial.out) × (l.k ≤ l.n))
 
 abbrev pub decreases-loop-k : goal.decreases-loop-k

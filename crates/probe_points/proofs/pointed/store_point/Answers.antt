@@ -3,8 +3,8 @@ use Rattle.probe_points.proofs.pointed.store_point.Goals as goal
 
 pub returns : goal.returns
 returns c = rw (
-  c.store_u64.ensures,
+  c.store_at-3.ensures,
   c.flag.ensures,
-  c.store_f64-2.ensures,
-  c.store_f64.ensures,
+  c.store_at-2.ensures,
+  c.store_at.ensures,
 )

@@ -17,8 +17,7 @@ store_span_points-requires c =
     let n = c.next_span-n.ensures in
     let w : c.loop-i.i + c.next_span-n.result ≤ c.args.width = omega (arith, n.1.0) in
     record {
-      n_le_longest_span = (n.1.1, (le_trans w c.requires.width_le_largest_side.0, c.requires.width_le_largest_side.1));
-      x_bound = search rules;
+      n_le_longest_span = (n.1.1.0, (le_trans w c.requires.width_le_largest_side.0, c.requires.width_le_largest_side.1));
       n_in_bounds = room c.args.place (c.loop-i.i + c.next_span-n.result) c.args.width _ _ w
           c.requires.width_in_bounds c.loop-i.invariant.1.0;
     }

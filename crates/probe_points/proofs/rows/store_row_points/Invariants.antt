@@ -8,7 +8,7 @@ use Rattle.probe_points.specs.Rows.{store_column}
 use Rattle.probe_points.proofs.rows.store_row_points.Given as goal
 
 abbrev pub invariant-loop-i : goal.invariant-loop-i
-invariant-loop-i l = (l.out ≡ up_to (store_column l.frame l.coef l.j l.place) 0 l.i l.initial.out)
+invariant-loop-i l = (l.out ≡ up_to (store_column l.frame.mapping.now l.frame.x l.frame.y l.j l.place) 0 l.i l.initial.out)
     × ((length l.out ≡ length l.initial.out) × (l.i ≤ l.width))
 
 abbrev pub decreases-loop-i : goal.decreases-loop-i

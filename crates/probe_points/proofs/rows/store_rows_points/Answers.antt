@@ -29,7 +29,6 @@ overflow_mul-place c =
 pub store_row_points-requires : goal.store_row_points-requires
 store_row_points-requires c = record {
   width_le_largest_side = (c.requires.width_le_largest_side.0, search rules);
-  x_bound = search rules;
   width_in_bounds = room c.loop-r.r c.args.rows c.args.width _ _
       (mul-le-mul_right c.args.width (search rules)) c.requires.out_len c.loop-r.invariant.1.0;
 }

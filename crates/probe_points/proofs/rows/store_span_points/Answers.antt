@@ -7,4 +7,4 @@ use Rattle.probe_points.proofs.rows.store_span_points.Goals as goal
 pub returns : goal.returns
 returns c =
     c.store_kept.ensures
-    ∙ span_is _ _ _ _ _ _ _ _ c.points.ensures _
+    ∙ span_is c.args.frame _ _ _ _ _ _ c.points.ensures _

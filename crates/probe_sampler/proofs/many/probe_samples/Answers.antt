@@ -14,17 +14,10 @@ pub returns-then-unfit_sample : goal.returns-then-unfit_sample
 unfolding probe_samples
 returns-then-unfit_sample c = rw (eq-eqb _ _ c.if-points-out.false, ← c.unfit_sample.ensures, c.if-unfit_sample.true)
 
-pub pixel_at-colour-requires : goal.pixel_at-colour-requires
-pixel_at-colour-requires c =
-    (outside_fit _ _ _ _ _ _ _ (sym c.unfit_sample.ensures ∙ c.if-unfit_sample.false)).1.0
-    (search rules)
-
-pub store_samples-requires : goal.store_samples-requires
-store_samples-requires c = record {
-  shaped = (outside_fit _ _ _ _ _ _ _ (sym c.unfit_sample.ensures
-      ∙ c.if-unfit_sample.false)).0;
-  points_len = c.if-points-out.false;
-}
+pub sampler_of-s-requires : goal.sampler_of-s-requires
+sampler_of-s-requires c =
+    let f = outside_fit _ _ _ _ _ _ _ (sym c.unfit_sample.ensures ∙ c.if-unfit_sample.false) in
+    record { shaped = f.0; one_pixel = f.1.0 (search rules) }
 
 pub returns : goal.returns
 unfolding probe_samples
@@ -33,5 +26,6 @@ returns c = rw (
   ← c.unfit_sample.ensures,
   c.if-unfit_sample.false,
   c.store_samples.ensures,
-  c.pixel_at-colour.ensures,
+  c.of_code.ensures,
+  c.sampler_of-s.ensures c.args.interpolation,
 )

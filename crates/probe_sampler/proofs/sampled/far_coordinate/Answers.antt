@@ -4,4 +4,4 @@ use Rattle.probe_sampler.proofs.sampled.far_coordinate.Goals as goal
 
 pub returns : goal.returns
 unfolding far_coordinate
-returns c = rw c.f64_bits_within.ensures
+returns c = rw c.bits_within.ensures

@@ -9,15 +9,15 @@ pub returns-then-unfit_sample : goal.returns-then-unfit_sample
 unfolding probe_interpolate
 returns-then-unfit_sample c = rw (← c.unfit_sample.ensures, c.if-unfit_sample.true)
 
-pub pixel_at-requires : goal.pixel_at-requires
-pixel_at-requires c =
-    (outside_fit _ _ _ _ _ _ _ (sym c.unfit_sample.ensures ∙ c.if-unfit_sample.false)).1.0
-    (search rules)
+pub sampler_of-s-requires : goal.sampler_of-s-requires
+sampler_of-s-requires c =
+    let f = outside_fit _ _ _ _ _ _ _ (sym c.unfit_sample.ensures ∙ c.if-unfit_sample.false) in
+    record { shaped = f.0; one_pixel = f.1.0 (search rules) }
 
 pub store_colour-requires : goal.store_colour-requires
-store_colour-requires c = let f =
-    outside_fit _ _ _ _ _ _ _ (sym c.unfit_sample.ensures
-    ∙ c.if-unfit_sample.false) in record { picture = f.0; reached = f.1.1; k_in_bounds = search rules }
+store_colour-requires c =
+    let f = outside_fit _ _ _ _ _ _ _ (sym c.unfit_sample.ensures ∙ c.if-unfit_sample.false) in
+    record { reached = f.1.1; k_in_bounds = search rules }
 
 pub returns : goal.returns
 unfolding probe_interpolate
@@ -25,5 +25,6 @@ returns c = rw (
   ← c.unfit_sample.ensures,
   c.if-unfit_sample.false,
   c.store_colour.ensures,
-  c.pixel_at.ensures,
+  c.of_code.ensures,
+  c.sampler_of-s.ensures c.args.interpolation,
 )

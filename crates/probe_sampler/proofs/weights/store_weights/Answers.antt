@@ -3,8 +3,8 @@ use Rattle.probe_sampler.proofs.weights.store_weights.Goals as goal
 
 pub returns : goal.returns
 returns c = rw (
-  c.store_f32-4.ensures,
-  c.store_f32-3.ensures,
-  c.store_f32-2.ensures,
-  c.store_f32.ensures,
+  c.store_at-4.ensures,
+  c.store_at-3.ensures,
+  c.store_at-2.ensures,
+  c.store_at.ensures,
 )

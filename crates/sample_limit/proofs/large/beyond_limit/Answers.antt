@@ -4,4 +4,4 @@ use mathlib.Core.Bool.{not}
 use Rattle.sample_limit.proofs.large.beyond_limit.Goals as goal
 
 pub returns : goal.returns
-returns c = ap not c.f32_within.ensures
+returns c = ap not c.within.ensures

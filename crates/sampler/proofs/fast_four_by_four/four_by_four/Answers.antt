@@ -5,48 +5,28 @@ use native.Mathlib.Omega.{arith}
 use Rattle.taps.specs.Weights.{products}
 use Rattle.taps.proofs.TapsLaws.{none_lined, lined_next, finished}
 use Rattle.sampler.specs.FourByFour.{own}
-use Rattle.sampler.proofs.FourByFourCode.{row_room, row_small, row_fits, line_lined}
+use Rattle.sampler.proofs.FourByFourCode.{row_room, line_lined}
 use borrow.Author.Rules.{rules}
 use Rattle.sampler.proofs.fast_four_by_four.four_by_four.Goals as goal
 
 pub loop-m-init : goal.loop-m-init
 loop-m-init c = (
-  c.nothing-s.ensures ∙ none_lined (own c.args.picture.now c.args.width c.args.channels) _ 4
+  c.nothing-s.ensures ∙ none_lined (own c.args.picture.bytes.now c.args.picture.width c.args.picture.channels) _ 4
       (products c.args.wx.now c.args.wy.now),
   search rules,
 )
 
-pub overflow_add-j : goal.overflow_add-j
-overflow_add-j c = omega (arith, c.requires.picture.sizes.height_most, c.requires.i_bound.1, c.loop-m-test.true)
-
-pub overflow_mul-j : goal.overflow_mul-j
-overflow_mul-j c = omega (arith, row_small _ _ c.loop-m.m c.requires.picture c.requires.i_bound.0 c.requires.i_bound.1 c.loop-m-test.true)
-
-pub overflow_add-j-in-loop-m : goal.overflow_add-j-in-loop-m
-overflow_add-j-in-loop-m c = omega (arith, row_small _ _ c.loop-m.m c.requires.picture c.requires.i_bound.0 c.requires.i_bound.1 c.loop-m-test.true)
-
-pub overflow_mul-j-in-loop-m : goal.overflow_mul-j-in-loop-m
-overflow_mul-j-in-loop-m c = omega (arith, row_fits _ _ c.loop-m.m c.requires.picture c.requires.i_bound.0 c.requires.i_bound.1 c.loop-m-test.true)
-
-pub offset_bounds-wy-m : goal.offset_bounds-wy-m
-offset_bounds-wy-m c = omega (arith, row_fits _ _ c.loop-m.m c.requires.picture c.requires.i_bound.0 c.requires.i_bound.1 c.loop-m-test.true)
-
 pub line_of-s-requires : goal.line_of-s-requires
-line_of-s-requires c = record {
-  channels_nonzero = (c.requires.picture.channels_least, c.requires.picture.channels_most);
-  channels_in_bounds = (
-    row_room _ _ c.loop-m.m c.requires.picture c.requires.i_bound.0 c.requires.i_bound.1 c.loop-m-test.true,
-    c.requires.picture.limited,
-  );
-}
+line_of-s-requires c =
+    row_room _ _ c.loop-m.m c.args.picture.fits c.requires.0 c.requires.1 (omega (arith, c.loop-m-test.true))
 
 pub loop-m-preserved : goal.loop-m-preserved
 loop-m-preserved c =
     let l = c.loop-m in (
-      lined_next (own c.args.picture.now c.args.width c.args.channels) _ 4
+      lined_next (own c.args.picture.bytes.now c.args.picture.width c.args.picture.channels) _ 4
           (products c.args.wx.now c.args.wy.now) l.m l.s c.line_of-s.result l.invariant.0
-          (line_lined c.args.picture.now c.args.width c.args.channels c.args.i c.args.j
-          c.args.wx.now c.args.wy.now l.m c.loop-m-test.true _ _ l.s
+          (line_lined c.args.picture.bytes.now c.args.picture.width c.args.picture.channels c.args.i c.args.j
+          c.args.wx.now c.args.wy.now l.m (omega (arith, c.loop-m-test.true)) _ _ l.s
           c.line_of-s.result refl refl c.line_of-s.ensures),
       search rules,
     )
@@ -54,6 +34,6 @@ loop-m-preserved c =
 pub returns : goal.returns
 returns c =
     let l = c.loop-m in
-    finished (own c.args.picture.now c.args.width c.args.channels) _ 4
+    finished (own c.args.picture.bytes.now c.args.picture.width c.args.picture.channels) _ 4
     (products c.args.wx.now c.args.wy.now) l.m l.s c.mean.result l.invariant.1
-    c.loop-m-test.false l.invariant.0 c.mean.ensures
+    (omega (arith, c.loop-m-test.false)) l.invariant.0 c.mean.ensures

@@ -1,10 +1,6 @@
 -- `sampler::fast_four_by_four::line` meets its contract: four pixels that follow each other.
-use native.Mathlib.Omega.{arith}
 use Rattle.sampler.specs.FourByFour.{line_sums}
 use Rattle.sampler.proofs.fast_four_by_four.line.Goals as goal
-
-pub widened-requires-4 : goal.widened-requires-4
-widened-requires-4 c = ((c.requires.channels_nonzero.0, omega (arith, c.requires.channels_nonzero.0, c.requires.channels_in_bounds.0)), c.requires.channels_in_bounds.1)
 
 pub returns : goal.returns
 unfolding line_sums

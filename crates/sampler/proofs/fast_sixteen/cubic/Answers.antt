@@ -12,10 +12,13 @@ use Rattle.policies.proofs.IndexCode.{argument, bits_inside}
 use Rattle.taps.proofs.CellLaws.{floor_small}
 use Rattle.taps.proofs.SignedCode.{again, asked}
 use Rattle.sampler.proofs.SixteenCode.{cubic_inside, cubic_anywhere}
-use mathlib.Core.Path.{◌≡◌, sym, ap, ◌∙◌}
-use Prim.Native.Nat.{ℕ, ◌+◌, ◌-◌, ◌≤◌, ◌<◌}
-use native.Mathlib.Omega.{arith}
-use borrow.Author.Rules.{rules}
+use Rattle.policies.specs.Named as Policies
+use Rattle.taps.specs.Interpolation.{code_of}
+use Rattle.taps.specs.Sampler.{plane_of}
+use Rattle.taps.specs.declared.interpolation.Interpolation.{Interpolation}
+use Rattle.taps.proofs.InterpolationCode.{interpolation_code}
+use Rattle.sampler.specs.Interpolate.{several}
+use Rattle.sampler.proofs.InterpolateCode.{sampled_code}
 use Rattle.sampler.proofs.fast_sixteen.cubic.Goals as goal
 
 -- a first index that is below a side less three
@@ -43,16 +46,10 @@ before-requires-2 c =
     c.requires.reached.1)
 
 pub four_by_four-requires : goal.four_by_four-requires
-four_by_four-requires c = record {
-  picture = search rules;
-  i_bound = (
-    inside _ _ _
-        c.side_less.ensures
-        c.if-i-side_less.true,
-    inside _ _ _ c.side_less-then-i-side_less.ensures
-        c.if-j-side_less.true,
-  );
-}
+four_by_four-requires c = (
+  inside _ _ _ c.side_less.ensures c.if-i-side_less.true,
+  inside _ _ _ c.side_less-then-i-side_less.ensures c.if-j-side_less.true,
+)
 
 pub returns-then-j-side_less : goal.returns-then-j-side_less
 returns-then-j-side_less c =
@@ -60,22 +57,31 @@ returns-then-j-side_less c =
     c.if-i-side_less.true in
     let hy = inside _ _ _ c.side_less-then-i-side_less.ensures
     c.if-j-side_less.true in
-    cubic_inside _ _ _ _ c.args.policy c.args.background _ _ c.args.code c.requires.cubic _ _ hx hy
+    let p = c.args.s.picture.fits.sizes in
+    cubic_inside _ _ _ _ (Policies.code_of c.args.s.policy) c.args.s.background _ _ (code_of c.args.interpolation)
+    c.requires.cubic _ _ hx hy
     (started c.before-2.result
     c.below.result
     c.before-2.type_inv
     c.below.type_inv
     c.bits_of_i64-i.ensures
     c.before-2.ensures
-    c.below.ensures hx c.requires.picture.sizes.width_most)
+    c.below.ensures hx p.width_most)
     (started c.before-3.result c.below-2.result
     c.before-3.type_inv c.below-2.type_inv
     c.bits_of_i64-j.ensures
-    c.before-3.ensures c.below-2.ensures hy c.requires.picture.sizes.height_most)
+    c.before-3.ensures c.below-2.ensures hy p.height_most)
     c.fraction.ensures
     c.fraction-then-j-side_less.ensures
     c.kernel_of-wx.ensures c.kernel_of-wy.ensures
     c.four_by_four.ensures
+    ∙ sym (sampled_code c.args.s c.args.interpolation _ _)
 
 pub returns : goal.returns
-returns c = cubic_anywhere _ _ _ _ _ _ _ _ c.args.code c.requires.cubic c.several.ensures
+returns c =
+    let s = c.args.s in
+    let i = c.args.interpolation in
+    cubic_anywhere _ _ _ _ (Policies.code_of s.policy) s.background _ _ (code_of i) c.requires.cubic
+    (c.several.ensures
+    ∙ ap (λ (k : Interpolation). several k (plane_of s) c.args.x c.args.y) (sym (interpolation_code i)))
+    ∙ sym (sampled_code s i _ _)

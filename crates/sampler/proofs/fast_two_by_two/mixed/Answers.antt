@@ -3,15 +3,9 @@ use borrow.Author.Tests.{ne_eqb}
 use Rattle.sampler.specs.TwoByTwo.{mixed}
 use Rattle.sampler.proofs.fast_two_by_two.mixed.Goals as goal
 
-pub sums-requires : goal.sums-requires
-sums-requires c = record { picture = rw c.if-channels-eq4.true at c.requires.picture; i_bound = c.requires.i_bound }
-
 pub returns-then-channels-eq4 : goal.returns-then-channels-eq4
 unfolding mixed
 returns-then-channels-eq4 c = rw (c.if-channels-eq4.true, c.mean.ensures, c.sums.ensures)
-
-pub sums-requires-then-channels-eq3 : goal.sums-requires-then-channels-eq3
-sums-requires-then-channels-eq3 c = record { picture = rw c.if-channels-eq3.true at c.requires.picture; i_bound = c.requires.i_bound }
 
 pub returns-then-channels-eq3 : goal.returns-then-channels-eq3
 unfolding mixed

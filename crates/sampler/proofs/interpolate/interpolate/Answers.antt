@@ -1,8 +1,9 @@
--- `sampler::interpolate::interpolate` meets its contract: a point that can be used, half a pixel back, is within reach.
-use borrow.Author.Rules.{rules}
-use Rattle.point.proofs.WholeLaws.{usable_whole}
-use Rattle.sampler.proofs.ReachLaws.{both_reached}
+-- `sampler::interpolate::interpolate` meets its contract: the colour by what the codes are read as.
+use mathlib.Core.Path.{◌∙◌}
+use Rattle.sampler.proofs.InterpolateCode.{interpolate_code}
 use Rattle.sampler.proofs.interpolate.interpolate.Goals as goal
 
-pub interpolate_at-requires : goal.interpolate_at-requires
-interpolate_at-requires c = record { picture = search rules; reached = let h = c.requires.usable_value in both_reached _ _ (usable_whole _ h.1 h.0) }
+pub returns : goal.returns
+returns c =
+    c.interpolate_point.ensures
+    ∙ rw (c.of_code-policy.ensures, c.of_code.ensures) (interpolate_code _ _ _ _ c.args.policy c.args.code _ _ _)

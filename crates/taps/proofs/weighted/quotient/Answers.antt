@@ -2,10 +2,10 @@
 use Rattle.taps.specs.Weighted.{quotient}
 use Rattle.taps.proofs.weighted.quotient.Goals as goal
 
-pub returns-then-abs_f32 : goal.returns-then-abs_f32
+pub returns-then-abs : goal.returns-then-abs
 unfolding quotient
-returns-then-abs_f32 c = rw (← c.abs_f32.ensures, c.if-abs_f32.true)
+returns-then-abs c = rw (← c.abs.ensures, c.if-abs.true)
 
-pub returns-else-abs_f32 : goal.returns-else-abs_f32
+pub returns-else-abs : goal.returns-else-abs
 unfolding quotient
-returns-else-abs_f32 c = rw (← c.abs_f32.ensures, c.if-abs_f32.false)
+returns-else-abs c = rw (← c.abs.ensures, c.if-abs.false)

@@ -1,9 +1,9 @@
--- `window::edges::unbounded` meets its contract: 1 / 0 is infinity. Assumes nothing.
+-- `window::edges::unbounded` meets its contract: the constants are the infinities. Assumes nothing.
 use Rattle.std.proofs.Common.{refl}
-use lib.Ieee.{div, of_bits, neg}
+use lib.Ieee.{of_bits}
 use Rattle.window.specs.Edges.{unbounded}
 use Rattle.window.proofs.edges.unbounded.Goals as goal
 
 pub returns : goal.returns
-unfolding unbounded div of_bits neg
+unfolding unbounded of_bits
 returns c = refl

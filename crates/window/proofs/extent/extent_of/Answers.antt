@@ -8,7 +8,7 @@ use mir.ValLaws.{to_z-of_z}
 use Rattle.exact.specs.Double.{◌⊕◌, ◌⊖◌}
 use Rattle.number.specs.Floor.{floorℤ, domain_end, floor_i64}
 use Rattle.window.specs.declared.extent.Extent.{Extent}
-use Rattle.window.specs.declared.extent.Extent.TheVariants.{Out}
+use Rattle.std.specs.Prelude.{Option, None}
 use Rattle.window.specs.Ceil.{ceilℤ, ceil_i64}
 use Rattle.window.specs.Extent.{half, from_to, extent_of}
 use Rattle.window.proofs.HalfLaws.{less_half, more_half}
@@ -17,11 +17,11 @@ use Rattle.window.proofs.EdgeLaws.{low_edge, high_refused, high_edge}
 use Rattle.window.proofs.extent.extent_of.Goals as goal
 
 -- both tests of the definition, one after the other
-both : (a b : Bool) (s : Extent) → cond a (cond b s Out) Out ≡ cond (a && b) s Out
+both : (a b : Bool) (s : Option Extent) → cond a (cond b s None) None ≡ cond (a && b) s None
 both true b s = refl
 both false b s = refl
 
-either : (a : Bool) → cond a Out Out ≡ Out
+either : (a : Bool) → cond {A = Option Extent} a None None ≡ None
 either true = refl
 either false = refl
 
@@ -33,14 +33,14 @@ module _ (low high : Float) (l : T (fits binary64 low)) (g : T (fits binary64 hi
   top = high ⊕ half
 
   -- half a pixel changes no test
-  tested : (s : Extent) → cond (finite bottom) (cond (finite top) s Out) Out ≡ cond (finite low && finite high) s Out
-  tested s = both (finite bottom) (finite top) s ∙ (λ i. cond (less_half low l i && more_half high g i) s Out)
+  tested : (s : Option Extent) → cond (finite bottom) (cond (finite top) s None) None ≡ cond (finite low && finite high) s None
+  tested s = both (finite bottom) (finite top) s ∙ (λ i. cond (less_half low l i && more_half high g i) s None)
 
-  refused : (finite top && le top domain_end) ≡ false → Out ≡ extent_of low high
+  refused : (finite top && le top domain_end) ≡ false → None ≡ extent_of low high
   unfolding extent_of
   refused h =
       sym (either (finite bottom))
-      ∙ sym (ap (λ (s : Extent). cond (finite bottom) s Out) (high_refused top (floorℤ bottom) h))
+      ∙ sym (ap (λ (s : Option Extent). cond (finite bottom) s None) (high_refused top (floorℤ bottom) h))
       ∙ tested (from_to (floorℤ bottom) (ceilℤ top))
 
   -- what the code hands to `from_to`, read back
@@ -54,13 +54,13 @@ module _ (low high : Float) (l : T (fits binary64 low)) (g : T (fits binary64 hi
     most : to_z w64 (of_z w64 to) ≤ℤ pos 2147483648
     most = subst (λ (z : ℤ). z ≤ℤ pos 2147483648) (sym read-to) (ceil_most top)
 
-    answer : (r : Extent) → r ≡ from_to (to_z w64 (of_z w64 from)) (to_z w64 (of_z w64 to))
+    answer : (r : Option Extent) → r ≡ from_to (to_z w64 (of_z w64 from)) (to_z w64 (of_z w64 to))
         → (finite top && le top domain_end) ≡ true → r ≡ extent_of low high
     unfolding extent_of
     answer r e h =
         e ∙ (λ i. from_to (read-from i) (read-to i))
         ∙ low_edge bottom (ceil_i64 top)
-        ∙ ap (λ (s : Extent). cond (finite bottom) s Out) (high_edge top (floorℤ bottom) h)
+        ∙ ap (λ (s : Option Extent). cond (finite bottom) s None) (high_edge top (floorℤ bottom) h)
         ∙ tested (from_to (floorℤ bottom) (ceilℤ top))
 
 fits_at : (x : Float) → fits binary64 x ≡ true → T (fits binary64 x)

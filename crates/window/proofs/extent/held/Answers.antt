@@ -1,8 +1,8 @@
 -- `window::extent::held` meets its contract: by the test, which is the definition's. Assumes nothing.
 use Rattle.std.proofs.Common.{◌≡◌, ℕ, Bool, true, false, cond, ◌&&◌, ltb, leb, ℤ, sym, refl, ap, ◌∙◌, w64, to_z, of_z}
 use mir.ValLaws.{to_z-of_z}
-use Rattle.window.specs.declared.extent.Extent.TheVariants.{Of, Out}
-use Rattle.window.specs.Extent.{good_offset, good_length, held}
+use Rattle.std.specs.Prelude.{Some, None}
+use Rattle.window.specs.Extent.{side, good_offset, good_length, held}
 use Rattle.window.proofs.extent.held.Goals as goal
 
 -- the tests in the code's order, of z read back from its bits as y
@@ -16,13 +16,13 @@ module _ (y z : ℤ) (n : ℕ) (e : y ≡ z) (g : Bool) (h : g ≡ good_offset y
       nest true b c = refl
       nest false b c = refl
 
-  kept : (g && ltb 0 n && leb n 4096) ≡ true → Of y n ≡ held z n
+  kept : (g && ltb 0 n && leb n 4096) ≡ true → Some (side y n) ≡ held z n
   unfolding held
-  kept t = ap (λ (x : ℤ). Of x n) e ∙ sym (ap (λ (b : Bool). cond b (Of z n) Out) (sym together ∙ t))
+  kept t = ap (λ (x : ℤ). Some (side x n)) e ∙ sym (ap (λ (b : Bool). cond b (Some (side z n)) None) (sym together ∙ t))
 
-  beyond : (g && ltb 0 n && leb n 4096) ≡ false → Out ≡ held z n
+  beyond : (g && ltb 0 n && leb n 4096) ≡ false → None ≡ held z n
   unfolding held
-  beyond t = sym (ap (λ (b : Bool). cond b (Of z n) Out) (sym together ∙ t))
+  beyond t = sym (ap (λ (b : Bool). cond b (Some (side z n)) None) (sym together ∙ t))
 
 pub returns-then-good_offset-length : goal.returns-then-good_offset-length
 returns-then-good_offset-length c =

@@ -1,0 +1,2 @@
+-- The law of what a replay compares.
+pub mod SameLaws

@@ -4,11 +4,13 @@ ghost use Rattle.std.specs.Prelude.{◌≡◌, ◌≤◌};
 ghost use Rattle.exact.specs.Limits.{largest_side};
 ghost use Rattle.picture.specs.Pixel.{Channels, Limited};
 ghost use Rattle.band.specs.Band.{pictured, framed};
+ghost use Rattle.band.specs.Image.{shaped_image};
 ghost use Rattle.window.specs.Window as Windows;
 ghost use Rattle.distort.specs.Answer.{answered};
 ghost use Rattle.distort.specs.Call.{answer, left};
-ghost use Rattle.distort.specs.Job.{call_by, colour_of};
+ghost use Rattle.distort.specs.Job.{call_by, colour_of, given_by};
 ghost use Rattle.distort.specs.Placed.{in_window, windowed};
+ghost use Rattle.distort.specs.Refusal as Table;
 
 use crate::answer::Output;
 use crate::job::Job;
@@ -102,7 +104,10 @@ fn colour(bytes: &[u8; 16]) -> Rgba
     Picture::new(bytes, pixel).pixel_at(0, 0)
 }
 
-pub fn distort(
+// A call that the tests let through: the fit comes next. It is not inlined, so that a call which they keep away does
+// not clear the room for a mapping.
+#[inline(never)]
+fn fitted(
     picture: &[u8],
     arguments: &[u8],
     background: &[u8; 16],
@@ -110,12 +115,13 @@ pub fn distort(
     job: Job,
     band: &mut [u8],
 ) -> Result<Output, Refusal>
+    requires { Table.unfit (shaped_image picture.now job.shape)
+        (given_by arguments.now background.now matte.now job) ≡ 0 }
     ensures { (answered result ≡ answer (call_by picture.now arguments.now background.now
         matte.now job band.old))
         × (band.new ≡ left (call_by picture.now arguments.now background.now
         matte.now job band.old)) }
 {
-    unfit(picture, arguments, background, matte, job)?;
     let shape = job.shape;
     let mapping = build(job.method, arguments, shape.width, shape.height)?;
     let look = Look {
@@ -135,4 +141,21 @@ pub fn distort(
         job.rows,
         band,
     )
+}
+
+pub fn distort(
+    picture: &[u8],
+    arguments: &[u8],
+    background: &[u8; 16],
+    matte: &[u8; 16],
+    job: Job,
+    band: &mut [u8],
+) -> Result<Output, Refusal>
+    ensures { (answered result ≡ answer (call_by picture.now arguments.now background.now
+        matte.now job band.old))
+        × (band.new ≡ left (call_by picture.now arguments.now background.now
+        matte.now job band.old)) }
+{
+    unfit(picture, arguments, background, matte, job)?;
+    fitted(picture, arguments, background, matte, job, band)
 }

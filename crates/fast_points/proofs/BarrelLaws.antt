@@ -11,7 +11,7 @@ use Rattle.number.specs.Root.{root}
 use Rattle.exact.specs.Vector.{Vector, at}
 use Rattle.point.specs.declared.point.Point.{Point}
 use Rattle.inverse.specs.Barrel.{across, down, radius_squared}
-use Rattle.fast_points.specs.Points.{pixel_middle, Kept, KeptRow}
+use Rattle.fast_points.specs.Points.{pixel_middle, KeptBy, KeptRow}
 use Rattle.fast_points.proofs.FillLaws.{both_more}
 use Rattle.fast_points.specs.Barrels.{ByRadiusAt, RadiiSquared, EachBy}
 
@@ -79,7 +79,7 @@ pub barrel_span : (rule : Float → Float → Float → Point → Type 0) (c : V
     {dy : Float} {ds ss rs us vs : List Float} {post : ℕ → Point → Type 0}
     → dy ≡ down c y → RadiiSquared c x dy first n ds ss → EachBy root n ss rs
     → ((k : ℕ) → k < n → (p : Point) → post k p → rule dy (at ds k) (at rs k) p)
-    → Kept post n us vs → KeptRow (ByRadiusAt rule c y) x first n us vs
+    → KeptBy post n us vs → KeptRow (ByRadiusAt rule c y) x first n us vs
 barrel_span rule c x y first n e S R given s = record {
   row = record {
     kept = λ k h.

@@ -13,7 +13,7 @@ use lib.Ieee.{Float, nan}
 use Rattle.exact.specs.Vector.{at}
 use Rattle.point.specs.declared.point.Point.{Point}
 use Rattle.point.specs.Point.{point, Whole}
-use Rattle.fast_points.specs.Points.{pixel_middle, Kept, KeptPoints}
+use Rattle.fast_points.specs.Points.{pixel_middle, KeptBy, KeptPoints}
 
 others : {i k : ℕ} → i < k → i ≢ k
 others h e = omega arith
@@ -34,7 +34,7 @@ read_back e w = rw e w.whole
 -- ---- points
 -- what a loop knows after k turns: k points of a rule are there, in lists of 64 places
 pub record Keeping (post : ℕ → Point → Type 0) (k : ℕ) (us vs : List Float) : Type 0 where
-  pub done : Kept post k us vs
+  pub done : KeptBy post k us vs
   pub long_u : length us ≡ 64
   pub long_v : length vs ≡ 64
 
@@ -55,13 +55,13 @@ module _ (post : ℕ → Point → Type 0) where
         long_v = length-set vs k _ ∙ old.long_v;
       }
 
-  pub keep_last : (k n : ℕ) {us vs : List Float} → n ≤ k → Keeping post k us vs → Kept post n us vs
+  pub keep_last : (k n : ℕ) {us vs : List Float} → n ≤ k → Keeping post k us vs → KeptBy post n us vs
   keep_last k n a s = record { kept = λ i h. s.done.kept i (omega arith) }
 
   -- what the rule gives, it gives whole
   pub kept_points : (g : ℕ → Point) (n : ℕ) {us vs : List Float}
       → ((k : ℕ) → k < n → (p : Point) → post k p → p ≡ g k) → ((k : ℕ) → Whole (g k))
-      → Kept post n us vs → KeptPoints g n us vs
+      → KeptBy post n us vs → KeptPoints g n us vs
   kept_points g n same whole s = record {
     kept = λ k h.
         let q = s.kept k h in

@@ -20,7 +20,7 @@ pub record KeptPoints (g : ℕ → Point) (n : ℕ) (us vs : List Float) : Type 
   pub kept : (k : ℕ) → k < n → g k ≡ point (at us k) (at vs k)
 
 -- of those that a rule gives, told by what its calls may return
-pub record Kept (post : ℕ → Point → Type 0) (n : ℕ) (us vs : List Float) : Type 0 where
+pub record KeptBy (post : ℕ → Point → Type 0) (n : ℕ) (us vs : List Float) : Type 0 where
   pub kept : (k : ℕ) → k < n → (p : Point) × post k p × (p.u ≡ at us k) × (p.v ≡ at vs k)
 
 -- a rule that is asked at the middle of the k-th pixel from column `first` on, of a window at x
@@ -28,7 +28,7 @@ abbrev pub RowBy : (Float → Point → Type 0) → Float → ℕ → ℕ → Po
 RowBy post x first k p = post (pixel_middle (first + k) x) p
 
 pub record KeptRow (post : Float → Point → Type 0) (x : Float) (first n : ℕ) (us vs : List Float) : Type 0 where
-  pub row : Kept (RowBy post x first) n us vs
+  pub row : KeptBy (RowBy post x first) n us vs
 
 -- of the pixels' from column `first` of row j on, of the frame's window
 abbrev pub Points : Frame → ℕ → ℕ → ℕ → List Float → List Float → Type 0

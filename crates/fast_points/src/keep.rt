@@ -3,7 +3,7 @@
 // the rule what its type says.
 ghost use Rattle.std.specs.Prelude.{ℕ, ◌+◌, ◌≤◌, ◌<◌};
 ghost use Rattle.exact.specs.Limits.{largest_side, longest_span};
-ghost use Rattle.fast_points.specs.Points.{Kept, KeptRow, RowBy};
+ghost use Rattle.fast_points.specs.Points.{KeptBy, KeptRow, RowBy};
 
 use crate::pixel::pixel_middle;
 use point::point::Point;
@@ -12,7 +12,7 @@ use point::point::Point;
 pub fn keep<F: Fn(usize) -> Point>(rule: F, n: usize, us: &mut [f64; 64], vs: &mut [f64; 64])
     requires n_le_longest_span { n ≤ longest_span }
     requires callable { (k : ℕ) → k < n → F.pre rule k }
-    ensures { Kept (F.post rule) n us.new vs.new }
+    ensures { KeptBy (F.post rule) n us.new vs.new }
 {
     for k in 0..n {
         let p = rule(k);

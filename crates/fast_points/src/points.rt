@@ -15,9 +15,8 @@ use inverse::forward::bilinear_forward;
 use inverse::frame::Frame;
 use inverse::perspective::perspective;
 use inverse::polynomial::polynomial;
-use inverse::shepards::shepards;
+use inverse::source::inverse;
 use mappings::mapping::Kind;
-use point::usable::none;
 
 // The pixels of a row that are worked on at once.
 const LONGEST_SPAN: u64 = 64;
@@ -41,9 +40,7 @@ pub fn points(frame: Frame, first: u64, j: u64, n: usize, us: &mut [f64; 64], vs
     let mapping = frame.mapping;
     let coef = &mapping.coef;
     let order = mapping.order;
-    let count = mapping.count;
     match mapping.kind {
-        Kind::Nothing => keep_row(|_| none(), x, start, n, us, vs),
         Kind::Affine => keep_row(|at| affine(coef, at, y), x, start, n, us, vs),
         Kind::Perspective => keep_row(|at| perspective(coef, at, y), x, start, n, us, vs),
         Kind::Poly => keep_row(|at| polynomial(order, coef, at, y), x, start, n, us, vs),
@@ -56,6 +53,13 @@ pub fn points(frame: Frame, first: u64, j: u64, n: usize, us: &mut [f64; 64], vs
             let from = |dy, dx, r| barrel_inverse_from(coef, dy, dx, r);
             barrel_points(from, coef, x, y, start, n, us, vs)
         }
-        Kind::Shepards => keep_row(|at| shepards(count, coef, at, y), x, start, n, us, vs),
+        Kind::Nothing | Kind::Shepards => keep_row(
+            |at| inverse(mapping, at, y),
+            x,
+            start,
+            n,
+            us,
+            vs,
+        ),
     }
 }

@@ -44,16 +44,13 @@ pub fn fault(s: Reader) -> Reader
 
 // After a space: there is one more column.
 #[tactic(auto, unfolding(crate::specs::Reader::next_column))]
-pub(crate) fn next_column(s: Reader) -> Reader
-    ensures { result ≡ next_column s }
+pub(crate) fn next_column(s: &mut Reader)
+    ensures { s.new ≡ next_column s.old }
 {
     if s.column < 3 {
-        Reader {
-            column: s.column + 1,
-            ..s
-        }
+        s.column = s.column + 1;
     } else {
-        fault(s)
+        s.word = Word::Wrong;
     }
 }
 
@@ -67,16 +64,13 @@ fn counted(lines: u64) -> u64
 
 // After a line feed: that was the last column.
 #[tactic(auto, unfolding(crate::specs::Reader::next_line))]
-pub(crate) fn next_line(s: Reader) -> Reader
-    ensures { result ≡ next_line s }
+pub(crate) fn next_line(s: &mut Reader)
+    ensures { s.new ≡ next_line s.old }
 {
     if s.column == 3 {
-        Reader {
-            column: 0,
-            lines: counted(s.lines),
-            ..s
-        }
+        s.column = 0;
+        s.lines = counted(s.lines);
     } else {
-        fault(s)
+        s.word = Word::Wrong;
     }
 }

@@ -6,26 +6,21 @@ ghost use Rattle.listing.specs.Reader.{take_name, is_large, kept, take_number, t
 use crate::names::Coordinate;
 use crate::reader::Reader;
 use crate::word::Word;
-use crate::{names, reader, word};
+use crate::{names, word};
 use arguments::refusal::MOST_PAIRS;
 use endian::bytes::StoreAt;
 
 // A name is taken on the first line, once.
 #[tactic(auto, unfolding(crate::specs::Reader::take_name))]
-fn take_name(s: Reader, c: Coordinate) -> Reader
-    ensures { result ≡ take_name s c }
+fn take_name(s: &mut Reader, c: Coordinate)
+    ensures { s.new ≡ take_name s.old c }
 {
-    if s.lines != 0 {
-        return reader::fault(s);
+    if s.lines != 0 || names::column_of(s.names, c).is_some() {
+        s.word = Word::Wrong;
+        return;
     }
-    if names::column_of(s.names, c).is_some() {
-        return reader::fault(s);
-    }
-    Reader {
-        names: names::with_name(s.names, c, s.column),
-        word: Word::Empty,
-        ..s
-    }
+    s.names = names::with_name(s.names, c, s.column);
+    s.word = Word::Empty;
 }
 
 #[tactic(auto, unfolding(crate::specs::Reader::is_large))]
@@ -37,8 +32,8 @@ fn is_large(large: bool, size: u32) -> bool
 
 // The argument of the column in which the reader is, where there is room for its pair.
 #[tactic(auto, unfolding(crate::specs::Reader::kept, crate::specs::Names::slot_of))]
-fn keep(s: Reader, x: f64, arguments: &mut [u8; 2048])
-    ensures { arguments.new ≡ kept s x arguments.old }
+fn keep(s: &Reader, x: f64, arguments: &mut [u8; 2048])
+    ensures { arguments.new ≡ kept s.now x arguments.old }
 {
     let lines = s.lines;
     if lines < 1 || MOST_PAIRS < lines {
@@ -50,28 +45,26 @@ fn keep(s: Reader, x: f64, arguments: &mut [u8; 2048])
 
 // A number is taken on every line but the first.
 #[tactic(auto, unfolding(crate::specs::Reader::take_number))]
-fn take_number(s: Reader, negative: bool, size: u32, arguments: &mut [u8; 2048]) -> Reader
-    ensures { (result, arguments.new) ≡ take_number s negative size arguments.old }
+fn take_number(s: &mut Reader, negative: bool, size: u32, arguments: &mut [u8; 2048])
+    ensures { (s.new, arguments.new) ≡ take_number s.old negative size arguments.old }
 {
     if s.lines == 0 {
-        return reader::fault(s);
+        s.word = Word::Wrong;
+        return;
     }
     keep(s, word::pixels(negative, size), arguments);
-    Reader {
-        word: Word::Empty,
-        large: is_large(s.large, size),
-        ..s
-    }
+    s.word = Word::Empty;
+    s.large = is_large(s.large, size);
 }
 
 #[tactic(auto, unfolding(crate::specs::Reader::taken))]
-pub(crate) fn take_word(s: Reader, arguments: &mut [u8; 2048]) -> Reader
-    ensures { (result, arguments.new) ≡ take_word s arguments.old }
+pub(crate) fn take_word(s: &mut Reader, arguments: &mut [u8; 2048])
+    ensures { (s.new, arguments.new) ≡ take_word s.old arguments.old }
 {
     match s.word {
-        Word::Empty | Word::Minus => reader::fault(s),
+        Word::Empty | Word::Minus => s.word = Word::Wrong,
         Word::Name(c) => take_name(s, c),
         Word::Number { negative, size } => take_number(s, negative, size, arguments),
-        Word::Wrong => s,
+        Word::Wrong => {}
     }
 }

@@ -8,13 +8,19 @@ use crate::{reader, take, word};
 use refusals::Refusal;
 
 #[tactic(auto, unfolding(crate::specs::Reader::read_byte))]
-fn read_byte(s: Reader, b: u8, arguments: &mut [u8; 2048]) -> Reader
-    ensures { (result, arguments.new) ≡ read_byte (s, arguments.old) b }
+fn read_byte(s: &mut Reader, b: u8, arguments: &mut [u8; 2048])
+    ensures { (s.new, arguments.new) ≡ read_byte (s.old, arguments.old) b }
 {
     match b {
-        b'\n' => reader::next_line(take::take_word(s, arguments)),
-        b' ' => reader::next_column(take::take_word(s, arguments)),
-        _ => reader::with_word(s, word::next(s.word, b)),
+        b'\n' => {
+            take::take_word(s, arguments);
+            reader::next_line(s);
+        }
+        b' ' => {
+            take::take_word(s, arguments);
+            reader::next_column(s);
+        }
+        _ => s.word = word::next(s.word, b),
     }
 }
 
@@ -24,7 +30,7 @@ pub fn feed(s: Reader, chunk: &[u8], arguments: &mut [u8; 2048]) -> Reader
 {
     let mut r = s;
     for b in chunk {
-        r = read_byte(r, *b, arguments);
+        read_byte(&mut r, *b, arguments);
     }
     r
 }

@@ -3,7 +3,7 @@ ghost use Rattle.std.specs.Prelude.{◌≡◌, ◌+◌, ◌*◌, ◌<◌, ◌≤
 ghost use Rattle.exact.specs.Limits.{most_arguments};
 ghost use Rattle.mappings.specs.Pairs.{pair_at};
 
-use crate::pair::Pair;
+pub use crate::pair::Pair;
 
 #[derive(Clone, Copy)]
 pub struct Pairs<'a> {

@@ -6,7 +6,7 @@ ghost use Rattle.picture.specs.At as At;
 use crate::colour::{Rgba, grey};
 use crate::picture::Picture;
 use endian::pattern::bits_of_i64;
-use policies::named::Tap;
+use policies::named::{Tap, named};
 use policies::policy::Policy;
 
 impl<'a> Picture<'a> {
@@ -25,24 +25,25 @@ impl<'a> Picture<'a> {
         }
     }
 
-    // An index inside asks no policy.
     pub fn at(self, policy: Policy, background: Rgba, x: i64, y: i64) -> Rgba
         ensures { result ≡ At.at self.entry.bytes.now self.entry.width self.entry.height self.entry.channels
             (code_of policy) background x y }
     {
-        let i = bits_of_i64(x);
-        let j = bits_of_i64(y);
-        if i < self.width && j < self.height {
-            return self.pixel_at(i, j);
-        }
-        self.tap_samples(background, policy.named(self.width, self.height, x, y))
+        at(self, policy.code(), background, x, y)
     }
 }
 
-// The same by a policy's code. No call is accepted with a code that is none of the fourteen.
+// By a policy's code, as the definition has it: another code than the fourteen, with which no call is accepted, counts
+// as the last. An index inside asks no policy.
 pub fn at(picture: Picture, policy: u64, background: Rgba, x: i64, y: i64) -> Rgba
     ensures { result ≡ At.at picture.entry.bytes.now picture.entry.width picture.entry.height
         picture.entry.channels policy background x y }
 {
-    picture.at(Policy::of_code(policy), background, x, y)
+    let i = bits_of_i64(x);
+    let j = bits_of_i64(y);
+    if i < picture.width && j < picture.height {
+        return picture.pixel_at(i, j);
+    }
+    let t = named(policy, picture.width, picture.height, x, y);
+    picture.tap_samples(background, t)
 }

@@ -4,7 +4,7 @@ use mathlib.Core.Path.{◌≡◌, refl, sym, ap, ◌∙◌}
 use Rattle.std.specs.Prelude.{Result, Ok, Err}
 use Rattle.std.specs.Result.{is_err, result_unwrap_or}
 use Rattle.refusals.specs.declared.Refusal.{Refusal}
-use mathlib.Core.List.{[]}
+use mathlib.Core.List.{List, [], ◌∷◌}
 use mathlib.Core.Bool.{Bool, true, false, cond, ◌&&◌}
 use Prim.Native.Nat.{ℕ, zero, suc, ◌+◌, ◌-◌, ◌%◌, ◌≤◌, ◌<◌}
 use native.Mathlib.Omega.{arith}
@@ -53,19 +53,28 @@ policy_code VerticalTileEdge = refl
 policy_code CheckerTile = refl
 policy_code Random = refl
 
--- a code that none of the fourteen has is read as the last
-pub policy_last : (code : ℕ) → 13 < code → policy code ≡ Random
+-- the last code, and one that none of the fourteen has, is read as the last
+pub policy_last : (code : ℕ) → 13 ≤ code → policy code ≡ Random
 unfolding policy
 policy_last code h = ap (λ (k : ℕ). get_or policies k Random) (split code h)
-    ∙ get_or-append-add policies [] (code - 14) Random
+    ∙ get_or-append-add first (Random ∷ []) (code - 13) Random ∙ only (code - 13)
   where
-    split : (n : ℕ) → 13 < n → n ≡ 14 + (n - 14)
+    first : List Policy
+    first =
+        Edge ∷ Background ∷ Black ∷ White ∷ Gray ∷ Transparent ∷ Tile ∷ Mirror ∷ HorizontalTile ∷ VerticalTile
+        ∷ HorizontalTileEdge ∷ VerticalTileEdge ∷ CheckerTile ∷ []
+
+    split : (n : ℕ) → 13 ≤ n → n ≡ 13 + (n - 13)
     split n h = omega arith
+
+    only : (n : ℕ) → get_or (Random ∷ []) n Random ≡ Random
+    only zero = refl
+    only (suc n) = refl
 
 -- what a code is read as, the last where it is refused
 pub decoded : (code : ℕ) (r : Result Policy Refusal) → Decodes code r → result_unwrap_or r Random ≡ policy code
 decoded code (Ok p) h = sym (policy_code p) ∙ ap policy h
-decoded code (Err e) h = sym (policy_last code h.1)
+decoded code (Err e) h = sym (policy_last code (omega arith))
 
 -- no code is above the last
 code_small : (p : Policy) → code_of p ≤ 13
@@ -132,17 +141,17 @@ named_bits code w h i j s hi hj =
     )
 
 -- one outside, by its column or its row, goes by the policy
-pub named_beside : (p : Policy) (w h i : ℕ) (y : ℤ) → w ≤ i
-    → named (code_of p) w h (signed i) y ≡ outside p w h (signed i) y
+pub named_beside : (code w h i : ℕ) (y : ℤ) → w ≤ i
+    → named code w h (signed i) y ≡ outside (policy code) w h (signed i) y
 unfolding named
-named_beside p w h i y g = rw (within_no i w g, policy_code p)
+named_beside code w h i y g = rw (within_no i w g)
 
-pub named_above : (p : Policy) (w h : ℕ) (x : ℤ) (j : ℕ) → h ≤ j
-    → named (code_of p) w h x (signed j) ≡ outside p w h x (signed j)
+pub named_above : (code w h : ℕ) (x : ℤ) (j : ℕ) → h ≤ j
+    → named code w h x (signed j) ≡ outside (policy code) w h x (signed j)
 unfolding named
-named_above p w h x j g = rw (within_no j h g, policy_code p) (go (in_range x w))
+named_above code w h x j g = rw (within_no j h g) (go (in_range x w))
   where
-    go : (t : Bool) → cond (t && false) (Pixel (mag x) (mag (signed j))) (outside p w h x (signed j))
-        ≡ outside p w h x (signed j)
+    go : (t : Bool) → cond (t && false) (Pixel (mag x) (mag (signed j))) (outside (policy code) w h x (signed j))
+        ≡ outside (policy code) w h x (signed j)
     go true = refl
     go false = refl

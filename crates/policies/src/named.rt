@@ -116,25 +116,25 @@ fn named_outside(policy: Policy, w: u64, h: u64, x: u64, y: u64) -> Tap
     }
 }
 
-impl Policy {
-    // The inside test comes before any rule. The bits of an index below 0 are a number above every size.
-    pub fn named(self, w: u64, h: u64, x: i64, y: i64) -> Tap
-        requires { Sizes w h }
-        ensures { result ≡ Named.named (code_of self) w h x y }
-    {
-        let i = bits_of_i64(x);
-        let j = bits_of_i64(y);
-        if i < w && j < h {
-            return Tap::Pixel(i, j);
-        }
-        named_outside(self, w, h, i, j)
-    }
-}
-
-// The same by a policy's code. No call is accepted with a code that is none of the fourteen.
+// By a policy's code, as the definition has it: another code than the fourteen, with which no call is accepted, counts
+// as the last. The inside test comes before any rule. The bits of an index below 0 are a number above every size.
 pub fn named(policy: u64, w: u64, h: u64, x: i64, y: i64) -> Tap
     requires { Sizes w h }
     ensures { result ≡ Named.named policy w h x y }
 {
-    Policy::of_code(policy).named(w, h, x, y)
+    let i = bits_of_i64(x);
+    let j = bits_of_i64(y);
+    if i < w && j < h {
+        return Tap::Pixel(i, j);
+    }
+    named_outside(Policy::of_code(policy), w, h, i, j)
+}
+
+impl Policy {
+    pub fn named(self, w: u64, h: u64, x: i64, y: i64) -> Tap
+        requires { Sizes w h }
+        ensures { result ≡ Named.named (code_of self) w h x y }
+    {
+        named(self.code(), w, h, x, y)
+    }
 }

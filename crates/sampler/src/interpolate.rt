@@ -44,16 +44,8 @@ pub fn interpolate_at(s: Sampler, i: Interpolation, x: f64, y: f64) -> Rgba
     }
 }
 
-// At a source point: half a pixel back it is in index space.
-pub fn interpolate_point(s: Sampler, i: Interpolation, p: Point) -> Rgba
-    requires { (p.usable ≡ true) × Points.Whole p }
-    ensures { result ≡ sampled s.entry i (p.u ⊖ half) (p.v ⊖ half) }
-{
-    interpolate_at(s, i, p.u - 0.5, p.v - 0.5)
-}
-
-// The same by the codes of the policy and of the interpolation. No call is accepted with another code; one counts as
-// the last.
+// At a source point: half a pixel back it is in index space. By the codes of the policy and of the interpolation, as
+// the definition has them; another code, with which no call is accepted, counts as the last.
 pub fn interpolate(picture: Picture, policy: u64, code: u64, background: Rgba, p: Point) -> Rgba
     requires { (p.usable ≡ true) × Points.Whole p }
     ensures { result ≡ Interpolate.interpolate picture.entry.bytes.now picture.entry.width picture.entry.height
@@ -65,5 +57,13 @@ pub fn interpolate(picture: Picture, policy: u64, code: u64, background: Rgba, p
         policy,
         background,
     };
-    interpolate_point(s, Interpolation::of_code(code), p)
+    interpolate_at(s, Interpolation::of_code(code), p.u - 0.5, p.v - 0.5)
+}
+
+// The same of a sampler.
+pub fn interpolate_point(s: Sampler, i: Interpolation, p: Point) -> Rgba
+    requires { (p.usable ≡ true) × Points.Whole p }
+    ensures { result ≡ sampled s.entry i (p.u ⊖ half) (p.v ⊖ half) }
+{
+    interpolate(s.picture, s.policy.code(), i.code(), s.background, p)
 }

@@ -1,23 +1,9 @@
--- `distort` meets its contract, stage by stage: the tests that need no fit, the fit, and the window with what is worked
--- in it. A code that passed the tests is a policy's, or an interpolation's.
-use mathlib.Core.Path.{refl}
-use borrow.Author.Rules.{rules}
+-- `distort` meets its contract: the tests that need no fit, and else what the fit and the window give.
+use mathlib.Core.Path.{sym}
 use Rattle.std.proofs.lemmas.Result.{err_from_is_err_and}
 use Rattle.fit.proofs.BuildLaws.{number_some}
-use Rattle.band.specs.Image.{image_of}
 use Rattle.distort.specs.Job.{call_by}
-use Rattle.distort.proofs.DistortLaws.{
-  by_tests,
-  fit_refused,
-  by_window,
-  picture_known,
-  background_known,
-  matte_known,
-  channels_known,
-  policy_known,
-  interpolation_known,
-}
-use Rattle.distort.proofs.ViewLaws.{view_read}
+use Rattle.distort.proofs.DistortLaws.{by_tests}
 use Rattle.distort.proofs.call.distort.Goals as goal
 
 pub returns-in_err-unfit : goal.returns-in_err-unfit
@@ -27,59 +13,5 @@ returns-in_err-unfit c =
     (call_by c.args.picture.now c.args.arguments.now c.args.background.now c.args.matte.now c.args.job c.args.band.now)
     c.in_err-unfit.ensures (number_some _))
 
-pub returns-in_err-mapping : goal.returns-in_err-mapping
-returns-in_err-mapping c =
-    let p = err_from_is_err_and c.from_residual-in_err-mapping.result c.from_residual-in_err-mapping.ensures.1 in
-    rw (p.1, p.2) (fit_refused
-    (call_by c.args.picture.now c.args.arguments.now c.args.background.now c.args.matte.now c.args.job c.args.band.now)
-    c.in_ok-unfit.ensures refl c.in_err-mapping.ensures (number_some _))
-
-pub returns-in_err-try_from : goal.returns-in_err-try_from
-returns-in_err-try_from c = absurd (policy_known
-    (call_by c.args.picture.now c.args.arguments.now c.args.background.now c.args.matte.now c.args.job c.args.band.now)
-    c.in_ok-unfit.ensures refl c.in_err-try_from.ensures.1)
-
-pub returns-in_err-try_from-2 : goal.returns-in_err-try_from-2
-returns-in_err-try_from-2 c = absurd (interpolation_known
-    (call_by c.args.picture.now c.args.arguments.now c.args.background.now c.args.matte.now c.args.job c.args.band.now)
-    c.in_ok-unfit.ensures refl c.in_err-try_from-2.ensures.1)
-
-pub colour-requires : goal.colour-requires
-colour-requires c = background_known
-    (call_by c.args.picture.now c.args.arguments.now c.args.background.now c.args.matte.now c.args.job c.args.band.now)
-    c.in_ok-unfit.ensures refl (search rules)
-
-pub colour-requires-2 : goal.colour-requires-2
-colour-requires-2 c = matte_known
-    (call_by c.args.picture.now c.args.arguments.now c.args.background.now c.args.matte.now c.args.job c.args.band.now)
-    c.in_ok-unfit.ensures refl (search rules)
-
-pub new-source-requires : goal.new-source-requires
-new-source-requires c = picture_known
-    (call_by c.args.picture.now c.args.arguments.now c.args.background.now c.args.matte.now c.args.job c.args.band.now)
-    c.in_ok-unfit.ensures refl
-
-pub windowed-requires : goal.windowed-requires
-windowed-requires c = record {
-  channels = channels_known
-      (call_by c.args.picture.now c.args.arguments.now c.args.background.now c.args.matte.now c.args.job
-      c.args.band.now)
-      c.in_ok-unfit.ensures refl _ c.widest-out_channels.ensures;
-}
-
-pub returns : goal.returns
-returns c =
-    let a = c.args in
-    let e = c.new-source.ensures in
-    by_window
-    (call_by c.args.picture.now c.args.arguments.now c.args.background.now c.args.matte.now c.args.job c.args.band.now)
-    c.in_ok-unfit.ensures refl c.in_ok-mapping.ensures refl
-    a.job.view
-    (view_read _ _ _ _ a.arguments.now a.background.now a.matte.now a.job)
-    (λ i. image_of (e.same_bytes i) (e.same_shape.0 i) (e.same_shape.1.0 i) (e.same_shape.1.1 i))
-    c.in_ok-try_from.ensures
-    c.in_ok-try_from-2.ensures
-    c.colour.ensures
-    c.colour-2.ensures
-    c.widest-out_channels.ensures
-    c.windowed.ensures
+pub fitted-requires : goal.fitted-requires
+fitted-requires c = sym c.in_ok-unfit.ensures

@@ -30,20 +30,12 @@ across x a e h = e ∙ ap (λ (z : ℤ). of_int binary64 z) (to_z-of_z w64 x (fi
 down : (j : ℕ) (y : ℤ) (b : Float) → b ≡ asked j (to_z w64 (of_z w64 y)) → nat_abs y ≤ 1048576 → b ≡ asked j y
 down j y b e h = e ∙ ap (λ (z : ℤ). asked j z) (to_z-of_z w64 y (fit y h))
 
-pub returns-in-Nothing : goal.returns-in-Nothing
-unfolding inverse
-returns-in-Nothing c = points_by c.args.frame _ _ _
-    (across _ _ c.offset-x.ensures c.args.frame.near.0)
-    (down _ _ _ c.asked-y.ensures c.args.frame.near.1)
-    c.keep_row.ensures
-    (λ z p e. rw c.in-Nothing.is (search rules))
-
 pub returns-in-Affine : goal.returns-in-Affine
 unfolding inverse
 returns-in-Affine c = points_by c.args.frame _ _ _
     (across _ _ c.offset-x.ensures c.args.frame.near.0)
     (down _ _ _ c.asked-y.ensures c.args.frame.near.1)
-    c.keep_row-in-Affine.ensures
+    c.keep_row.ensures
     (λ z p e. rw c.in-Affine.is (search rules))
 
 pub returns-in-Perspective : goal.returns-in-Perspective
@@ -86,10 +78,9 @@ returns-in-BarrelInverse c = points_by c.args.frame _ _ _
     c.barrel_points-in-BarrelInverse.ensures
     (λ z p e. rw c.in-BarrelInverse.is (search rules))
 
-pub returns-in-Shepards : goal.returns-in-Shepards
-unfolding inverse
-returns-in-Shepards c = points_by c.args.frame _ _ _
+pub returns-in-Nothing : goal.returns-in-Nothing
+returns-in-Nothing c = points_by c.args.frame _ _ _
     (across _ _ c.offset-x.ensures c.args.frame.near.0)
     (down _ _ _ c.asked-y.ensures c.args.frame.near.1)
-    c.keep_row-in-Shepards.ensures
-    (λ z p e. rw c.in-Shepards.is (search rules))
+    c.keep_row-in-Nothing.ensures
+    (λ z p e. search rules)

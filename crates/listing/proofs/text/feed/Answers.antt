@@ -12,7 +12,7 @@ pub loop-b-preserved : goal.loop-b-preserved
 loop-b-preserved c =
     let l = c.loop-b in
     let chunk = c.args.chunk.now in
-    ap (λ (t : ReaderState). fed t (drop (l.b-index + 1) chunk)) c.read_byte-r.ensures
+    ap (λ (t : ReaderState). fed t (drop (l.b-index + 1) chunk)) c.read_byte.ensures
     ∙ sym (fed_next _ chunk l.b-index (omega arith)) ∙ l.invariant
 
 pub returns : goal.returns

@@ -1,8 +1,7 @@
--- `sampler::interpolate::interpolate_point` meets its contract: a point that can be used, half a pixel back, is within
--- reach.
-use Rattle.point.proofs.WholeLaws.{usable_whole}
-use Rattle.sampler.proofs.ReachLaws.{both_reached}
+-- `sampler::interpolate::interpolate_point` meets its contract: the colour by the codes of both.
+use mathlib.Core.Path.{sym, ◌∙◌}
+use Rattle.sampler.proofs.InterpolateCode.{sampled_code}
 use Rattle.sampler.proofs.interpolate.interpolate_point.Goals as goal
 
-pub interpolate_at-requires : goal.interpolate_at-requires
-interpolate_at-requires c = both_reached _ _ (usable_whole _ c.requires.1 c.requires.0)
+pub returns : goal.returns
+returns c = c.interpolate.ensures ∙ rw (c.code.ensures, c.code-2.ensures) (sym (sampled_code c.args.s c.args.i _ _))

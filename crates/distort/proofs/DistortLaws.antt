@@ -17,7 +17,7 @@ use Rattle.window.specs.Window.{window, refusal_of, width_of, height_of, x_of, y
 use Rattle.window.specs.Placed.{Placed}
 use Rattle.window.specs.Placed.{Window}
 use Rattle.picture.specs.Pixel.{Picture, Inside, Channels}
-use Rattle.picture.proofs.SizeLaws.{size_fit, pixel_picture}
+use Rattle.picture.proofs.SizeLaws.{size_fit, one_pixel}
 use Rattle.picture.specs.declared.colour.Rgba.{Rgba}
 use Rattle.distort.specs.Answer.{Answer}
 use Rattle.distort.specs.Answer.{Refused}
@@ -44,10 +44,6 @@ use Rattle.distort.proofs.CallLaws.{done, refused_answer, placed_answer}
 
 above : (n : ℕ) → (n ≡ 0 → ⊥) → 0 < n
 above n h = omega arith
-
--- the pixel of a picture that has one alone
-one_pixel : (bytes : List ℕ) → Picture bytes 1 1 4 → Inside bytes 1 4 0 0
-one_pixel bytes p = record { height = 1; picture = p; column = lit≤ tt; row = lit≤ tt }
 
 module _ (c : Call) where
   abbrev p : Image
@@ -100,11 +96,11 @@ module _ (c : Call) where
       -- the background and the matte
       pub background_known : length g.background ≡ 16 → Inside g.background 1 4 0 0
       unfolding large
-      background_known e = one_pixel g.background (pixel_picture g.background e (small p g passed).background)
+      background_known e = one_pixel g.background e (small p g passed).background
 
       pub matte_known : length g.matte ≡ 16 → Inside g.matte 1 4 0 0
       unfolding large
-      matte_known e = one_pixel g.matte (pixel_picture g.matte e (small p g passed).matte)
+      matte_known e = one_pixel g.matte e (small p g passed).matte
 
       -- the codes passed, so none is refused
       pub policy_known : 13 < g.policy → ⊥

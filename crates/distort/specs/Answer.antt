@@ -10,11 +10,12 @@ pub data Answer : Type 0 where
   Accepted : (width height : ℕ) → (x y : ℤ) → (channels matte-pixels : ℕ) → Answer
   Refused : ℕ → Answer
 
--- of a refusal by its number, whatever it is
+-- by any number that a refusal has
 abbrev pub numbered : Result Output ℕ → Answer
 numbered (Ok o) = Accepted o.width o.height o.x o.y o.channels o.matte_pixels
 numbered (Err number) = Refused number
 
+-- by a row of the refusal table
 abbrev pub answered : Result Output Refusal → Answer
-answered (Ok o) = Accepted o.width o.height o.x o.y o.channels o.matte_pixels
-answered (Err r) = Refused (number r)
+answered (Ok o) = numbered (Ok o)
+answered (Err r) = numbered (Err (number r))
